@@ -1,0 +1,9 @@
+-- Laws of the definitions in specs/, for the proofs of this crate and of those above it.
+pub mod Binary
+pub mod Xor
+pub mod Digits
+pub mod Items
+pub mod Writes
+pub mod Tests
+pub mod FlipLaws
+pub mod Search

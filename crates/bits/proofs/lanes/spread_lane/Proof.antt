@@ -1,0 +1,70 @@
+-- `spread_lane`: the bytes so far are the first of the lane.
+use mathlib.Core.Path.{_≡_, refl, sym, ap, _∙_}
+use Prim.Native.Nat.{ℕ, _≤_, _-_, _+_, _*_, _%_, _^_}
+use lib.ListN.{length, take, length-set}
+use denote.Ref.{now}
+use lib.Pow.{shl-exact}
+use Rattle.bits.specs.Bits.{bitOf, listed}
+use Rattle.bits.proofs.Binary.{bit-lt}
+use Rattle.bits.proofs.Items.{fill-more, fill-done, bitOf-at, bitOf-bit}
+use borrow.Author.Needs.{needs}
+use native.Mathlib.Omega.{arith}
+use Rattle.bits.proofs.lanes.spread_lane.Statement.{statement}
+use Rattle.bits.proofs.lanes.spread_lane.Tie as tie
+
+abbrev Inv-loop : tie.InvT-loop
+Inv-loop item j s out₀ i₀ out i = (i ≤ 32) × (length out ≡ 32) × (take i out ≡ listed (λ k. bitOf item (8 * k + j) * 2 ^ s) i)
+
+abbrev μ-loop : tie.MeasureT-loop
+μ-loop item j s out₀ i₀ out i = 32 - i
+
+loop-holds : tie.Need-loop-holds Inv-loop μ-loop
+unfolding listed
+loop-holds c = (omega arith, c .before .pre .0, refl)
+
+element-copy-out-moved-digit : tie.Need-element-copy-out-moved-digit Inv-loop μ-loop
+element-copy-out-moved-digit c = search needs
+
+moved-digit-requires : tie.Need-moved-digit-requires Inv-loop μ-loop
+moved-digit-requires c κs = search needs
+
+slice-write-out : tie.Need-slice-write-out Inv-loop μ-loop
+slice-write-out c = search needs
+
+add-i : tie.Need-add-i Inv-loop μ-loop
+add-i c = search needs
+
+loop-less : tie.Need-loop-less Inv-loop μ-loop
+loop-less c = search needs
+
+loop-again : tie.Need-loop-again Inv-loop μ-loop
+loop-again c =
+    let a = c .before .before .before .before .before .args in
+    let l = c .before .before .before .loop in
+    let v : c .moved-digit .result ≡ bitOf (now (a .item)) (8 * l .i + a .j) * 2 ^ a .s =
+    c .moved-digit .ensures
+    ∙ ap (λ (x : ℕ). x * 2 ^ a .s % 256) (sym (bitOf-at (now (a .item)) (l .i) (a .j) (omega arith)))
+    ∙ shl-exact 1 (a .s) 8 (bit-lt (bitOf-bit (now (a .item)) (8 * l .i + a .j))) (omega arith) in
+    (omega arith, simp length-set (l .inv .1), fill-more _ (l .out) (l .i) _ (omega arith) (l .inv .2) v)
+
+same-length : tie.Need-same-length Inv-loop μ-loop
+same-length c = search needs
+
+returns : tie.Need-returns Inv-loop μ-loop
+returns c = fill-done _ (c .before .loop .out) 32 _ (c .before .loop .inv .1) (omega arith) (c .before .loop .inv .2)
+
+pub spread-lane-spec : {M : Type 1} → statement M
+spread-lane-spec =
+    tie.close
+    (tie.spec
+    Inv-loop
+    μ-loop
+    loop-holds
+    element-copy-out-moved-digit
+    moved-digit-requires
+    slice-write-out
+    add-i
+    loop-less
+    loop-again
+    same-length
+    returns)

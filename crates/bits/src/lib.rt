@@ -1,0 +1,13 @@
+// Items of 32 bytes: the leaves that take bits out of them and put bits into them.
+pub mod flips;
+pub mod lanes;
+
+ghost use mathlib.Core.Path.{_≡_};
+ghost use Rattle.bits.specs.Steps.{mixed};
+
+// `a` with `b`'s digits where those of `m` are 1.
+pub fn mix(a: u8, b: u8, m: u8) -> u8
+    ensures { λ r. ⌜ r ≡ mixed a b m ⌝ }
+{
+    a ^ ((a ^ b) & m)
+}
