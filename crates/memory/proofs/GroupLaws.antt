@@ -1,0 +1,185 @@
+-- Eight chips at a time: the operations act on the three low digits of a number and on the rest apart. Assumes nothing.
+use mathlib.Core.Path.{_≡_, sym, ap, ap₂, _∙_}
+use mathlib.Core.List.{List}
+use Prim.Native.Nat.{ℕ, _+_, _-_, _*_, _/_, _%_, _^_, _<_, _≤_}
+use native.Mathlib.Nat.{lt-of-le-of-lt, mul-comm}
+use native.Mathlib.Omega.{arith}
+use lib.Bits.{bitAnd, bitOr, bitXor, xor-lt, and-le-r}
+use lib.ListN.{length, getD, set, take, drop}
+use lib.Seq.{getD-take, getD-drop}
+use borrow.Rule.Slice.PartMut.{midOf, putMid, mid-len, set-mid-at}
+use Rattle.bits.specs.Bits.{digit, bitOf, listed, digitsOf, byteOf, item}
+use Rattle.bits.specs.Steps.{written, mixed}
+use Rattle.bits.proofs.Binary.{Bit}
+use Rattle.bits.proofs.Digits.{or-digit, digitsOf-ext}
+use Rattle.bits.proofs.Items.{bitOf-at, getD-listed, listed-ext, listed-is, part-more}
+use Rattle.bits.proofs.Writes.{length-written, written-at}
+use Rattle.bits.proofs.Xor.{xor-twice, xor-split, and-split}
+use Rattle.memory.specs.Access.{localOf, chipOf, readBit}
+use Rattle.memory.specs.Memory.{cell}
+use Rattle.memory.specs.Groups.{groupOf, byteAt, placeOf, spot, lineDigit, laneByte}
+
+-- ---- ranges
+
+pub groupOf-lt : (g i : ℕ) → g < 256 → i < 32 → groupOf g i < 32
+groupOf-lt g i hg hi = xor-lt 5 (g / 8) i (omega arith) hi
+
+pub byteAt-lt : (m g k : ℕ) → g < 256 → k < 32 → byteAt m g k < 32
+byteAt-lt m g k hg hk = xor-lt 5 (g / 8) (bitAnd (m / 8) k) (omega arith) (lt-of-le-of-lt (and-le-r (m / 8) k) hk)
+
+pub partner-lt : (g t : ℕ) → t < 8 → bitXor (g % 8) t < 8
+partner-lt g t h = xor-lt 3 (g % 8) t (omega arith) h
+
+pub placeOf-lt : (m g t : ℕ) → t < 8 → placeOf m g t < 8
+placeOf-lt m g t h = partner-lt g (bitAnd (m % 8) t) (lt-of-le-of-lt (and-le-r (m % 8) t) h)
+
+pub spot-lt : (m g i t : ℕ) → g < 256 → i < 32 → t < 8 → spot m g i t < 8192
+spot-lt m g i t hg hi ht =
+    let k = groupOf-lt g i hg hi in
+    omega (arith, k, byteAt-lt m g (groupOf g i) hg k)
+
+-- ---- eight neighbours
+
+eights : (a i : ℕ) → a * 8 + i ≡ 8 * a + i
+eights a i = ap (λ (x : ℕ). x + i) (mul-comm a 8)
+
+xor-eights : (g i j : ℕ) → j < 8 → bitXor g (8 * i + j) ≡ 8 * bitXor (g / 8) i + bitXor (g % 8) j
+xor-eights g i j h = ap (bitXor g) (sym (eights i j)) ∙ xor-split 3 g i j h ∙ eights (bitXor (g / 8) i) (bitXor (g % 8) j)
+
+pub chip-group : (g i j : ℕ) → j < 8 → chipOf g (8 * i + j) ≡ 8 * groupOf g i + bitXor (g % 8) j
+chip-group = xor-eights
+
+pub local-group : (m g k t : ℕ) → t < 8 → localOf m g (8 * k + t) ≡ 8 * byteAt m g k + placeOf m g t
+local-group m g k t h =
+    ap (bitXor g) (ap (bitAnd m) (sym (eights k t)) ∙ and-split 3 m k t h ∙ eights (bitAnd (m / 8) k) (bitAnd (m % 8) t))
+    ∙ xor-eights g (bitAnd (m / 8) k) (bitAnd (m % 8) t) (lt-of-le-of-lt (and-le-r (m % 8) t) h)
+
+-- the group that a group of lines meets is met by those lines
+pub groupOf-twice : (g i : ℕ) → groupOf g (groupOf g i) ≡ i
+groupOf-twice g i = xor-twice (g / 8) i
+
+-- ---- a bit of a chip is a digit of one byte of the memory
+
+pub cell-byte : (mem : List ℕ) (c at s : ℕ) → s < 8 → cell mem c (8 * at + s) ≡ digit (getD mem (32 * c + at) 0) s
+cell-byte mem c at s h =
+    let e : 256 * c + (8 * at + s) ≡ 8 * (32 * c + at) + s = omega arith in
+    ap (bitOf mem) e ∙ bitOf-at mem (32 * c + at) s h
+
+-- what line 8i + j reads, from the byte read of the chip that it meets
+pub read-group : (mem : List ℕ) (m g i j : ℕ) → j < 8
+    → digit (getD mem (spot m g i (bitXor (g % 8) j)) 0) (placeOf m g (bitXor (g % 8) j)) ≡ readBit (cell mem) m g (8 * i + j)
+read-group mem m g i j h =
+    let t = bitXor (g % 8) j in
+    let k = groupOf g i in
+    let ht : t < 8 = partner-lt g j h in
+    sym (cell-byte mem (8 * k + t) (byteAt m g k) (placeOf m g t) (placeOf-lt m g t ht))
+    ∙ ap (cell mem (8 * k + t)) (sym (local-group m g k t ht))
+    ∙ sym (ap (λ (c : ℕ). cell mem c (localOf m g c)) (chip-group g i j h))
+
+-- ---- what the loops know of their places
+
+pub spot-at : (m g i t k b : ℕ) → t < 8 → k ≡ groupOf g i → b ≡ byteAt m g k
+    → 32 * (8 * k + t) + b ≡ spot m g ((8 * i + t) / 8) ((8 * i + t) % 8)
+spot-at m g i t k b h ek eb =
+    let hi : (8 * i + t) / 8 ≡ i = omega arith in
+    let lo : (8 * i + t) % 8 ≡ t = omega arith in
+    ap (λ (x : ℕ). 32 * (8 * k + t) + x) eb
+    ∙ ap (λ (x : ℕ). 32 * (8 * x + t) + byteAt m g x) ek
+    ∙ sym (ap₂ (spot m g) hi lo)
+
+-- the digit that a lane of bytes holds for line 8i + j
+pub lane-digit : (bytes : List ℕ) (m g j t from s n i : ℕ) → t ≡ bitXor (g % 8) j → from ≡ 32 * t → s ≡ placeOf m g t → i < n
+    → digit (getD (take n (drop from bytes)) i 0) s ≡ lineDigit bytes m g i j
+lane-digit bytes m g j t from s n i et ef es h =
+    ap (λ (x : ℕ). digit x s) (getD-take n (drop from bytes) i 0 h ∙ getD-drop from bytes i 0)
+    ∙ ap₂ (λ (x y : ℕ). digit (getD bytes (x + i) 0) y) (ef ∙ ap (λ (x : ℕ). 32 * x) et) (es ∙ ap (placeOf m g) et)
+
+-- ---- the loops of a load
+
+lane-inj : (n k : ℕ) → n < 256 → k < 256 → 32 * (n % 8) + n / 8 ≡ 32 * (k % 8) + k / 8 → n ≡ k
+lane-inj n k hn hk e =
+    let lo : n % 8 ≡ k % 8 = omega arith in
+    let hi : n / 8 ≡ k / 8 = omega arith in
+    omega arith
+
+-- writes to 32t + i, group by group, fill a list lane by lane
+pub lanes-filled : (ψ : ℕ → ℕ → ℕ) (l : List ℕ) → length l ≡ 256
+    → written (λ n. 32 * (n % 8) + n / 8) (λ n o. ψ (n / 8) (n % 8)) l 256 ≡ listed (λ q. ψ (q % 32) (q / 32)) 256
+lanes-filled ψ l size =
+    listed-is (λ q. ψ (q % 32) (q / 32)) 256 (written (λ n. 32 * (n % 8) + n / 8) (λ n o. ψ (n / 8) (n % 8)) l 256)
+    (length-written (λ n. 32 * (n % 8) + n / 8) (λ n o. ψ (n / 8) (n % 8)) l 256 ∙ size)
+    (λ q h.
+    let n = 8 * (q % 32) + q / 32 in
+    let at : 32 * (n % 8) + n / 8 ≡ q = omega arith in
+    let hi : n / 8 ≡ q % 32 = omega arith in
+    let lo : n % 8 ≡ q / 32 = omega arith in
+    ap (λ (x : ℕ). getD (written (λ n. 32 * (n % 8) + n / 8) (λ n o. ψ (n / 8) (n % 8)) l 256) x 0) (sym at)
+    ∙ written-at (λ n. 32 * (n % 8) + n / 8) (λ n o. ψ (n / 8) (n % 8)) l 256 n (λ j k e. lane-inj n j (omega arith) k e) (omega arith) (omega arith)
+    ∙ ap₂ ψ hi lo)
+
+-- one lane more
+pub gather-more : (F : ℕ → ℕ → ℕ) → ((i j : ℕ) → Bit (F i j)) → (out lane : List ℕ) (s j : ℕ) → j < 8
+    → out ≡ listed (λ i. digitsOf (F i) j) 32 → ((i : ℕ) → i < 32 → digit (getD lane i 0) s ≡ F i j)
+    → listed (λ i. bitOr (getD out i 0) (digit (getD lane i 0) s * 2 ^ j % 256)) 32 ≡ listed (λ i. digitsOf (F i) (j + 1)) 32
+gather-more F bits out lane s j h e d =
+    listed-ext (λ i. bitOr (getD out i 0) (digit (getD lane i 0) s * 2 ^ j % 256)) (λ i. digitsOf (F i) (j + 1)) 32
+    (λ i q.
+    ap₂ (λ (x y : ℕ). bitOr x (y * 2 ^ j % 256)) (ap (λ (x : List ℕ). getD x i 0) e ∙ getD-listed (λ i. digitsOf (F i) j) 32 i q) (d i q)
+    ∙ or-digit (F i) (bits i) j 8 h)
+
+-- what the lanes gather is what the lines read
+pub gathered : (mem bytes : List ℕ) (m g : ℕ) → bytes ≡ listed (λ n. getD mem (spot m g (n % 32) (n / 32)) 0) 256
+    → listed (λ i. digitsOf (lineDigit bytes m g i) 8) 32 ≡ item (readBit (cell mem) m g)
+unfolding byteOf
+gathered mem bytes m g e =
+    listed-ext (λ i. digitsOf (lineDigit bytes m g i) 8) (byteOf (readBit (cell mem) m g)) 32
+    (λ i hi.
+    digitsOf-ext (lineDigit bytes m g i) (λ j. readBit (cell mem) m g (8 * i + j)) 8
+    (λ j hj.
+    let t = bitXor (g % 8) j in
+    let ht : t < 8 = partner-lt g j hj in
+    let lo : (32 * t + i) % 32 ≡ i = omega arith in
+    let hi : (32 * t + i) / 32 ≡ t = omega arith in
+    ap (λ (x : ℕ). digit x (placeOf m g t))
+    (ap (λ (x : List ℕ). getD x (32 * t + i) 0) e
+    ∙ getD-listed (λ n. getD mem (spot m g (n % 32) (n / 32)) 0) 256 (32 * t + i) (omega arith)
+    ∙ ap₂ (λ (x y : ℕ). getD mem (spot m g x y) 0) lo hi)
+    ∙ read-group mem m g i j hj))
+
+-- ---- the loop that spreads an item
+
+-- one lane more, in the part that was lent on
+pub spread-more : (l : List ℕ) (m g t w p s : ℕ) (out ys : List ℕ) → t < 8 → length out ≡ 256 → w ≡ t → p ≡ bitXor (g % 8) t → s ≡ placeOf m g t
+    → take (32 * t) out ≡ listed (λ n. laneByte l m g (n % 32) (n / 32)) (32 * t)
+    → ys ≡ listed (λ i. bitOf l (8 * i + p) * 2 ^ s) 32
+    → take (32 * (t + 1)) (putMid (32 * w) (32 * w + 32 - 32 * w) out ys) ≡ listed (λ n. laneByte l m g (n % 32) (n / 32)) (32 * (t + 1))
+spread-more l m g t w p s out ys h size ew ep es e ey =
+    let φ : ℕ → ℕ = λ n. laneByte l m g (n % 32) (n / 32) in
+    let n : 32 * (t + 1) ≡ 32 * w + 32 = omega arith in
+    let k : 32 ≡ 32 * w + 32 - 32 * w = omega arith in
+    ap (λ (x : ℕ). take x (putMid (32 * w) (32 * w + 32 - 32 * w) out ys)) n
+    ∙ part-more φ out (32 * w) (32 * w + 32) ys (omega arith) (omega arith)
+    (ap (λ (x : ℕ). take (32 * x) out) ew ∙ e ∙ sym (ap (λ (x : ℕ). listed φ (32 * x)) ew))
+    (ey ∙ listed-ext (λ i. bitOf l (8 * i + p) * 2 ^ s) (λ i. φ (32 * w + i)) 32 same ∙ ap (listed (λ i. φ (32 * w + i))) k)
+    ∙ sym (ap (listed φ) n)
+  where
+    same : (i : ℕ) → i < 32 → bitOf l (8 * i + p) * 2 ^ s ≡ laneByte l m g ((32 * w + i) % 32) ((32 * w + i) / 32)
+    same i hi =
+        let lo : (32 * w + i) % 32 ≡ i = omega arith in
+        let hi : (32 * w + i) / 32 ≡ t = omega arith in
+        ap₂ (λ (x y : ℕ). bitOf l (8 * i + x) * 2 ^ y) ep es ∙ sym (ap₂ (laneByte l m g) lo hi)
+
+-- ---- the chip writer, seen from the whole memory
+
+pub chip-written : (l : List ℕ) (c at p s : ℕ) (ys : List ℕ) → 32 * c + 32 ≤ length l → at < 32
+    → ys ≡ set (midOf (32 * c) (32 * c + 32 - 32 * c) l) at (mixed (getD (midOf (32 * c) (32 * c + 32 - 32 * c) l) at 0) p s)
+    → putMid (32 * c) (32 * c + 32 - 32 * c) l ys ≡ set l (32 * c + at) (mixed (getD l (32 * c + at) 0) p s)
+chip-written l c at p s ys h ha e =
+    let k = 32 * c + 32 - 32 * c in
+    let n : k ≡ 32 = omega arith in
+    let part = midOf (32 * c) k l in
+    let m : length part ≡ k = mid-len (32 * c) (32 * c + 32) l h in
+    let old : getD part at 0 ≡ getD l (32 * c + at) 0 = getD-take k (drop (32 * c) l) at 0 (omega arith) ∙ getD-drop (32 * c) l at 0 in
+    ap (putMid (32 * c) k l) e
+    ∙ set-mid-at (32 * c) k at l (mixed (getD part at 0) p s) (omega arith)
+    ∙ ap (λ (x : ℕ). set l (32 * c + at) (mixed x p s)) old

@@ -1,0 +1,90 @@
+-- `read_all`: each turn is eight writes more; all of them fill the list lane by lane.
+use mathlib.Core.Path.{_≡_, refl, ap, _∙_}
+use Prim.Native.Nat.{ℕ, _≤_, _-_, _+_, _*_, _/_, _%_}
+use lib.ListN.{length, getD, replicate}
+use denote.Ref.{now}
+use Rattle.bits.specs.Steps.{written}
+use Rattle.bits.proofs.Writes.{length-written, written-then}
+use Rattle.memory.specs.Groups.{spot}
+use Rattle.memory.proofs.GroupLaws.{spot-at, lanes-filled}
+use borrow.Author.Needs.{needs}
+use native.Mathlib.Omega.{arith}
+use Rattle.memory.proofs.reading.read_all.Statement.{statement}
+use Rattle.memory.proofs.reading.read_all.Tie as tie
+
+abbrev Inv-loop : tie.InvT-loop
+Inv-loop mem mode addr out₀ i₀ out i = (i ≤ 32) × (length out ≡ 256) × (out ≡ written (λ n. 32 * (n % 8) + n / 8) (λ n o. getD mem (spot mode addr (n / 8) (n % 8)) 0) out₀ (8 * i))
+
+abbrev μ-loop : tie.MeasureT-loop
+μ-loop mem mode addr out₀ i₀ out i = 32 - i
+
+loop-holds : tie.Need-loop-holds Inv-loop μ-loop
+unfolding written
+loop-holds c = (omega arith, refl, refl)
+
+group-of-requires : tie.Need-group-of-requires Inv-loop μ-loop
+group-of-requires c κs = search needs
+
+mul-read-group : tie.Need-mul-read-group Inv-loop μ-loop
+mul-read-group c = search needs
+
+byte-at-requires : tie.Need-byte-at-requires Inv-loop μ-loop
+byte-at-requires c κs = search needs
+
+add-read-group : tie.Need-add-read-group Inv-loop μ-loop
+add-read-group c = search needs
+
+slice-aggregate-read-group : tie.Need-slice-aggregate-read-group Inv-loop μ-loop
+slice-aggregate-read-group c = search needs
+
+read-group-requires : tie.Need-read-group-requires Inv-loop μ-loop
+read-group-requires c κs = search needs
+
+add-i : tie.Need-add-i Inv-loop μ-loop
+add-i c = search needs
+
+loop-less : tie.Need-loop-less Inv-loop μ-loop
+loop-less c = search needs
+
+loop-again : tie.Need-loop-again Inv-loop μ-loop
+loop-again c =
+    let a = c .before .before .before .before .before .before .before .before .args in
+    let l = c .before .before .before .before .before .before .loop in
+    let k = c .before .before .before .before .group-of in
+    let at = c .before .before .before .byte-at in
+    let r = c .before .read-group in (
+      omega arith,
+      ap length (r .ensures) ∙ length-written _ _ (l .out) 8 ∙ l .inv .1,
+      r .ensures ∙ written-then (λ n. 32 * (n % 8) + n / 8) (λ n o. getD (now (a .mem)) (spot (a .mode) (a .addr) (n / 8) (n % 8)) 0) (replicate 256 0) _ _ (l .out) (8 * l .i) 8 (8 * (l .i + 1)) (l .inv .2) (omega arith)
+          (λ j h. omega arith)
+          (λ j o h. ap (λ (x : ℕ). getD (now (a .mem)) x 0) (same j (l .i) (k .result) (at .result) ∙ spot-at (a .mode) (a .addr) (l .i) j (k .result) (at .result) h (k .ensures .0) (at .ensures .0))),
+    )
+  where
+    same : (j i k b : ℕ) → 32 * j + (256 * k + b) ≡ 32 * (8 * k + j) + b
+    same j i k b = omega arith
+
+returns : tie.Need-returns Inv-loop μ-loop
+returns c =
+    let a = c .before .before .before .args in
+    let e : 8 * c .before .loop .i ≡ 256 = omega arith in
+    c .before .loop .inv .2
+    ∙ ap (written (λ n. 32 * (n % 8) + n / 8) (λ n o. getD (now (a .mem)) (spot (a .mode) (a .addr) (n / 8) (n % 8)) 0) (replicate 256 0)) e
+    ∙ lanes-filled (λ i t. getD (now (a .mem)) (spot (a .mode) (a .addr) i t) 0) (replicate 256 0) refl
+
+pub read-all-spec : {M : Type 1} → statement M
+read-all-spec =
+    tie.close
+    (tie.spec
+    Inv-loop
+    μ-loop
+    loop-holds
+    group-of-requires
+    mul-read-group
+    byte-at-requires
+    add-read-group
+    slice-aggregate-read-group
+    read-group-requires
+    add-i
+    loop-less
+    loop-again
+    returns)

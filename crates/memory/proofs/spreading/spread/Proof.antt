@@ -1,0 +1,94 @@
+-- `spread`: each turn is one lane more.
+use mathlib.Core.Path.{_≡_, refl, _∙_}
+use Prim.Native.Nat.{_≤_, _-_, _+_, _*_, _/_, _%_}
+use lib.ListN.{length, take}
+use denote.Ref.{now}
+use borrow.Rule.Slice.PartMut.{same-len-mid}
+use Rattle.bits.specs.Bits.{listed}
+use Rattle.bits.proofs.Items.{fill-done}
+use Rattle.memory.specs.Groups.{laneByte}
+use Rattle.memory.proofs.GroupLaws.{spread-more}
+use borrow.Author.Needs.{needs}
+use native.Mathlib.Omega.{arith}
+use Rattle.memory.proofs.spreading.spread.Statement.{statement}
+use Rattle.memory.proofs.spreading.spread.Tie as tie
+
+abbrev Inv-loop : tie.InvT-loop
+Inv-loop item mode addr out₀ t₀ out t = (t ≤ 8) × (length out ≡ 256) × (take (32 * t) out ≡ listed (λ n. laneByte item mode addr (n % 32) (n / 32)) (32 * t))
+
+abbrev μ-loop : tie.MeasureT-loop
+μ-loop item mode addr out₀ t₀ out t = 8 - t
+
+loop-holds : tie.Need-loop-holds Inv-loop μ-loop
+unfolding listed
+loop-holds c = (omega arith, refl, refl)
+
+wide-requires : tie.Need-wide-requires Inv-loop μ-loop
+wide-requires c κs = search needs
+
+mul-from : tie.Need-mul-from Inv-loop μ-loop
+mul-from c = search needs
+
+partner-requires : tie.Need-partner-requires Inv-loop μ-loop
+partner-requires c κs = search needs
+
+place-of-requires : tie.Need-place-of-requires Inv-loop μ-loop
+place-of-requires c κs = search needs
+
+add-spread-lane : tie.Need-add-spread-lane Inv-loop μ-loop
+add-spread-lane c = search needs
+
+sub-spread-lane : tie.Need-sub-spread-lane Inv-loop μ-loop
+sub-spread-lane c = search needs
+
+part-out-start : tie.Need-part-out-start Inv-loop μ-loop
+part-out-start c = search needs
+
+part-out-end : tie.Need-part-out-end Inv-loop μ-loop
+part-out-end c = search needs
+
+spread-lane-requires : tie.Need-spread-lane-requires Inv-loop μ-loop
+spread-lane-requires c κs = search needs
+
+add-t : tie.Need-add-t Inv-loop μ-loop
+add-t c = search needs
+
+loop-less : tie.Need-loop-less Inv-loop μ-loop
+loop-less c = search needs
+
+loop-again : tie.Need-loop-again Inv-loop μ-loop
+loop-again c =
+    let a = c .before .before .before .before .before .before .before .before .args in
+    let l = c .before .before .before .before .before .before .before .loop in
+    let w = c .before .before .before .before .before .wide in
+    let p = c .before .before .before .before .partner in
+    let s = c .before .before .before .place-of in
+    let r = c .before .spread-lane in (
+      omega arith,
+      same-len-mid (32 * w .result) (32 * w .result + 32 - 32 * w .result) (l .out) (r .last .1 .1 .1 .0) (r .kept .1 .1 .1 .0) ∙ l .inv .1,
+      spread-more (now (a .item)) (a .mode) (a .addr) (l .t) (w .result) (p .result) (s .result) (l .out) _ (omega arith) (l .inv .1) (w .ensures) (p .ensures .0) (s .ensures .0) (l .inv .2) (r .ensures),
+    )
+
+returns : tie.Need-returns Inv-loop μ-loop
+returns c = fill-done _ (c .before .loop .out) 256 _ (c .before .loop .inv .1) (omega arith) (c .before .loop .inv .2)
+
+pub spread-spec : {M : Type 1} → statement M
+spread-spec =
+    tie.close
+    (tie.spec
+    Inv-loop
+    μ-loop
+    loop-holds
+    wide-requires
+    mul-from
+    partner-requires
+    place-of-requires
+    add-spread-lane
+    sub-spread-lane
+    part-out-start
+    part-out-end
+    spread-lane-requires
+    add-t
+    loop-less
+    loop-again
+    returns)

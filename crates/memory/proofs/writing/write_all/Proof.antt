@@ -1,0 +1,77 @@
+-- `write_all`: each turn is eight writes more.
+use mathlib.Core.Path.{_≡_, refl, ap, ap₂, _∙_}
+use Prim.Native.Nat.{ℕ, _≤_, _-_, _+_, _*_, _/_, _%_}
+use lib.ListN.{length, getD}
+use denote.Ref.{now}
+use Rattle.bits.specs.Steps.{written, mixed}
+use Rattle.bits.proofs.Writes.{length-written, written-then}
+use Rattle.memory.specs.Groups.{spot}
+use Rattle.memory.proofs.GroupLaws.{spot-at}
+use borrow.Author.Needs.{needs}
+use native.Mathlib.Omega.{arith}
+use Rattle.memory.proofs.writing.write_all.Statement.{statement}
+use Rattle.memory.proofs.writing.write_all.Tie as tie
+
+abbrev Inv-loop : tie.InvT-loop
+Inv-loop mem₀ mode addr put chosen i₀ mem i = (i ≤ 32) × (length mem ≡ 8192) × (mem ≡ written (λ n. spot mode addr (n / 8) (n % 8)) (λ n o. mixed o (getD put (32 * (n % 8) + n / 8) 0) (getD chosen (32 * (n % 8) + n / 8) 0)) mem₀ (8 * i))
+
+abbrev μ-loop : tie.MeasureT-loop
+μ-loop mem₀ mode addr put chosen i₀ mem i = 32 - i
+
+loop-holds : tie.Need-loop-holds Inv-loop μ-loop
+unfolding written
+loop-holds c = (omega arith, c .before .before .before .pre .0, refl)
+
+group-of-requires : tie.Need-group-of-requires Inv-loop μ-loop
+group-of-requires c κs = search needs
+
+byte-at-requires : tie.Need-byte-at-requires Inv-loop μ-loop
+byte-at-requires c κs = search needs
+
+write-group-requires : tie.Need-write-group-requires Inv-loop μ-loop
+write-group-requires c κs = search needs
+
+add-i : tie.Need-add-i Inv-loop μ-loop
+add-i c = search needs
+
+loop-less : tie.Need-loop-less Inv-loop μ-loop
+loop-less c = search needs
+
+loop-again : tie.Need-loop-again Inv-loop μ-loop
+loop-again c =
+    let a = c .before .before .before .before .before .before .before .before .before .before .before .args in
+    let l = c .before .before .before .before .before .before .before .loop in
+    let k = c .before .before .before .before .before .group-of in
+    let at = c .before .before .before .byte-at in
+    let r = c .before .before .write-group in (
+      omega arith,
+      ap length (r .ensures) ∙ length-written _ _ (l .mem) 8 ∙ l .inv .1,
+      r .ensures ∙ written-then (λ n. spot (a .mode) (a .addr) (n / 8) (n % 8)) (λ n o. mixed o (getD (now (a .put)) (32 * (n % 8) + n / 8) 0) (getD (now (a .chosen)) (32 * (n % 8) + n / 8) 0)) (now (a .mem)) _ _ (l .mem) (8 * l .i) 8 (8 * (l .i + 1)) (l .inv .2) (omega arith)
+          (λ j h. spot-at (a .mode) (a .addr) (l .i) j (k .result) (at .result) h (k .ensures .0) (at .ensures .0))
+          (λ j o h. ap₂ (λ (x y : ℕ). mixed o (getD (now (a .put)) x 0) (getD (now (a .chosen)) y 0)) (omega arith) (omega arith)),
+    )
+
+same-length : tie.Need-same-length Inv-loop μ-loop
+same-length c = omega arith
+
+returns : tie.Need-returns Inv-loop μ-loop
+returns c =
+    let a = c .before .before .before .before .before .args in
+    let e : 8 * c .before .loop .i ≡ 256 = omega arith in
+    c .before .loop .inv .2 ∙ ap (written (λ n. spot (a .mode) (a .addr) (n / 8) (n % 8)) (λ n o. mixed o (getD (now (a .put)) (32 * (n % 8) + n / 8) 0) (getD (now (a .chosen)) (32 * (n % 8) + n / 8) 0)) (now (a .mem))) e
+
+pub write-all-spec : {M : Type 1} → statement M
+write-all-spec =
+    tie.close
+    (tie.spec
+    Inv-loop
+    μ-loop
+    loop-holds
+    group-of-requires
+    byte-at-requires
+    write-group-requires
+    add-i
+    loop-less
+    loop-again
+    same-length
+    returns)

@@ -1,0 +1,127 @@
+-- `write_group`: each turn is one write more.
+use mathlib.Core.Path.{_≡_, refl, ap, _∙_}
+use Prim.Native.Nat.{_≤_, _-_, _+_, _*_}
+use lib.ListN.{length, getD}
+use denote.Ref.{now}
+use borrow.Rule.Slice.PartMut.{mid-len, same-len-mid}
+use Rattle.bits.specs.Steps.{written, mixed}
+use Rattle.bits.proofs.Writes.{written-more}
+use Rattle.memory.proofs.GroupLaws.{chip-written}
+use borrow.Author.Needs.{needs}
+use native.Mathlib.Omega.{arith}
+use Rattle.memory.proofs.writing.write_group.Statement.{statement}
+use Rattle.memory.proofs.writing.write_group.Tie as tie
+
+abbrev Inv-loop : tie.InvT-loop
+Inv-loop mem₀ k at i put chosen t₀ mem t = (t ≤ 8) × (length mem ≡ 8192) × (mem ≡ written (λ n. 32 * (8 * k + n) + at) (λ n o. mixed o (getD put (32 * n + i) 0) (getD chosen (32 * n + i) 0)) mem₀ t)
+
+abbrev μ-loop : tie.MeasureT-loop
+μ-loop mem₀ k at i put chosen t₀ mem t = 8 - t
+
+loop-holds : tie.Need-loop-holds Inv-loop μ-loop
+unfolding written
+loop-holds c = (omega arith, c .before .before .before .pre .0, refl)
+
+mul-c : tie.Need-mul-c Inv-loop μ-loop
+mul-c c = search needs
+
+add-c : tie.Need-add-c Inv-loop μ-loop
+add-c c = search needs
+
+mul-write-chip : tie.Need-mul-write-chip Inv-loop μ-loop
+mul-write-chip c = search needs
+
+mul-write-chip-2 : tie.Need-mul-write-chip-2 Inv-loop μ-loop
+mul-write-chip-2 c = search needs
+
+add-write-chip : tie.Need-add-write-chip Inv-loop μ-loop
+add-write-chip c = search needs
+
+sub-write-chip : tie.Need-sub-write-chip Inv-loop μ-loop
+sub-write-chip c = search needs
+
+part-write-chip-start : tie.Need-part-write-chip-start Inv-loop μ-loop
+part-write-chip-start c = search needs
+
+part-write-chip-end : tie.Need-part-write-chip-end Inv-loop μ-loop
+part-write-chip-end c = search needs
+
+mul-write-chip-3 : tie.Need-mul-write-chip-3 Inv-loop μ-loop
+mul-write-chip-3 c = search needs
+
+add-write-chip-2 : tie.Need-add-write-chip-2 Inv-loop μ-loop
+add-write-chip-2 c = search needs
+
+shared-slice-read-write-chip : tie.Need-shared-slice-read-write-chip Inv-loop μ-loop
+shared-slice-read-write-chip c = search needs
+
+mul-write-chip-4 : tie.Need-mul-write-chip-4 Inv-loop μ-loop
+mul-write-chip-4 c = search needs
+
+add-write-chip-3 : tie.Need-add-write-chip-3 Inv-loop μ-loop
+add-write-chip-3 c = search needs
+
+shared-slice-read-write-chip-2 : tie.Need-shared-slice-read-write-chip-2 Inv-loop μ-loop
+shared-slice-read-write-chip-2 c = search needs
+
+write-chip-requires : tie.Need-write-chip-requires Inv-loop μ-loop
+write-chip-requires c κs =
+    let a = c .before .before .before .before .before .before .before .before .args in
+    let l = c .before .before .before .before .loop in
+    let n = 8 * a .k + l .t in
+    omega (arith, mid-len (32 * n) (32 * n + 32) (l .mem) (omega arith))
+
+add-t : tie.Need-add-t Inv-loop μ-loop
+add-t c = search needs
+
+loop-less : tie.Need-loop-less Inv-loop μ-loop
+loop-less c = search needs
+
+loop-again : tie.Need-loop-again Inv-loop μ-loop
+loop-again c =
+    let a = c .before .before .before .before .before .before .before .before .before .before .before .args in
+    let l = c .before .before .before .before .before .before .before .loop in
+    let w = c .before .before .write-chip in
+    let n = 8 * a .k + l .t in (
+      omega arith,
+      same-len-mid (32 * n) (32 * n + 32 - 32 * n) (l .mem) (w .last .0) (w .kept .0) ∙ l .inv .1,
+      chip-written (l .mem) n (a .at) _ _ _ (omega arith) (omega arith) (w .ensures)
+          ∙ written-more (λ n. 32 * (8 * a .k + n) + a .at) (λ n o. mixed o (getD (now (a .put)) (32 * n + a .i) 0) (getD (now (a .chosen)) (32 * n + a .i) 0)) (now (a .mem)) (l .t) (l .mem) _ _ (l .inv .2) refl refl,
+    )
+
+same-length : tie.Need-same-length Inv-loop μ-loop
+same-length c = omega arith
+
+returns : tie.Need-returns Inv-loop μ-loop
+returns c =
+    let a = c .before .before .before .before .before .args in
+    let e : c .before .loop .t ≡ 8 = omega arith in
+    c .before .loop .inv .2 ∙ ap (written (λ n. 32 * (8 * a .k + n) + a .at) (λ n o. mixed o (getD (now (a .put)) (32 * n + a .i) 0) (getD (now (a .chosen)) (32 * n + a .i) 0)) (now (a .mem))) e
+
+pub write-group-spec : {M : Type 1} → statement M
+write-group-spec =
+    tie.close
+    (tie.spec
+    Inv-loop
+    μ-loop
+    loop-holds
+    mul-c
+    add-c
+    mul-write-chip
+    mul-write-chip-2
+    add-write-chip
+    sub-write-chip
+    part-write-chip-start
+    part-write-chip-end
+    mul-write-chip-3
+    add-write-chip-2
+    shared-slice-read-write-chip
+    mul-write-chip-4
+    add-write-chip-3
+    shared-slice-read-write-chip-2
+    write-chip-requires
+    add-t
+    loop-less
+    loop-again
+    same-length
+    returns)

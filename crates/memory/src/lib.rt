@@ -1,0 +1,48 @@
+// The memory of 256 words by 256 bits, kept scrambled, chip by chip, in 8,192 lent bytes. Document 01, Memory.
+//
+// `load`, `store` and `store_masked` take a memory whose length the caller has judged: they are inner functions of the emulator, and `run` is what a user calls.
+mod places;
+mod reading;
+mod spreading;
+mod writing;
+
+ghost use mathlib.Core.Path.{_≡_};
+ghost use lib.ListN.{length};
+ghost use Rattle.bits.specs.Bits.{bitOf, item};
+ghost use Rattle.memory.specs.Access.{readBit};
+ghost use Rattle.memory.specs.Memory.{cell, stored, every, maskOf};
+
+// The item that is read under a mode and an address: line P has the bit that it meets.
+pub fn load(mem: &[u8], mode: u8, addr: u8) -> [u8; 32]
+    requires { ⌜ length (now mem) ≡ 8192 ⌝ }
+    ensures { λ r. ⌜ r ≡ item (readBit (cell (now (mem .entry))) mode addr) ⌝ }
+{
+    let bytes = reading::read_all(mem, mode, addr);
+    reading::gather(&bytes, mode, addr)
+}
+
+// The item goes where its lines point, at the lines whose bit of `mask` is 1; every other bit of the memory stays.
+pub fn store_masked<'a>(mem: &mut [u8], mode: u8, addr: u8, item: &'a [u8; 32], mask: &'a [u8; 32])
+    requires { ⌜ length (now mem) ≡ 8192 ⌝ }
+    ensures { λ r. ⌜ now (mem .exit) ≡ stored (now (mem .entry)) mode addr (bitOf (now (mask .entry))) (bitOf (now (item .entry))) ⌝ }
+{
+    let put = spreading::spread(item, mode, addr);
+    let chosen = spreading::spread(mask, mode, addr);
+    writing::write_all(mem, mode, addr, &put, &chosen);
+}
+
+// The item goes where its lines point: a masked store at all lines, so that there is one way into the memory.
+pub fn store(mem: &mut [u8], mode: u8, addr: u8, item: &[u8; 32])
+    requires { ⌜ length (now mem) ≡ 8192 ⌝ }
+    ensures { λ r. ⌜ now (mem .exit) ≡ stored (now (mem .entry)) mode addr every (bitOf (now (item .entry))) ⌝ }
+{
+    let all = [255u8; 32];
+    store_masked(mem, mode, addr, item, &all);
+}
+
+// Which lines of an item flipped by `f` a masked store writes, by the rule of document 01.
+pub fn line_mask(m: &[u8; 32], f: u8) -> [u8; 32]
+    ensures { λ r. ⌜ r ≡ item (maskOf (now (m .entry)) f) ⌝ }
+{
+    bits::flips::flip(m, f)
+}
