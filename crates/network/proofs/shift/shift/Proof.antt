@@ -1,0 +1,106 @@
+-- `shift::shift`: the bytes so far are the first of the shifted item; each is the law `joined-is`.
+use mathlib.Core.Path.{_≡_, refl}
+use Prim.Native.Nat.{_≤_, _-_}
+use native.Mathlib.Omega.{arith}
+use lib.ListN.{length, take, length-set}
+use denote.Ref.{now}
+use borrow.Author.Needs.{needs}
+use Rattle.bits.specs.Bits.{bitOf, listed, byteOf}
+use Rattle.bits.proofs.Items.{fill-more, fill-done}
+use Rattle.network.specs.Pass.{unshifted}
+use Rattle.network.proofs.TurnLaws.{reach-le, reach-pos, reach-lt, joined-is}
+use Rattle.network.proofs.shift.shift.Statement.{statement}
+use Rattle.network.proofs.shift.shift.Tie as tie
+
+abbrev Inv-loop : tie.InvT-loop
+Inv-loop lines p m round up down which out₀ i₀ out i =
+    (i ≤ 32) × (length out ≡ 32) × (take i out ≡ listed (byteOf (λ k. bitOf lines (unshifted p m k))) i)
+
+abbrev μ-loop : tie.MeasureT-loop
+μ-loop lines p m round up down which out₀ i₀ out i = 32 - i
+
+wrap-requires : tie.Need-wrap-requires Inv-loop μ-loop
+wrap-requires c κs = search needs
+
+places-requires : tie.Need-places-requires Inv-loop μ-loop
+places-requires c κs = search needs
+
+places-requires-2 : tie.Need-places-requires-2 Inv-loop μ-loop
+places-requires-2 c κs = search needs
+
+sub-down : tie.Need-sub-down Inv-loop μ-loop
+sub-down c =
+    let s = c .before .before .before in
+    omega (arith, reach-le (s .args .p) (s .args .m) (s .pre .0) (s .pre .1))
+
+mask-of-requires : tie.Need-mask-of-requires Inv-loop μ-loop
+mask-of-requires c κs = search needs
+
+loop-holds : tie.Need-loop-holds Inv-loop μ-loop
+unfolding listed
+loop-holds c = (omega arith, refl, refl)
+
+element-copy-out-mix : tie.Need-element-copy-out-mix Inv-loop μ-loop
+element-copy-out-mix c = search needs
+
+shl-mix : tie.Need-shl-mix Inv-loop μ-loop
+shl-mix c = search needs
+
+array-read-mix : tie.Need-array-read-mix Inv-loop μ-loop
+array-read-mix c = search needs
+
+shr-mix : tie.Need-shr-mix Inv-loop μ-loop
+shr-mix c =
+    let s = c .before .before .before .before .before .before .before in
+    omega (arith, reach-pos (s .args .p) (s .args .m) (s .pre .0) (s .pre .1), reach-lt (s .args .p) (s .args .m) (s .pre .0) (s .pre .1))
+
+mix-requires : tie.Need-mix-requires Inv-loop μ-loop
+mix-requires c κs = search needs
+
+array-write-out : tie.Need-array-write-out Inv-loop μ-loop
+array-write-out c = search needs
+
+add-i : tie.Need-add-i Inv-loop μ-loop
+add-i c = search needs
+
+loop-less : tie.Need-loop-less Inv-loop μ-loop
+loop-less c = search needs
+
+loop-again : tie.Need-loop-again Inv-loop μ-loop
+loop-again c =
+    let l = c .before .before .before .loop in
+    let d = c .before .before .before .before in
+    let s = d .before .before .before .before in (
+      omega arith,
+      simp length-set (l .inv .1),
+      fill-more (byteOf (λ k. bitOf (now (s .args .lines)) (unshifted (s .args .p) (s .args .m) k))) (l .out) (l .i) _ (omega arith) (l .inv .2)
+          (joined-is (now (s .args .lines)) (d .before .before .before .wrap .result) (s .args .p) (s .args .m) (l .i) (d .before .places2 .result) (d .before .before .places .result)
+          (d .mask-of .result) (c .mix .result) (s .pre .0) (s .pre .1) (omega arith) (omega arith) (d .before .before .before .wrap .ensures)
+          (d .before .places2 .ensures) (d .before .before .places .ensures) (d .mask-of .ensures) (c .mix .ensures)),
+    )
+
+returns : tie.Need-returns Inv-loop μ-loop
+returns c = fill-done _ (c .before .loop .out) 32 _ (c .before .loop .inv .1) (omega arith) (c .before .loop .inv .2)
+
+pub shift-spec : {M : Type 1} → statement M
+shift-spec =
+    tie.close
+    (tie.spec
+    Inv-loop
+    μ-loop
+    wrap-requires
+    places-requires
+    places-requires-2
+    sub-down
+    mask-of-requires
+    loop-holds
+    element-copy-out-mix
+    shl-mix
+    array-read-mix
+    shr-mix
+    mix-requires
+    array-write-out
+    add-i
+    loop-less
+    loop-again
+    returns)

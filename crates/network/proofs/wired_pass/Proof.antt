@@ -1,0 +1,29 @@
+-- `wired_pass`: the two answers, by where the code was found; eight levels are the pass, by the agreement.
+use borrow.Author.Needs.{needs}
+use Rattle.network.proofs.AnswerLaws.{found-permitted, lost-refused, given, refused, wired-passed}
+use Rattle.network.proofs.wired_pass.Statement.{statement}
+use Rattle.network.proofs.wired_pass.Tie as tie
+
+find-requires : tie.Need-find-requires
+find-requires c κs = search needs
+
+signal-table-requires : tie.Need-signal-table-requires
+signal-table-requires c κs = search needs
+
+wired-item-requires : tie.Need-wired-item-requires
+wired-item-requires c κs = search needs
+
+returns : tie.Need-returns
+returns c =
+    let t = c .before .before .before .before in
+    let s = t .before .before in
+    given _ _ _ _ (found-permitted (s .args .code) (t .before .find .result) (t .before .find .ensures) (t .if1 .taken))
+    (wired-passed _ _ (s .args .flip) (s .args .code) (t .before .find .result) (s .fits .code .fits) (s .fits .flip .fits) (t .before .find .ensures) (t .if1 .taken)
+    (c .wired-item .ensures))
+
+returns-2 : tie.Need-returns-2
+returns-2 c = refused _ _ _ (lost-refused (c .before .before .args .code) (c .before .find .result) (c .before .find .ensures) (c .if1 .left))
+
+pub wired-pass-spec : {M : Type 1} → statement M
+wired-pass-spec =
+    tie.close (tie.spec find-requires signal-table-requires wired-item-requires returns returns-2)

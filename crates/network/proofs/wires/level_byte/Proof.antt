@@ -1,0 +1,84 @@
+-- `wires::level_byte`: the digits so far are the first of the byte.
+use mathlib.Core.Path.{_≡_, refl, ap, ap₂, _∙_}
+use Prim.Native.Nat.{ℕ, _+_, _-_, _*_, _%_, _^_, _≤_}
+use native.Mathlib.Omega.{arith}
+use lib.Bits.{bitOr}
+use denote.Ref.{now}
+use borrow.Author.Needs.{needs}
+use Rattle.bits.specs.Bits.{bitOf, digitsOf, byteOf}
+use Rattle.bits.proofs.Digits.{or-digit}
+use Rattle.bits.proofs.Items.{bitOf-bit}
+use Rattle.network.specs.Shifts.{pOf, mOf}
+use Rattle.network.specs.Wired.{level}
+use Rattle.network.proofs.wires.level_byte.Statement.{statement}
+use Rattle.network.proofs.wires.level_byte.Tie as tie
+
+abbrev Inv-loop : tie.InvT-loop
+Inv-loop table s f j lines i acc₀ d₀ acc d = (d ≤ 8) × (acc ≡ digitsOf (λ e. bitOf lines (level f (pOf s) (mOf s) j (8 * i + e))) d)
+
+abbrev μ-loop : tie.MeasureT-loop
+μ-loop table s f j lines i acc₀ d₀ acc d = 8 - d
+
+loop-holds : tie.Need-loop-holds Inv-loop μ-loop
+unfolding digitsOf
+loop-holds c = (omega arith, refl)
+
+mul-level-line : tie.Need-mul-level-line Inv-loop μ-loop
+mul-level-line c = search needs
+
+add-level-line : tie.Need-add-level-line Inv-loop μ-loop
+add-level-line c = search needs
+
+level-line-requires : tie.Need-level-line-requires Inv-loop μ-loop
+level-line-requires c κs = search needs
+
+bit-at-requires : tie.Need-bit-at-requires Inv-loop μ-loop
+bit-at-requires c κs = search needs
+
+shl-acc : tie.Need-shl-acc Inv-loop μ-loop
+shl-acc c = search needs
+
+add-d : tie.Need-add-d Inv-loop μ-loop
+add-d c = search needs
+
+loop-less : tie.Need-loop-less Inv-loop μ-loop
+loop-less c = search needs
+
+-- the digit that a turn reads
+read : (c : tie.After-bit-at Inv-loop μ-loop)
+    → let a = c .before .before .before .before .args in
+    c .bit-at .result ≡ bitOf (now (a .lines)) (level (a .f) (pOf (a .s)) (mOf (a .s)) (a .j) (8 * a .i + c .before .before .before .loop .d))
+read c = c .bit-at .ensures ∙ ap (bitOf (now (c .before .before .before .before .args .lines))) (c .before .level-line .ensures)
+
+loop-again : tie.Need-loop-again Inv-loop μ-loop
+loop-again c =
+    let a = c .before .before .before .before .args in
+    let l = c .before .before .before .loop in (
+      omega arith,
+      ap₂ (λ (x y : ℕ). bitOr x (y * 2 ^ l .d % 256)) (l .inv .1) (read c)
+          ∙ or-digit (λ e. bitOf (now (a .lines)) (level (a .f) (pOf (a .s)) (mOf (a .s)) (a .j) (8 * a .i + e))) (λ e. bitOf-bit _ _) (l .d) 8 (omega arith),
+    )
+
+returns : tie.Need-returns Inv-loop μ-loop
+unfolding byteOf
+returns c =
+    let l = c .before .loop in
+    let e : l .d ≡ 8 = omega arith in
+    l .inv .1 ∙ ap (digitsOf _) e
+
+pub level-byte-spec : {M : Type 1} → statement M
+level-byte-spec =
+    tie.close
+    (tie.spec
+    Inv-loop
+    μ-loop
+    loop-holds
+    mul-level-line
+    add-level-line
+    level-line-requires
+    bit-at-requires
+    shl-acc
+    add-d
+    loop-less
+    loop-again
+    returns)

@@ -1,0 +1,62 @@
+-- `wires::level_item`: the bytes so far are the first of the item.
+use mathlib.Core.Path.{_≡_, refl}
+use Prim.Native.Nat.{_-_, _≤_}
+use native.Mathlib.Omega.{arith}
+use lib.ListN.{length, take, length-set}
+use borrow.Author.Needs.{needs}
+use Rattle.bits.specs.Bits.{bitOf, listed, byteOf}
+use Rattle.bits.proofs.Items.{fill-more, fill-done}
+use Rattle.network.specs.Shifts.{pOf, mOf}
+use Rattle.network.specs.Wired.{level, levelled}
+use Rattle.network.proofs.wires.level_item.Statement.{statement}
+use Rattle.network.proofs.wires.level_item.Tie as tie
+
+abbrev Inv-loop : tie.InvT-loop
+Inv-loop table s f j lines out₀ i₀ out i =
+    (i ≤ 32) × (length out ≡ 32) × (take i out ≡ listed (byteOf (λ k. bitOf lines (level f (pOf s) (mOf s) j k))) i)
+
+abbrev μ-loop : tie.MeasureT-loop
+μ-loop table s f j lines out₀ i₀ out i = 32 - i
+
+loop-holds : tie.Need-loop-holds Inv-loop μ-loop
+unfolding listed
+loop-holds c = (omega arith, refl, refl)
+
+level-byte-requires : tie.Need-level-byte-requires Inv-loop μ-loop
+level-byte-requires c κs = search needs
+
+cast-out : tie.Need-cast-out Inv-loop μ-loop
+cast-out c = search needs
+
+array-write-out : tie.Need-array-write-out Inv-loop μ-loop
+array-write-out c = search needs
+
+add-i : tie.Need-add-i Inv-loop μ-loop
+add-i c = search needs
+
+loop-less : tie.Need-loop-less Inv-loop μ-loop
+loop-less c = search needs
+
+loop-again : tie.Need-loop-again Inv-loop μ-loop
+loop-again c =
+    let l = c .before .before .loop in
+    (omega arith, simp length-set (l .inv .1), fill-more _ (l .out) (l .i) _ (omega arith) (l .inv .2) (c .level-byte .ensures))
+
+returns : tie.Need-returns Inv-loop μ-loop
+unfolding levelled
+returns c = fill-done _ (c .before .loop .out) 32 _ (c .before .loop .inv .1) (omega arith) (c .before .loop .inv .2)
+
+pub level-item-spec : {M : Type 1} → statement M
+level-item-spec =
+    tie.close
+    (tie.spec
+    Inv-loop
+    μ-loop
+    loop-holds
+    level-byte-requires
+    cast-out
+    array-write-out
+    add-i
+    loop-less
+    loop-again
+    returns)

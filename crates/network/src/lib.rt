@@ -1,0 +1,77 @@
+// The flip network, in its arithmetic and its wired form.
+pub mod codes;
+pub mod items;
+mod shift;
+mod tables;
+mod wires;
+
+ghost use mathlib.Core.Path.{_≡_};
+ghost use mathlib.Core.Bool.{true};
+ghost use lib.ListN.{length};
+ghost use Rattle.network.specs.Shifts.{permitted};
+ghost use Rattle.network.specs.Answer.{passedItem, answer};
+
+// What a pass answers: 0 and the passed item, or 10 and a zero item.
+pub struct Passed {
+    pub number: u8,
+    pub item: [u8; 32],
+}
+
+// The item passed, for a caller that has judged `code`. Where nothing is flipped or shifted, no work is done for it.
+pub fn pass_item(lines: &[u8; 32], flip: u8, code: u8) -> [u8; 32]
+    requires { ⌜ permitted code ≡ true ⌝ }
+    ensures { λ r. ⌜ r ≡ passedItem (now (lines .entry)) flip code ⌝ }
+{
+    let flipped = items::flipped(lines, flip);
+    if code == 0 {
+        return flipped;
+    }
+    shift::shift(&flipped, code / 16, code % 16)
+}
+
+// The same pass of a part of a buffer.
+pub fn pass_part(part: &[u8], flip: u8, code: u8) -> [u8; 32]
+    requires { ⌜ (length (now part) ≡ 32) × (permitted code ≡ true) ⌝ }
+    ensures { λ r. ⌜ r ≡ passedItem (now (part .entry)) flip code ⌝ }
+{
+    let lines = items::item_of(part);
+    pass_item(&lines, flip, code)
+}
+
+// A pass in arithmetic form, called by itself.
+pub fn pass(lines: &[u8; 32], flip: u8, code: u8) -> Passed
+    ensures { λ r. ⌜ r ≡ answer (now (lines .entry)) flip code ⌝ }
+{
+    if codes::is_code(code) {
+        let out = pass_item(lines, flip, code);
+        Passed {
+            number: 0,
+            item: out,
+        }
+    } else {
+        Passed {
+            number: 10,
+            item: [0u8; 32],
+        }
+    }
+}
+
+// A pass in wired form, called by itself: the same contract. The table of signals is taken out once.
+pub fn wired_pass(lines: &[u8; 32], flip: u8, code: u8) -> Passed
+    ensures { λ r. ⌜ r ≡ answer (now (lines .entry)) flip code ⌝ }
+{
+    let s = codes::find(code);
+    if s < 37 {
+        let table = tables::signal_table();
+        let out = wires::wired_item(8, &table, s, flip, *lines);
+        Passed {
+            number: 0,
+            item: out,
+        }
+    } else {
+        Passed {
+            number: 10,
+            item: [0u8; 32],
+        }
+    }
+}
