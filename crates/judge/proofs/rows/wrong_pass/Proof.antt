@@ -1,0 +1,18 @@
+-- `judge::rows::wrong_pass`: the callees' contracts put together. Assumes nothing.
+use borrow.Author.Needs.{needs}
+use Rattle.judge.specs.Judge.{wrongPass}
+use Rattle.judge.proofs.rows.wrong_pass.Statement.{statement}
+use Rattle.judge.proofs.rows.wrong_pass.Tie as tie
+
+is-permitted-requires : tie.Need-is-permitted-requires
+is-permitted-requires c κs = search needs
+
+stores-requires : tie.Need-stores-requires
+stores-requires c κs = search needs
+
+returns : tie.Need-returns
+unfolding wrongPass
+returns c = cc
+
+pub wrong-pass-spec : {M : Type 1} → statement M
+wrong-pass-spec = tie.close (tie.spec is-permitted-requires stores-requires returns)

@@ -1,0 +1,155 @@
+-- Instructions, and the number that a run gives back, with its place and its counts. Document 01, Instructions and Numbers given back.
+use mathlib.Core.Bool.{Bool, true, false, cond, not, _&&_, _||_}
+use mathlib.Core.List.{List, [], _∷_}
+use Prim.Native.Nat.{ℕ, suc, _+_, _*_, _/_, _%_}
+use lib.Dec.{eqb, ltb}
+use lib.ListN.{length, getD}
+use Rattle.bits.specs.Search.{first, count}
+use Rattle.network.specs.Shifts.{permitted}
+use Rattle.judge.specs.declared.Instruction.{Instruction}
+use Rattle.judge.specs.declared.Answer.{Answer}
+
+-- ---- instructions
+
+-- Instruction k of a list, 8 bytes each: kind, source, mode tag, mode, global address, flip F, byte 6 (16p + m, or 0 for none), byte 7 (16 × choice + function).
+unfoldable pub instructionAt : List ℕ → ℕ → Instruction
+instructionAt l k =
+    record {
+      kind = getD l (8 * k) 0;
+      source = getD l (8 * k + 1) 0;
+      tag = getD l (8 * k + 2) 0;
+      mode = getD l (8 * k + 3) 0;
+      addr = getD l (8 * k + 4) 0;
+      flip = getD l (8 * k + 5) 0;
+      code = getD l (8 * k + 6) 0;
+      logic = getD l (8 * k + 7) 0;
+    }
+
+-- Kinds 2 and 3 store.
+abbrev pub stores : Instruction → Bool
+stores i = eqb (i .kind) 2 || eqb (i .kind) 3
+
+-- "Kinds 0, 1 and 4 with source 0, and kinds 2 and 3 always, touch memory."
+abbrev pub touches : Instruction → Bool
+touches i = stores i || (eqb (i .source) 0 && (eqb (i .kind) 0 || eqb (i .kind) 1 || eqb (i .kind) 4))
+
+-- "Outside: each use takes the next 32 bytes of the lent items."
+abbrev pub takes : Instruction → Bool
+takes i = eqb (i .source) 4
+
+-- Deliver and resolve put 32 bytes out.
+abbrev pub gives : Instruction → Bool
+gives i = eqb (i .kind) 4 || eqb (i .kind) 5
+
+-- ---- the table's rows
+
+-- "1 / 2: memory is not 8,192 bytes / registers not 96."
+abbrev pub wrongMemory : ℕ → Bool
+wrongMemory n = not (eqb n 8192)
+
+abbrev pub wrongRegisters : ℕ → Bool
+wrongRegisters n = not (eqb n 96)
+
+-- "3: list not a multiple of 8, or over 32,768 bytes. 4: items not a multiple of 32, or over 32,768 bytes."
+abbrev pub unfit : ℕ → ℕ → Bool
+unfit unit n = not (eqb (n % unit) 0) || ltb 32768 n
+
+-- "5: kind over 5."
+unfoldable pub wrongKind : Instruction → Bool
+wrongKind i = ltb 5 (i .kind)
+
+-- "6: source over 4; 0 for kinds 2, 3; not 0 for kind 5."
+unfoldable pub wrongSource : Instruction → Bool
+wrongSource i = ltb 4 (i .source) || (stores i && eqb (i .source) 0) || (eqb (i .kind) 5 && not (eqb (i .source) 0))
+
+-- "7 / 8: memory touched and tag 0 / memory touched and tag over 1."
+unfoldable pub lacksTag : Instruction → Bool
+lacksTag i = touches i && eqb (i .tag) 0
+
+unfoldable pub wrongTag : Instruction → Bool
+wrongTag i = touches i && ltb 1 (i .tag)
+
+-- "9: memory not touched and byte 2, 3 or 4 not 0."
+unfoldable pub idleAccess : Instruction → Bool
+idleAccess i = not (touches i) && (not (eqb (i .tag) 0) || not (eqb (i .mode) 0) || not (eqb (i .addr) 0))
+
+-- "10: byte 6 is none of the 37; not 0 for kinds 2, 3; byte 5 or 6 not 0 for kind 5."
+unfoldable pub wrongPass : Instruction → Bool
+wrongPass i =
+    not (permitted (i .code)) || (stores i && not (eqb (i .code) 0)) || (eqb (i .kind) 5 && (not (eqb (i .flip) 0) || not (eqb (i .code) 0)))
+
+-- "11: kind 0: choice over 4; other kinds: byte 7 not 0."
+unfoldable pub wrongLogic : Instruction → Bool
+wrongLogic i = (eqb (i .kind) 0 && ltb 4 (i .logic / 16)) || (not (eqb (i .kind) 0) && not (eqb (i .logic) 0))
+
+-- "12 / 13: items too few / out buffer too short": instruction k uses an item, or room, and fewer than 32 of the bytes that there are were left by those before it, which used 32 each.
+abbrev pub lacks : (Instruction → Bool) → List ℕ → ℕ → ℕ → Bool
+lacks wants list have k = wants (instructionAt list k) && ltb have (32 * count (λ j. wants (instructionAt list j)) k + 32)
+
+-- What an instruction uses: room in the out buffer (true), or an item (false).
+abbrev pub uses : Bool → Instruction → Bool
+uses true = gives
+uses false = takes
+
+-- ---- the order
+
+-- The number of the first row that holds, where rows are numbered from n on: 0 where none does.
+abbrev pub numbered : ℕ → List Bool → ℕ
+numbered n [] = 0
+numbered n (row ∷ rows) = cond row n (numbered (suc n) rows)
+
+-- "1 to 4": from the lengths of memory, registers, list and items.
+abbrev pub lengthRows : ℕ → ℕ → ℕ → ℕ → List Bool
+lengthRows mem regs list items = wrongMemory mem ∷ wrongRegisters regs ∷ unfit 8 list ∷ unfit 32 items ∷ []
+
+unfoldable pub lengthFault : ℕ → ℕ → ℕ → ℕ → ℕ
+lengthFault mem regs list items = numbered 1 (lengthRows mem regs list items)
+
+-- "Then each instruction in turn, 5 to 11."
+abbrev pub instructionRows : Instruction → List Bool
+instructionRows i = wrongKind i ∷ wrongSource i ∷ lacksTag i ∷ wrongTag i ∷ idleAccess i ∷ wrongPass i ∷ wrongLogic i ∷ []
+
+unfoldable pub faultOf : Instruction → ℕ
+faultOf i = numbered 5 (instructionRows i)
+
+-- Instruction k has one of the numbers 5 to 11.
+abbrev pub faulty : List ℕ → ℕ → Bool
+faulty list k = not (eqb (faultOf (instructionAt list k)) 0)
+
+-- "A refusal has the last three 0."
+abbrev pub refusal : ℕ → ℕ → Answer
+refusal n p = record { number = n; place = p; steps = 0; taken = 0; given = 0 }
+
+-- "Done is 0, place 0; steps is the count of instructions, taken of source 4, given of kinds 4 and 5."
+abbrev pub done : List ℕ → Answer
+done list =
+    record {
+      number = 0;
+      place = 0;
+      steps = length list / 8;
+      taken = count (λ k. takes (instructionAt list k)) (length list / 8);
+      given = count (λ k. gives (instructionAt list k)) (length list / 8);
+    }
+
+-- "Then each instruction in turn, 5 to 11; then 12; then 13. Place is the instruction's number; for 12 and 13 the first that lacks its item or room." (Numbers from 0: docs/DECISIONS.md.)
+unfoldable pub judgedList : List ℕ → ℕ → ℕ → Answer
+judgedList list items out =
+    let n = length list / 8 in
+    let bad = first (faulty list) 0 n in
+    let item = first (lacks takes list items) 0 n in
+    let room = first (lacks gives list out) 0 n in
+    cond (ltb bad n) (refusal (faultOf (instructionAt list bad)) bad)
+    (cond (ltb item n) (refusal 12 item)
+    (cond (ltb room n) (refusal 13 room)
+    (done list)))
+
+-- What a run gives back, from the lengths of memory and registers, the list, and the lengths of items and out buffer. "Order: 1 to 4 (place 0)", then the list.
+unfoldable pub judged : ℕ → ℕ → List ℕ → ℕ → ℕ → Answer
+judged mem regs list items out =
+    let wrong = lengthFault mem regs (length list) items in
+    cond (not (eqb wrong 0)) (refusal wrong 0) (judgedList list items out)
+
+-- What a step gives back. Document 01, Memory: it "answers, refuses and leaves its buffers as a run of a list of that one instruction does. Its instruction is exactly 8 bytes, else 3": after 1, before 4.
+unfoldable pub judgedStep : ℕ → List ℕ → ℕ → ℕ → Answer
+judgedStep mem instruction items out =
+    cond (eqb mem 8192 && not (eqb (length instruction) 8)) (refusal 3 0) (judged mem 96 instruction items out)

@@ -1,0 +1,3 @@
+-- Instructions and the judge: what the contracts of this crate and of those above it cite.
+pub mod Judge
+pub mod Steps

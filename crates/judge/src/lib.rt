@@ -1,0 +1,131 @@
+// The judge: the number that a run gives back, with its place and its counts, from the lengths and the list alone. Document 01, Numbers given back.
+pub mod lists;
+pub mod rows;
+
+ghost use mathlib.Core.Path.{_≡_};
+ghost use Prim.Native.Nat.{_+_, _*_, _/_, _<_, _≤_};
+ghost use lib.ListN.{length};
+ghost use Rattle.judge.specs.Judge.{instructionAt, unfit, lengthFault, refusal, judgedList, judged, judgedStep};
+
+// An instruction, its eight bytes in order.
+pub struct Instruction {
+    pub kind: u8,
+    pub source: u8,
+    pub tag: u8,
+    pub mode: u8,
+    pub addr: u8,
+    pub flip: u8,
+    pub code: u8,
+    pub logic: u8,
+}
+
+// What a run gives back.
+pub struct Answer {
+    pub number: u8,
+    pub place: usize,
+    pub steps: usize,
+    pub taken: usize,
+    pub given: usize,
+}
+
+// The first instruction that lacks its item, or its room, and how many before it use one.
+pub struct Short {
+    pub place: usize,
+    pub used: usize,
+}
+
+// Instruction `k` of a list.
+pub fn decode(list: &[u8], k: usize) -> Instruction
+    requires { ⌜ 8 * k + 8 ≤ length (now list) ⌝ }
+    ensures { λ r. ⌜ r ≡ instructionAt (now (list .entry)) k ⌝ }
+{
+    let at = 8 * k;
+    Instruction {
+        kind: list[at],
+        source: list[at + 1],
+        tag: list[at + 2],
+        mode: list[at + 3],
+        addr: list[at + 4],
+        flip: list[at + 5],
+        code: list[at + 6],
+        logic: list[at + 7],
+    }
+}
+
+// Not a multiple of `unit`, or over 32,768?
+fn unfit(unit: usize, size: usize) -> bool
+    requires { ⌜ 0 < unit ⌝ }
+    ensures { λ r. ⌜ r ≡ unfit unit size ⌝ }
+{
+    !(size % unit == 0) | (size > 32768)
+}
+
+// The number of the lengths, 1 to 4: 0 where they have none.
+fn length_fault(memory: usize, registers: usize, list: usize, items: usize) -> u8
+    ensures { λ r. ⌜ r ≡ lengthFault memory registers list items ⌝ }
+{
+    let from4 = rows::number_or(unfit(32, items), 4, 0);
+    let from3 = rows::number_or(unfit(8, list), 3, from4);
+    let from2 = rows::number_or(!(registers == 96), 2, from3);
+    rows::number_or(!(memory == 8192), 1, from2)
+}
+
+fn refused(number: u8, place: usize) -> Answer
+    ensures { λ r. ⌜ r ≡ refusal number place ⌝ }
+{
+    Answer {
+        number: number,
+        place: place,
+        steps: 0,
+        taken: 0,
+        given: 0,
+    }
+}
+
+// Each instruction in turn, 5 to 11; then 12; then 13.
+fn judge_list(list: &[u8], items: usize, out: usize) -> Answer
+    requires { ⌜ length (now list) ≤ 32768 ⌝ }
+    ensures { λ r. ⌜ r ≡ judgedList (now (list .entry)) items out ⌝ }
+{
+    let n = list.len() / 8;
+    let bad = lists::first_fault(list);
+    if bad < n {
+        return refused(rows::fault(decode(list, bad)), bad);
+    }
+    let item = lists::shortage(false, list, items);
+    if item.place < n {
+        return refused(12, item.place);
+    }
+    let room = lists::shortage(true, list, out);
+    if room.place < n {
+        return refused(13, room.place);
+    }
+    Answer {
+        number: 0,
+        place: 0,
+        steps: n,
+        taken: item.used,
+        given: room.used,
+    }
+}
+
+// What a run gives back.
+pub fn judge(memory: usize, registers: usize, list: &[u8], items: usize, out: usize) -> Answer
+    ensures { λ r. ⌜ r ≡ judged memory registers (now (list .entry)) items out ⌝ }
+{
+    let wrong = length_fault(memory, registers, list.len(), items);
+    if wrong != 0 {
+        return refused(wrong, 0);
+    }
+    judge_list(list, items, out)
+}
+
+// What a step gives back: a run's answer for its one instruction, which is exactly 8 bytes, else 3.
+pub fn judge_step(memory: usize, instruction: &[u8], items: usize, out: usize) -> Answer
+    ensures { λ r. ⌜ r ≡ judgedStep memory (now (instruction .entry)) items out ⌝ }
+{
+    if (memory == 8192) & !(instruction.len() == 8) {
+        return refused(3, 0);
+    }
+    judge(memory, 96, instruction, items, out)
+}

@@ -1,0 +1,114 @@
+// The rows of the table that look at one instruction, 5 to 11, each as the document words it.
+use crate::Instruction;
+ghost use mathlib.Core.Path.{_≡_};
+ghost use mathlib.Core.Bool.{cond};
+ghost use Rattle.network.specs.Shifts.{permitted};
+ghost use Rattle.judge.specs.Judge.{stores, touches, wrongKind, wrongSource, lacksTag, wrongTag, idleAccess, wrongPass, wrongLogic, faultOf, takes, gives};
+
+fn stores(i: Instruction) -> bool
+    ensures { λ r. ⌜ r ≡ stores i ⌝ }
+{
+    (i.kind == 2) | (i.kind == 3)
+}
+
+// Does it touch memory?
+fn touches(i: Instruction) -> bool
+    ensures { λ r. ⌜ r ≡ touches i ⌝ }
+{
+    stores(i) | ((i.source == 0) & ((i.kind == 0) | (i.kind == 1) | (i.kind == 4)))
+}
+
+// Is byte 6 one of the 37? Most instructions have none, which needs no search.
+fn is_permitted(code: u8) -> bool
+    ensures { λ r. ⌜ r ≡ permitted code ⌝ }
+{
+    if code == 0 {
+        return true;
+    }
+    network::codes::is_code(code)
+}
+
+// 5
+fn wrong_kind(i: Instruction) -> bool
+    ensures { λ r. ⌜ r ≡ wrongKind i ⌝ }
+{
+    i.kind > 5
+}
+
+// 6
+fn wrong_source(i: Instruction) -> bool
+    ensures { λ r. ⌜ r ≡ wrongSource i ⌝ }
+{
+    (i.source > 4) | (stores(i) & (i.source == 0)) | ((i.kind == 5) & !(i.source == 0))
+}
+
+// 7
+fn lacks_tag(i: Instruction) -> bool
+    ensures { λ r. ⌜ r ≡ lacksTag i ⌝ }
+{
+    touches(i) & (i.tag == 0)
+}
+
+// 8
+fn wrong_tag(i: Instruction) -> bool
+    ensures { λ r. ⌜ r ≡ wrongTag i ⌝ }
+{
+    touches(i) & (i.tag > 1)
+}
+
+// 9
+fn idle_access(i: Instruction) -> bool
+    ensures { λ r. ⌜ r ≡ idleAccess i ⌝ }
+{
+    !touches(i) & (!(i.tag == 0) | !(i.mode == 0) | !(i.addr == 0))
+}
+
+// 10
+fn wrong_pass(i: Instruction) -> bool
+    ensures { λ r. ⌜ r ≡ wrongPass i ⌝ }
+{
+    !is_permitted(i.code)
+        | (stores(i) & !(i.code == 0))
+        | ((i.kind == 5) & (!(i.flip == 0) | !(i.code == 0)))
+}
+
+// 11
+fn wrong_logic(i: Instruction) -> bool
+    ensures { λ r. ⌜ r ≡ wrongLogic i ⌝ }
+{
+    ((i.kind == 0) & (i.logic / 16 > 4)) | (!(i.kind == 0) & !(i.logic == 0))
+}
+
+// A row's number where the row holds, else what the rows after it give.
+pub fn number_or(row: bool, number: u8, rest: u8) -> u8
+    ensures { λ r. ⌜ r ≡ cond row number rest ⌝ }
+{
+    if row { number } else { rest }
+}
+
+// The number of an instruction, 5 to 11: 0 where it has none.
+pub fn fault(i: Instruction) -> u8
+    ensures { λ r. ⌜ r ≡ faultOf i ⌝ }
+{
+    let from11 = number_or(wrong_logic(i), 11, 0);
+    let from10 = number_or(wrong_pass(i), 10, from11);
+    let from9 = number_or(idle_access(i), 9, from10);
+    let from8 = number_or(wrong_tag(i), 8, from9);
+    let from7 = number_or(lacks_tag(i), 7, from8);
+    let from6 = number_or(wrong_source(i), 6, from7);
+    number_or(wrong_kind(i), 5, from6)
+}
+
+// Does it take an item?
+pub fn takes(i: Instruction) -> bool
+    ensures { λ r. ⌜ r ≡ takes i ⌝ }
+{
+    i.source == 4
+}
+
+// Does it give one?
+pub fn gives(i: Instruction) -> bool
+    ensures { λ r. ⌜ r ≡ gives i ⌝ }
+{
+    (i.kind == 4) | (i.kind == 5)
+}

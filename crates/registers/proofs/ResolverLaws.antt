@@ -1,0 +1,102 @@
+-- The smallest line of a search by bytes, by the trailing zeros of the first byte that is not 0; what the resolver's answer says. Assumes nothing.
+use mathlib.Core.Path.{_≡_, refl, sym, ap, _∙_}
+use mathlib.Core.Bool.{Bool, false}
+use mathlib.Core.List.{List}
+use mathlib.Core.Logic.{_≢_}
+use Prim.Native.Nat.{ℕ, zero, suc, _+_, _-_, _*_, _/_, _%_, _^_, _<_, _≤_}
+use native.Mathlib.Nat.{div-div-eq-div-mul, div-one, pow-suc, pow-succ', zero-div}
+use native.Mathlib.Decide.{decLt}
+use native.Mathlib.Omega.{arith}
+use lib.Count.{trailingZeros, under}
+use lib.Dec.{eqb}
+use lib.ListN.{getD}
+use borrow.Author.Tests.{eqb-true, eqb-false}
+use Rattle.bits.specs.Bits.{digit, bitOf}
+use Rattle.bits.specs.Search.{first}
+use Rattle.bits.proofs.Items.{bitOf-at}
+use Rattle.bits.proofs.Search.{NoneBelow, found, found-none, found-at, none-found}
+use Rattle.registers.specs.Resolver.{smallest}
+
+-- ---- trailing zeros: the lowest digit that is 1
+
+digit-half : (x j : ℕ) → digit x (suc j) ≡ digit (x / 2) j
+digit-half x j = ap (λ (y : ℕ). x / y % 2) (pow-succ' 2 j) ∙ sym (ap (λ (y : ℕ). y % 2) (div-div-eq-div-mul x 2 (2 ^ j)))
+
+-- of a number that is not 0 and below 2 ^ n, digit trailingZeros is 1, and is below n
+pub trailing-one : (n x : ℕ) → 0 < x → x < 2 ^ n → (trailingZeros n x < n) × (digit x (trailingZeros n x) ≡ 1)
+unfolding trailingZeros
+trailing-one zero x p h = absurd (omega arith)
+trailing-one (suc n) x p h =
+    let e : 2 ^ suc n ≡ 2 ^ n * 2 = pow-suc 2 n in
+    go (x % 2) refl (λ z. trailing-one n (x / 2) (omega arith) (omega arith))
+  where
+    go : (r : ℕ) → x % 2 ≡ r → (x % 2 ≡ 0 → (trailingZeros n (x / 2) < n) × (digit (x / 2) (trailingZeros n (x / 2)) ≡ 1))
+        → (under r (trailingZeros n (x / 2)) < suc n) × (digit x (under r (trailingZeros n (x / 2))) ≡ 1)
+    go zero e ih = let l = ih e .0 in (omega arith, digit-half x (trailingZeros n (x / 2)) ∙ ih e .1)
+    go (suc r) e ih = (omega arith, ap (λ (y : ℕ). y % 2) (div-one x) ∙ omega arith)
+
+-- and the digits below it are 0
+pub trailing-zero : (n x j : ℕ) → j < trailingZeros n x → digit x j ≡ 0
+unfolding trailingZeros
+trailing-zero zero x j h = absurd (omega arith)
+trailing-zero (suc n) x j h = go (x % 2) refl j h (λ i. trailing-zero n (x / 2) i)
+  where
+    go : (r : ℕ) → x % 2 ≡ r → (j : ℕ) → j < under r (trailingZeros n (x / 2)) → ((i : ℕ) → i < trailingZeros n (x / 2) → digit (x / 2) i ≡ 0) → digit x j ≡ 0
+    go zero e zero h ih = ap (λ (y : ℕ). y % 2) (div-one x) ∙ e
+    go zero e (suc j) h ih = digit-half x j ∙ ih j (omega arith)
+    go (suc r) e j h ih = absurd (omega arith)
+
+-- ---- a search by bytes
+
+abbrev isOne : List ℕ → ℕ → Bool
+isOne y k = eqb (bitOf y k) 1
+
+-- no line below 8 i is 1
+abbrev pub NoneTo : List ℕ → ℕ → Type 0
+NoneTo y i = NoneBelow (isOne y) (8 * i)
+
+module _ (y : List ℕ) (i : ℕ) (before : NoneTo y i) where
+  -- number k from 8 i on is digit k - 8 i of byte i
+  within : (k : ℕ) → 8 * i ≤ k → k < 8 * i + 8 → bitOf y k ≡ digit (getD y i 0) (k - 8 * i)
+  within k l h =
+      let e : k ≡ 8 * i + (k - 8 * i) = omega arith in
+      ap (bitOf y) e ∙ bitOf-at y i (k - 8 * i) (omega arith)
+
+  zero-at : (k : ℕ) → 8 * i ≤ k → k < 8 * i + 8 → digit (getD y i 0) (k - 8 * i) ≡ 0 → isOne y k ≡ false
+  zero-at k l h e = ap (λ (x : ℕ). eqb x 1) (within k l h ∙ e)
+
+  -- a byte that is 0 is passed
+  pub skip-byte : getD y i 0 ≡ 0 → NoneTo y (i + 1)
+  skip-byte e k h = go (decLt k (8 * i))
+    where
+      go : Dec (k < 8 * i) → isOne y k ≡ false
+      go (yes q) = before k q
+      go (no q) = zero-at k (omega arith) (omega arith) (ap (λ (x : ℕ). digit x (k - 8 * i)) e ∙ ap (λ (x : ℕ). x % 2) (zero-div (2 ^ (k - 8 * i))))
+
+  -- a byte that is not has the smallest
+  pub hit-byte : i < 32 → 0 < getD y i 0 → getD y i 0 < 256 → 8 * i + trailingZeros 8 (getD y i 0) ≡ smallest (bitOf y)
+  unfolding smallest
+  hit-byte hi p h =
+      let o = trailing-one 8 (getD y i 0) p h in
+      found (isOne y) 256 (8 * i + trailingZeros 8 (getD y i 0)) (omega (arith, o .0)) (λ k q. go k q (decLt k (8 * i)))
+      (ap (λ (x : ℕ). eqb x 1) (bitOf-at y i (trailingZeros 8 (getD y i 0)) (omega (arith, o .0)) ∙ o .1))
+    where
+      go : (k : ℕ) → k < 8 * i + trailingZeros 8 (getD y i 0) → Dec (k < 8 * i) → isOne y k ≡ false
+      go k q (yes u) = before k u
+      go k q (no u) =
+          zero-at k (omega arith) (omega (arith, trailing-one 8 (getD y i 0) p h .0)) (trailing-zero 8 (getD y i 0) (k - 8 * i) (omega arith))
+
+-- where all 32 bytes were passed there is none
+pub all-passed : (y : List ℕ) (i : ℕ) → i ≡ 32 → NoneTo y i → 256 ≡ smallest (bitOf y)
+unfolding smallest
+all-passed y i e before = found-none (isOne y) 256 (λ k h. before k (omega arith))
+
+-- ---- what the resolver's answer says: it is below 256 exactly where a line is 1, and then it is the smallest such line
+
+pub smallest-at : (y : ℕ → ℕ) → smallest y < 256 → y (smallest y) ≡ 1
+unfolding smallest
+smallest-at y h = eqb-true (y (first (λ k. eqb (y k) 1) 0 256)) 1 (found-at (λ k. eqb (y k) 1) 256 h)
+
+pub smallest-none : (y : ℕ → ℕ) (k : ℕ) → k < smallest y → y k ≢ 1
+unfolding smallest
+smallest-none y k h = eqb-false (y k) 1 (none-found (λ k. eqb (y k) 1) 256 k h)

@@ -1,0 +1,50 @@
+-- `registers::bytes::x_byte`: the digits of 5 and 29 are the lines that a choice writes, as `mask-X` says. Assumes nothing.
+use mathlib.Core.Path.{refl, ap, _∙_}
+use mathlib.Core.Bool.{Bool, cond}
+use Prim.Native.Nat.{_/_, _%_}
+use Rattle.bits.specs.Bits.{digit}
+use Rattle.bits.proofs.Binary.{digit-bit}
+use Rattle.registers.specs.Logic.{functionBit, newX}
+use Rattle.registers.proofs.LogicLaws.{spread-at, mixed-of, mask-X}
+use borrow.Author.Needs.{needs}
+use native.Mathlib.Omega.{arith}
+use Rattle.registers.proofs.bytes.x_byte.Statement.{statement}
+use Rattle.registers.proofs.bytes.x_byte.Tie as tie
+
+spread-requires : tie.Need-spread-requires
+spread-requires c κs = search needs
+
+spread-requires-2 : tie.Need-spread-requires-2
+spread-requires-2 c κs = search needs
+
+mix-requires : tie.Need-mix-requires
+mix-requires c κs = search needs
+
+function-byte-requires : tie.Need-function-byte-requires
+function-byte-requires c κs = search needs
+
+mix-requires-2 : tie.Need-mix-requires-2
+mix-requires-2 c κs = search needs
+
+returns : tie.Need-returns
+unfolding newX
+returns c j h =
+    let c4 = c .before in
+    let c3 = c4 .before in
+    let c2 = c3 .before in
+    let c1 = c2 .before in
+    let a = c1 .before .args in
+    mixed-of (a .x) _ _ _ j _ _ _ (c .mix2 .ensures) refl (c4 .function-byte .ensures j h)
+    (mixed-of _ _ (a .y) _ j _ _ _ (c3 .mix .ensures) (spread-at _ 5 (a .byte7 / 16) j (c1 .spread .ensures) h) (spread-at _ 29 (a .byte7 / 16) j (c2 .spread2 .ensures) h) refl)
+    ∙ ap (λ (b : Bool). cond b (functionBit (a .byte7 % 16) (digit (a .x) j) (digit (a .item) j)) (digit (a .x) j)) (mask-X (a .byte7 / 16) (digit-bit (a .y) j) (omega arith))
+
+pub x-byte-spec : {M : Type 1} → statement M
+x-byte-spec =
+    tie.close
+    (tie.spec
+    spread-requires
+    spread-requires-2
+    mix-requires
+    function-byte-requires
+    mix-requires-2
+    returns)

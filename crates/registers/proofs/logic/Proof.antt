@@ -1,0 +1,102 @@
+-- `registers::logic`: the loop fills both new rows at once; a byte of each is what `byte-X` and `byte-Y` say. Assumes nothing.
+use mathlib.Core.Path.{_≡_, refl, ap₂}
+use mathlib.Core.List.{List}
+use Prim.Native.Nat.{ℕ, _≤_, _-_}
+use denote.Ref.{now}
+use lib.ListN.{length, take, length-set}
+use Rattle.bits.specs.Bits.{bitOf, listed, pack}
+use Rattle.bits.proofs.Items.{fill-more, fill-done}
+use Rattle.registers.specs.declared.Registers.{Registers}
+use Rattle.registers.specs.Logic.{newX, newY, logicOf}
+use Rattle.registers.proofs.LogicLaws.{byte-X, byte-Y}
+use borrow.Author.Needs.{needs}
+use native.Mathlib.Omega.{arith}
+use Rattle.registers.proofs.logic.Statement.{statement}
+use Rattle.registers.proofs.logic.Tie as tie
+
+abbrev Inv-loop : tie.InvT-loop
+Inv-loop item byte7 m x y nx₀ ny₀ i₀ nx ny i =
+    (i ≤ 32) × (length nx ≡ 32) × (length ny ≡ 32)
+    × (take i nx ≡ pack (λ k. newX byte7 (bitOf x k) (bitOf y k) (bitOf item k)) i)
+    × (take i ny ≡ pack (λ k. newY byte7 (bitOf y k) (bitOf item k)) i)
+
+abbrev μ-loop : tie.MeasureT-loop
+μ-loop item byte7 m x y nx₀ ny₀ i₀ nx ny i = 32 - i
+
+loop-holds : tie.Need-loop-holds Inv-loop μ-loop
+unfolding listed
+loop-holds c = (omega arith, refl, refl, refl, refl)
+
+array-read-old : tie.Need-array-read-old Inv-loop μ-loop
+array-read-old c = search needs
+
+element-copy-out-y-byte : tie.Need-element-copy-out-y-byte Inv-loop μ-loop
+element-copy-out-y-byte c = search needs
+
+y-byte-requires : tie.Need-y-byte-requires Inv-loop μ-loop
+y-byte-requires c κs = search needs
+
+array-read-x-byte : tie.Need-array-read-x-byte Inv-loop μ-loop
+array-read-x-byte c = search needs
+
+element-copy-out-x-byte : tie.Need-element-copy-out-x-byte Inv-loop μ-loop
+element-copy-out-x-byte c = search needs
+
+x-byte-requires : tie.Need-x-byte-requires Inv-loop μ-loop
+x-byte-requires c κs = search needs
+
+array-write-nx : tie.Need-array-write-nx Inv-loop μ-loop
+array-write-nx c = search needs
+
+array-write-ny : tie.Need-array-write-ny Inv-loop μ-loop
+array-write-ny c = search needs
+
+add-i : tie.Need-add-i Inv-loop μ-loop
+add-i c = omega arith
+
+loop-less : tie.Need-loop-less Inv-loop μ-loop
+loop-less c = omega arith
+
+loop-again : tie.Need-loop-again Inv-loop μ-loop
+loop-again c =
+    let q = c .before .before in
+    let p = q .before .before .before in
+    let a = p .before .before .before .before .args in
+    let l = p .loop in (
+      omega arith,
+      simp length-set (l .inv .1),
+      simp length-set (l .inv .2),
+      fill-more _ (l .nx) (l .i) _ (omega arith) (l .inv .3)
+          (byte-X (a .byte7) (a .r .x) (a .r .y) (now (a .item)) (l .i) (c .x-byte .result) (omega arith) (c .x-byte .ensures)),
+      fill-more _ (l .ny) (l .i) _ (omega arith) (l .inv .4)
+          (byte-Y (a .byte7) (a .r .x) (a .r .y) (now (a .item)) (l .i) (q .y-byte .result) (omega arith) (q .y-byte .ensures)),
+    )
+
+returns : tie.Need-returns Inv-loop μ-loop
+unfolding logicOf
+returns c =
+    let l = c .before .loop in
+    let m = c .before .before .before .before .before .args .r .m in
+    ap₂ {A = List ℕ} {B = List ℕ} {C = Registers} (λ (p q : List ℕ). record { m = m; x = p; y = q })
+    (fill-done _ (l .nx) 32 (l .i) (l .inv .1) (omega arith) (l .inv .3))
+    (fill-done _ (l .ny) 32 (l .i) (l .inv .2) (omega arith) (l .inv .4))
+
+pub logic-spec : {M : Type 1} → statement M
+logic-spec =
+    tie.close
+    (tie.spec
+    Inv-loop
+    μ-loop
+    loop-holds
+    array-read-old
+    element-copy-out-y-byte
+    y-byte-requires
+    array-read-x-byte
+    element-copy-out-x-byte
+    x-byte-requires
+    array-write-nx
+    array-write-ny
+    add-i
+    loop-less
+    loop-again
+    returns)
