@@ -1,0 +1,94 @@
+-- An act, from what its parts leave; what the judge has seen to before it. Assumes nothing.
+use mathlib.Core.Path.{_≡_, refl, sym, ap, _∙_}
+use mathlib.Core.Bool.{Bool, true, false, cond, _||_, false≢true}
+use mathlib.Core.List.{List}
+use Prim.Native.Nat.{ℕ, zero, suc, _+_, _<_, _≤_}
+use native.Mathlib.Omega.{arith}
+use native.Mathlib.Decide.{ℕ-discrete}
+use lib.Dec.{eqb}
+use Rattle.bits.specs.Bits.{bitOf, item}
+use Rattle.bits.proofs.Items.{bitOf-bit, bitOf-pack}
+use Rattle.memory.specs.Memory.{stored, maskOf}
+use Rattle.memory.proofs.MemoryLaws.{stored-ext}
+use Rattle.network.specs.Answer.{passedItem}
+use Rattle.registers.specs.declared.Registers.{Registers}
+use Rattle.registers.specs.Resolver.{resolved}
+use Rattle.judge.specs.declared.Instruction.{Instruction}
+use Rattle.judge.specs.Judge.{takes, gives}
+use Rattle.module.specs.Act.{State, partAt, putPart, held, heldItem, sourceItem, passedBy, regsAfter, memAfter, outAfter, after, acted}
+
+-- ---- the source
+
+pub held-y : (n mode addr : ℕ) (mem : List ℕ) (r : Registers) → 3 ≤ n → r .y ≡ held n mode addr mem r
+held-y zero mode addr mem r h = absurd (omega arith)
+held-y (suc zero) mode addr mem r h = absurd (omega arith)
+held-y (suc (suc zero)) mode addr mem r h = absurd (omega arith)
+held-y (suc (suc (suc n))) mode addr mem r h = refl
+
+-- ---- the passed item
+
+module _ (i : Instruction) (mem items : List ℕ) (r : Registers) (taken : ℕ) where
+  pub passed-outside : takes i ≡ true → (x : List ℕ) → x ≡ partAt items taken → passedItem x (i .flip) (i .code) ≡ passedBy i mem items r taken
+  unfolding passedBy sourceItem
+  passed-outside t x e = ap (λ (l : List ℕ). passedItem l (i .flip) (i .code)) (e ∙ sym (ap (λ (b : Bool). cond b (partAt items taken) (heldItem i mem r)) t))
+
+  pub passed-held : takes i ≡ false → (x : List ℕ) → x ≡ heldItem i mem r → passedItem x (i .flip) (i .code) ≡ passedBy i mem items r taken
+  unfolding passedBy sourceItem
+  passed-held t x e = ap (λ (l : List ℕ). passedItem l (i .flip) (i .code)) (e ∙ sym (ap (λ (b : Bool). cond b (partAt items taken) (heldItem i mem r)) t))
+
+-- ---- a masked store by an item of mask bits
+
+mask-bits : (m : List ℕ) (f p : ℕ) → p < 256 → bitOf (item (maskOf m f)) p ≡ maskOf m f p
+mask-bits m f p h = bitOf-pack (maskOf m f) (λ k. bitOf-bit m _) 32 p h
+
+pub stored-by-mask : (mem : List ℕ) (mode addr : ℕ) (m f mask : List ℕ) (flip : ℕ) → addr < 256 → mask ≡ item (maskOf m flip)
+    → stored mem mode addr (bitOf mask) (bitOf f) ≡ stored mem mode addr (maskOf m flip) (bitOf f)
+stored-by-mask mem mode addr m f mask flip h e =
+    ap (λ (k : List ℕ). stored mem mode addr (bitOf k) (bitOf f)) e
+    ∙ stored-ext mem mode addr (bitOf (item (maskOf m flip))) (maskOf m flip) (bitOf f) (bitOf f) h (mask-bits m flip) (λ p l. refl)
+
+-- ---- the out buffer
+
+module _ (i : Instruction) (out : List ℕ) (given : ℕ) (f y : List ℕ) where
+  pub put-out : gives i ≡ true → (x : List ℕ) → x ≡ cond (eqb (i .kind) 4) f (resolved (bitOf y)) → putPart out given x ≡ outAfter i out given f y
+  unfolding outAfter
+  put-out t x e = ap (putPart out given) e ∙ go (eqb (i .kind) 4) (eqb (i .kind) 5) t
+    where
+      go : (a b : Bool) → (a || b) ≡ true
+          → putPart out given (cond a f (resolved (bitOf y))) ≡ cond a (putPart out given f) (cond b (putPart out given (resolved (bitOf y))) out)
+      go true b t = refl
+      go false true t = refl
+      go false false t = absurd (false≢true t)
+
+  pub no-out : gives i ≡ false → out ≡ outAfter i out given f y
+  unfolding outAfter
+  no-out t = go (eqb (i .kind) 4) (eqb (i .kind) 5) t
+    where
+      go : (a b : Bool) → (a || b) ≡ false → out ≡ cond a (putPart out given f) (cond b (putPart out given (resolved (bitOf y))) out)
+      go true b t = absurd (false≢true (sym t))
+      go false true t = absurd (false≢true (sym t))
+      go false false t = refl
+
+-- ---- an act
+
+-- a resolve looks at no item
+resolve-any : (i : Instruction) (f g : List ℕ) (s : State) → i .kind ≡ 5 → after i f s ≡ after i g s
+unfolding memAfter outAfter regsAfter
+resolve-any i f g s e = simp (ap (λ (k : ℕ). eqb k 0) e, ap (λ (k : ℕ). eqb k 1) e, ap (λ (k : ℕ). eqb k 2) e, ap (λ (k : ℕ). eqb k 3) e, ap (λ (k : ℕ). eqb k 4) e)
+
+pub act-is : (i : Instruction) (items : List ℕ) (s : State) (f m o : List ℕ) (r : Registers) (t g : ℕ)
+    → ((i .kind ≡ 5 → ⊥) → f ≡ passedBy i (s .mem) items (s .regs) (s .taken))
+    → m ≡ memAfter i (s .mem) (s .regs .m) f
+    → o ≡ outAfter i (s .out) (s .given) f (s .regs .y)
+    → r ≡ regsAfter i (s .regs) f
+    → t ≡ cond (takes i) 1 0 → g ≡ cond (gives i) 1 0
+    → _≡_ {A = State} (record { mem = m; out = o; regs = r; taken = s .taken + t; given = s .given + g }) (acted i items s)
+unfolding acted
+act-is i items s f m o r t g ef em eo er et eg = parts ∙ same (ℕ-discrete (i .kind) 5)
+  where
+    parts : _≡_ {A = State} (record { mem = m; out = o; regs = r; taken = s .taken + t; given = s .given + g }) (after i f s)
+    parts = λ j. record { mem = em j; out = eo j; regs = er j; taken = s .taken + et j; given = s .given + eg j }
+
+    same : Dec (i .kind ≡ 5) → after i f s ≡ after i (passedBy i (s .mem) items (s .regs) (s .taken)) s
+    same (yes e) = resolve-any i f (passedBy i (s .mem) items (s .regs) (s .taken)) s e
+    same (no u) = ap (λ (x : List ℕ). after i x s) (ef u)

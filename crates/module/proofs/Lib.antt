@@ -1,0 +1,5 @@
+-- Laws of the definitions in specs/, for the proofs of this crate and of those above it.
+pub mod PartLaws
+pub mod ActLaws
+pub mod RunLaws
+pub mod StepLaws

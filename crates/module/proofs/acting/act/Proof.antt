@@ -1,0 +1,80 @@
+-- `acting::act`: what its parts leave, put together by `act-is`. Assumes nothing.
+use mathlib.Core.Path.{ap, _∙_}
+use mathlib.Core.Bool.{Bool, cond}
+use denote.Ref.{now}
+use Rattle.judge.proofs.Accepted.{well-formed}
+use Rattle.module.specs.Act.{State}
+use Rattle.module.proofs.ActLaws.{act-is}
+use borrow.Author.Needs.{needs}
+use native.Mathlib.Omega.{arith}
+use Rattle.module.proofs.acting.act.Statement.{statement}
+use Rattle.module.proofs.acting.act.Tie as tie
+
+passed-item-requires : tie.Need-passed-item-requires
+passed-item-requires c κs =
+    let s = c .before .before .before .before in
+    let w = well-formed (s .args .i) (s .pre .formed) in
+    (s .pre .memory, w .source, w .code, s .pre .supplied)
+
+keep-requires : tie.Need-keep-requires
+keep-requires c κs = search needs
+
+deliver-requires : tie.Need-deliver-requires
+deliver-requires c κs = search needs
+
+turn-requires : tie.Need-turn-requires
+turn-requires c κs = well-formed (c .before .before .before .before .before .before .before .before .before .before .before .before .before .before .before .before .before .before .before .before .args .i) (c .before .before .before .before .before .before .before .before .before .before .before .before .before .before .before .before .before .before .before .before .pre .formed) .logic
+
+takes-requires : tie.Need-takes-requires
+takes-requires c κs = search needs
+
+gives-requires : tie.Need-gives-requires
+gives-requires c κs = search needs
+
+one-if-requires : tie.Need-one-if-requires
+one-if-requires c κs = search needs
+
+add-used : tie.Need-add-used
+add-used c = omega (arith, c .before .before .before .before .before .before .before .before .before .before .before .before .before .before .before .before .before .before .before .before .before .before .before .before .pre .few-taken, c .one-if .ensures .1)
+
+one-if-requires-2 : tie.Need-one-if-requires-2
+one-if-requires-2 c κs = search needs
+
+add-put : tie.Need-add-put
+add-put c = omega (arith, c .before .before .before .before .before .before .before .before .before .before .before .before .before .before .before .before .before .before .before .before .before .before .before .before .before .pre .few-given, c .one-if2 .ensures .1)
+
+same-length : tie.Need-same-length
+same-length c = search needs
+
+same-length-2 : tie.Need-same-length-2
+same-length-2 c = search needs
+
+returns : tie.Need-returns
+returns c =
+    let turned = c .before .before .before .before in
+    let delivered = turned .before .before .before .before in
+    let kept = delivered .before .before .before .before .before .before in
+    let passed = kept .before .before .before .before .before .before in
+    let a = passed .before .before .before .before .before .args in
+    let s : State = record { mem = now (a .mem); out = now (a .out); regs = a .r; taken = a .taken; given = a .given } in
+    act-is (a .i) (now (a .items)) s _ _ _ _ _ _ (passed .passed-item .ensures) (kept .keep .ensures) (delivered .deliver .ensures) (turned .turn .ensures)
+    (c .before .one-if .ensures .0 ∙ ap (λ (b : Bool). cond b 1 0) (c .before .before .before .takes .ensures))
+    (c .one-if2 .ensures .0 ∙ ap (λ (b : Bool). cond b 1 0) (c .before .before .gives .ensures))
+
+pub act-spec : {M : Type 1} → statement M
+act-spec =
+    tie.close
+    (tie.spec
+    passed-item-requires
+    keep-requires
+    deliver-requires
+    turn-requires
+    takes-requires
+    gives-requires
+    one-if-requires
+    add-used
+    one-if-requires-2
+    add-put
+    same-length
+    same-length-2
+    returns)

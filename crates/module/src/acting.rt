@@ -1,0 +1,138 @@
+// What one instruction does: its source item makes one pass, and then goes into the registers, the memory or the out buffer.
+use crate::parts;
+use judge::Instruction;
+use registers::Registers;
+ghost use mathlib.Core.Path.{_≡_};
+ghost use mathlib.Core.Bool.{true, cond};
+ghost use Prim.Native.Nat.{_+_, _*_, _<_, _≤_};
+ghost use lib.Dec.{eqb};
+ghost use lib.ListN.{length};
+ghost use Rattle.bits.specs.Bits.{bitOf};
+ghost use Rattle.network.specs.Shifts.{permitted};
+ghost use Rattle.registers.specs.Resolver.{resolved};
+ghost use Rattle.judge.specs.Judge.{gives, takes};
+ghost use Rattle.module.specs.Act.{heldItem, passedBy, regsAfter, memAfter, outAfter, acted};
+ghost use Rattle.module.specs.Ready.{Ready};
+
+// What an act leaves beside the buffers: the registers, and how many items were taken and given.
+pub struct Acted {
+    pub regs: Registers,
+    pub taken: usize,
+    pub given: usize,
+}
+
+// The item that the module itself holds: of memory, M, X or Y.
+fn held_item(mem: &[u8], r: Registers, i: Instruction) -> [u8; 32]
+    requires { ⌜ (length (now mem) ≡ 8192) × (i .source < 4) ⌝ }
+    ensures { λ f. ⌜ f ≡ heldItem i (now (mem .entry)) r ⌝ }
+{
+    if i.source == 0 {
+        return memory::load(mem, i.mode, i.addr);
+    }
+    if i.source == 1 {
+        let m = r.m;
+        return m;
+    }
+    if i.source == 2 {
+        let x = r.x;
+        return x;
+    }
+    let y = r.y;
+    y
+}
+
+// The source item, passed. An outside item is handed to the pass as the part of the lent items that it is; a resolve reads no source.
+fn passed_item(mem: &[u8], items: &[u8], r: Registers, i: Instruction, taken: usize) -> [u8; 32]
+    requires { ⌜ (length (now mem) ≡ 8192) × (i .source ≤ 4) × (permitted (i .code) ≡ true) × (takes i ≡ true → 32 * taken + 32 ≤ length (now items)) ⌝ }
+    ensures { λ f. ⌜ ((i .kind ≡ 5 → ⊥) → f ≡ passedBy i (now (mem .entry)) (now (items .entry)) r taken) ⌝ }
+{
+    if i.kind == 5 {
+        return [0u8; 32];
+    }
+    if judge::rows::takes(i) {
+        return network::pass_part(&items[32 * taken..32 * taken + 32], i.flip, i.code);
+    }
+    let s = held_item(mem, r, i);
+    network::pass_item(&s, i.flip, i.code)
+}
+
+// The registers after it: logic and set M change them.
+fn turn(i: Instruction, r: Registers, f: &[u8; 32]) -> Registers
+    requires { ⌜ (i .kind ≡ 0 → i .logic < 80) ⌝ }
+    ensures { λ s. ⌜ s ≡ regsAfter i r (now (f .entry)) ⌝ }
+{
+    if i.kind == 0 {
+        return registers::logic(r, f, i.logic);
+    }
+    if i.kind == 1 {
+        return registers::set_m(r, f);
+    }
+    r
+}
+
+// The memory after it: store and masked store change it.
+fn keep<'a>(mem: &mut [u8], i: Instruction, m: &'a [u8; 32], f: &'a [u8; 32])
+    requires { ⌜ length (now mem) ≡ 8192 ⌝ }
+    ensures { λ r. ⌜ now (mem .exit) ≡ memAfter i (now (mem .entry)) (now (m .entry)) (now (f .entry)) ⌝ }
+{
+    if i.kind == 2 {
+        memory::store(mem, i.mode, i.addr, f);
+        return;
+    }
+    if i.kind == 3 {
+        let mask = memory::line_mask(m, i.flip);
+        memory::store_masked(mem, i.mode, i.addr, f, &mask);
+    }
+}
+
+// What is put out: the passed item, or what the resolver says.
+fn outgoing<'a>(i: Instruction, f: &'a [u8; 32], y: &'a [u8; 32]) -> [u8; 32]
+    ensures { λ r. ⌜ r ≡ cond (eqb (i .kind) 4) (now (f .entry)) (resolved (bitOf (now (y .entry)))) ⌝ }
+{
+    if i.kind == 4 {
+        let x = *f;
+        return x;
+    }
+    registers::resolver::resolve(y)
+}
+
+// The out buffer after it: deliver and resolve are lent its next part.
+fn deliver<'a>(out: &mut [u8], i: Instruction, given: usize, f: &'a [u8; 32], y: &'a [u8; 32])
+    requires { ⌜ (gives i ≡ true → 32 * given + 32 ≤ length (now out)) ⌝ }
+    ensures { λ r. ⌜ now (out .exit) ≡ outAfter i (now (out .entry)) given (now (f .entry)) (now (y .entry)) ⌝ }
+{
+    if judge::rows::gives(i) {
+        let x = outgoing(i, f, y);
+        parts::write_item(&mut out[32 * given..32 * given + 32], &x);
+    }
+}
+
+// What an instruction does to a state, and the counts after it.
+pub fn act(
+    mem: &mut [u8],
+    out: &mut [u8],
+    items: &[u8],
+    r: Registers,
+    i: Instruction,
+    taken: usize,
+    given: usize,
+) -> Acted
+    requires { ⌜ Ready (now mem) (now items) (now out) i taken given ⌝ }
+    ensures { λ a. ⌜ record { mem = now (mem .exit); out = now (out .exit); regs = a .regs; taken = a .taken; given = a .given } ≡ acted i (now (items .entry)) (record { mem = now (mem .entry); out = now (out .entry); regs = r; taken = taken; given = given }) ⌝ }
+{
+    let f = passed_item(mem, items, r, i, taken);
+    let m = r.m;
+    let y = r.y;
+    keep(mem, i, &m, &f);
+    deliver(out, i, given, &f, &y);
+    let t = turn(i, r, &f);
+    let takes = judge::rows::takes(i);
+    let gives = judge::rows::gives(i);
+    let used = taken + judge::lists::one_if(takes);
+    let put = given + judge::lists::one_if(gives);
+    Acted {
+        regs: t,
+        taken: used,
+        given: put,
+    }
+}
