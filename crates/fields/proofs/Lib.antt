@@ -1,0 +1,8 @@
+-- Laws of the definitions in specs/, for the proofs of this crate and of those above it.
+pub mod LineLaws
+pub mod Whole
+pub mod Runs
+pub mod Sums
+pub mod SumRuns
+pub mod DemandThree
+pub mod Examples

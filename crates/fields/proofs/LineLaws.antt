@@ -1,0 +1,191 @@
+-- The projection: for each instruction with mode 0, no flip and no shift, line P of what it makes of a state is what it makes of the one-word machine that line P is; and so for a list. Assumes nothing.
+use mathlib.Core.Path.{_≡_, refl, sym, ap, ap₂, subst, _∙_}
+use mathlib.Core.Bool.{Bool, true, false, cond, _&&_, _||_}
+use mathlib.Core.List.{List, [], _∷_}
+use Prim.Native.Nat.{ℕ, zero, suc, _+_, _<_}
+use native.Mathlib.Nat.{add-zero}
+use native.Mathlib.Numerals.{add-one}
+use native.Mathlib.Decide.{ℕ-discrete}
+use native.Mathlib.Omega.{arith}
+use borrow.Author.Tests.{eqb-true, eq-eqb, ne-eqb}
+use lib.Bits.{bitAnd, bitXor, and-comm, and-mask, xor-zero-r}
+use lib.Dec.{eqb}
+use Rattle.bits.specs.Bits.{bitOf}
+use Rattle.bits.proofs.Binary.{Bit}
+use Rattle.bits.proofs.Items.{bitOf-bit, bitOf-pack}
+use Rattle.memory.specs.Access.{readBit}
+use Rattle.memory.specs.Table.{table, lineBit, lineWord}
+use Rattle.memory.specs.Memory.{cell, stored, every, maskOf}
+use Rattle.memory.proofs.AccessLaws.{read-line}
+use Rattle.memory.proofs.TableDemand.{store-updates-table}
+use Rattle.network.specs.Pass.{source, passed}
+use Rattle.network.specs.Answer.{passedItem}
+use Rattle.network.proofs.PassLaws.{unshifted-none, passed-bit}
+use Rattle.network.proofs.TableRules.{none-permitted}
+use Rattle.network.proofs.AnswerLaws.{passedItem-is}
+use Rattle.registers.specs.Logic.{newX, newY, logicOf}
+use Rattle.registers.specs.Rows.{withM}
+use Rattle.registers.proofs.LogicLaws.{logic-X, logic-Y}
+use Rattle.judge.specs.declared.Instruction.{Instruction}
+use Rattle.judge.specs.Judge.{instructionAt, takes}
+use Rattle.module.specs.Act.{State, partAt, held, heldItem, sourceItem, passedBy, regsAfter, memAfter, acted}
+use Rattle.module.specs.Run.{ranBy}
+use Rattle.lists.specs.Lists.{decoded}
+use Rattle.lists.specs.Word.{Word, heldBit, sourceBit, afterBit, actedWord, folded, ranWord, Each, none, more}
+use Rattle.lists.proofs.Folds.{folded-append}
+use Rattle.fields.specs.Line.{At, wordOf, outsideAt, Local}
+
+-- ---- mode 0 is a bit slice: line p meets bit g of word p
+
+and-ones : (a : ℕ) → a < 256 → bitAnd 255 a ≡ a
+and-ones a h = and-comm 255 a ∙ and-mask a 8 ∙ omega arith
+
+slice-bit : (g p : ℕ) → g < 256 → lineBit 8 0 g p ≡ g
+slice-bit g p h = ap (λ (z : ℕ). bitXor z 0) (and-ones g h) ∙ xor-zero-r g
+
+slice-word : (g p : ℕ) → p < 256 → lineWord 8 0 g p ≡ p
+slice-word g p h = and-ones p h
+
+pub read-slice : (mem : List ℕ) (g p : ℕ) → g < 256 → p < 256 → readBit (cell mem) 0 g p ≡ table (cell mem) p g
+read-slice mem g p hg hp =
+    read-line 8 0 g p (omega arith) hg hp (cell mem) ∙ ap₂ (table (cell mem)) (slice-word g p hp) (slice-bit g p hg)
+
+module _ (mem : List ℕ) (g : ℕ) (mask f : ℕ → ℕ) (hg : g < 256) (bits : (k : ℕ) → Bit (f k)) where
+  pub store-slice : (p b : ℕ) → p < 256 → b < 256
+      → table (cell (stored mem 0 g mask f)) p b ≡ cond (eqb (mask p) 1 && eqb b g) (f p) (table (cell mem) p b)
+  store-slice p b hp hb = go (ℕ-discrete b g)
+    where
+      after : ℕ → ℕ → ℕ
+      after = table (cell (stored mem 0 g mask f))
+
+      same : (t : Bool) (x y : ℕ) → cond (t && true) x y ≡ cond t x y
+      same true x y = refl
+      same false x y = refl
+
+      old : (t : Bool) (x y : ℕ) → cond (t && false) x y ≡ y
+      old true x y = refl
+      old false x y = refl
+
+      go : Dec (b ≡ g) → after p b ≡ cond (eqb (mask p) 1 && eqb b g) (f p) (table (cell mem) p b)
+      go (yes e) =
+          ap (after p) e
+          ∙ sym (ap₂ after (slice-word g p hp) (slice-bit g p hg))
+          ∙ store-updates-table mem 0 g mask f (omega arith) hg bits .lines p hp
+          ∙ ap (cond (eqb (mask p) 1) (f p)) (ap₂ (table (cell mem)) (slice-word g p hp) (slice-bit g p hg) ∙ ap (table (cell mem) p) (sym e))
+          ∙ sym (ap (λ (t : Bool). cond (eqb (mask p) 1 && t) (f p) (table (cell mem) p b)) (eq-eqb b g e) ∙ same (eqb (mask p) 1) (f p) (table (cell mem) p b))
+      go (no q) =
+          store-updates-table mem 0 g mask f (omega arith) hg bits .others p b hp hb (λ k hk ew eb. q (eb ∙ slice-bit g k hg))
+          ∙ sym (ap (λ (t : Bool). cond (eqb (mask p) 1 && t) (f p) (table (cell mem) p b)) (ne-eqb b g q) ∙ old (eqb (mask p) 1) (f p) (table (cell mem) p b))
+
+-- ---- one instruction
+
+module _ (p : ℕ) (hp : p < 256) where
+  -- with no flip and no shift, a line gets its own bit
+  pass-none : (l : List ℕ) → bitOf (passedItem l 0 0) p ≡ bitOf l p
+  unfolding passed source
+  pass-none l =
+      ap (λ (x : List ℕ). bitOf x p) (passedItem-is l 0 0 none-permitted)
+      ∙ bitOf-pack (passed l 0 0 0) (λ k. passed-bit l 0 0 0 k) 32 p hp
+      ∙ ap (bitOf l) (xor-zero-r _ ∙ unshifted-none 0 p)
+
+  held-at : (n g : ℕ) (s : State) (v : Word) → g < 256 → At p s v → bitOf (held n 0 g (s .mem) (s .regs)) p ≡ heldBit n (v .bits g) (v .m) (v .x) (v .y)
+  held-at zero g s v hg a = bitOf-pack (readBit (cell (s .mem)) 0 g) (λ k. bitOf-bit (s .mem) _) 32 p hp ∙ read-slice (s .mem) g p hg hp ∙ a .word g hg
+  held-at (suc zero) g s v hg a = a .bitM
+  held-at (suc (suc zero)) g s v hg a = a .bitX
+  held-at (suc (suc (suc n))) g s v hg a = a .bitY
+
+  -- the source bit
+  module _ (i : Instruction) (items : List ℕ) (s : State) (v : Word) (lc : Local i) (a : At p s v) where
+    source-at : bitOf (sourceItem i (s .mem) items (s .regs) (s .taken)) p ≡ sourceBit i (outsideAt p items) v
+    unfolding sourceItem heldItem sourceBit
+    source-at = go (takes i)
+      where
+        go : (t : Bool) → bitOf (cond t (partAt items (s .taken)) (held (i .source) (i .mode) (i .addr) (s .mem) (s .regs))) p
+            ≡ cond t (outsideAt p items (v .taken)) (heldBit (i .source) (v .bits (i .addr)) (v .m) (v .x) (v .y))
+        go true = ap (outsideAt p items) (a .count)
+        go false =
+            ap (λ (z : ℕ). bitOf (held (i .source) z (i .addr) (s .mem) (s .regs)) p) (lc .mode0)
+            ∙ held-at (i .source) (i .addr) s v (lc .inside) a
+
+    passed-at : bitOf (passedBy i (s .mem) items (s .regs) (s .taken)) p ≡ sourceBit i (outsideAt p items) v
+    unfolding passedBy
+    passed-at =
+        ap₂ (λ (x y : ℕ). bitOf (passedItem (sourceItem i (s .mem) items (s .regs) (s .taken)) x y) p) (lc .flip0) (lc .code0)
+        ∙ pass-none (sourceItem i (s .mem) items (s .regs) (s .taken))
+        ∙ source-at
+
+  -- what the passed item f does
+  module _ (i : Instruction) (f : List ℕ) (s : State) (v : Word) (lc : Local i) (a : At p s v) where
+    word-at : (b : ℕ) → b < 256 → table (cell (memAfter i (s .mem) (s .regs .m) f)) p b
+        ≡ cond ((eqb (i .kind) 2 || (eqb (i .kind) 3 && eqb (v .m) 1)) && eqb b (i .addr)) (bitOf f p) (v .bits b)
+    unfolding memAfter
+    word-at b hb = go (eqb (i .kind) 2) (eqb (i .kind) 3)
+      where
+        slice : (mask : ℕ → ℕ) → table (cell (stored (s .mem) (i .mode) (i .addr) mask (bitOf f))) p b
+            ≡ cond (eqb (mask p) 1 && eqb b (i .addr)) (bitOf f p) (v .bits b)
+        slice mask =
+            ap (λ (z : ℕ). table (cell (stored (s .mem) z (i .addr) mask (bitOf f))) p b) (lc .mode0)
+            ∙ store-slice (s .mem) (i .addr) mask (bitOf f) (lc .inside) (bitOf-bit f) p b hp hb
+            ∙ ap (cond (eqb (mask p) 1 && eqb b (i .addr)) (bitOf f p)) (a .word b hb)
+
+        mask : maskOf (s .regs .m) (i .flip) p ≡ v .m
+        mask = ap (λ (z : ℕ). maskOf (s .regs .m) z p) (lc .flip0) ∙ ap (bitOf (s .regs .m)) (xor-zero-r p) ∙ a .bitM
+
+        go : (two three : Bool) → table (cell (cond two (stored (s .mem) (i .mode) (i .addr) every (bitOf f)) (cond three (stored (s .mem) (i .mode) (i .addr) (maskOf (s .regs .m) (i .flip)) (bitOf f)) (s .mem)))) p b
+            ≡ cond ((two || (three && eqb (v .m) 1)) && eqb b (i .addr)) (bitOf f p) (v .bits b)
+        go true three = slice every
+        go false true = slice (maskOf (s .regs .m) (i .flip)) ∙ ap (λ (z : ℕ). cond (eqb z 1 && eqb b (i .addr)) (bitOf f p) (v .bits b)) mask
+        go false false = a .word b hb
+
+    regs-at : (zeroth first : Bool) → (zeroth ≡ true → first ≡ false)
+        → (bitOf ((cond zeroth (logicOf (s .regs) f (i .logic)) (cond first (withM (s .regs) f) (s .regs))) .m) p ≡ cond first (bitOf f p) (v .m))
+        × (bitOf ((cond zeroth (logicOf (s .regs) f (i .logic)) (cond first (withM (s .regs) f) (s .regs))) .x) p ≡ cond zeroth (newX (i .logic) (v .x) (v .y) (bitOf f p)) (v .x))
+        × (bitOf ((cond zeroth (logicOf (s .regs) f (i .logic)) (cond first (withM (s .regs) f) (s .regs))) .y) p ≡ cond zeroth (newY (i .logic) (v .y) (bitOf f p)) (v .y))
+    unfolding logicOf
+    regs-at true first u = (
+      a .bitM ∙ sym (ap (λ (t : Bool). cond t (bitOf f p) (v .m)) (u refl)),
+      logic-X (s .regs) f (i .logic) p hp ∙ ap₂ (λ (x y : ℕ). newX (i .logic) x y (bitOf f p)) (a .bitX) (a .bitY),
+      logic-Y (s .regs) f (i .logic) p hp ∙ ap (λ (y : ℕ). newY (i .logic) y (bitOf f p)) (a .bitY),
+    )
+    regs-at false true u = (refl, a .bitX, a .bitY)
+    regs-at false false u = (a .bitM, a .bitX, a .bitY)
+
+    one-kind : eqb (i .kind) 0 ≡ true → eqb (i .kind) 1 ≡ false
+    one-kind t = ne-eqb (i .kind) 1 (λ e. let z = eqb-true (i .kind) 0 t in omega arith)
+
+    count-at : (t : Bool) → s .taken + cond t 1 0 ≡ cond t (suc (v .taken)) (v .taken)
+    count-at true = add-one (s .taken) ∙ ap suc (a .count)
+    count-at false = add-zero (s .taken) ∙ a .count
+
+  -- the law, for every instruction
+  pub acted-at : (i : Instruction) (items : List ℕ) (s : State) (v : Word) → Local i → At p s v → At p (acted i items s) (actedWord i (outsideAt p items) v)
+  unfolding acted actedWord afterBit regsAfter
+  acted-at i items s v lc a =
+      let f = passedBy i (s .mem) items (s .regs) (s .taken) in
+      let r = regs-at i f s v lc a (eqb (i .kind) 0) (eqb (i .kind) 1) (one-kind i f s v lc a) in
+      subst (λ (z : ℕ). At p (acted i items s) (afterBit i z v)) (passed-at i items s v lc a)
+      (record {
+        word = word-at i f s v lc a;
+        bitM = r .0;
+        bitX = r .1;
+        bitY = r .2;
+        count = count-at i f s v lc a (takes i);
+      })
+
+  -- and for a list
+  pub ran-at : (l : List Instruction) (items : List ℕ) (s : State) (v : Word) → Each Local l → At p s v
+      → At p (folded (λ i. acted i items) l s) (ranWord l (outsideAt p items) v)
+  unfolding folded
+  ran-at [] items s v none a = a
+  ran-at (i ∷ l) items s v (more h e) a = ran-at l items (acted i items s) (actedWord i (outsideAt p items) v) e (acted-at i items s v h a)
+
+pub at-self : (p : ℕ) (s : State) → At p s (wordOf p s)
+at-self p s = record { word = λ b h. refl; bitM = refl; bitX = refl; bitY = refl; count = refl }
+
+-- a run of the first n instructions of a list's bytes
+pub ran-folded : (list items : List ℕ) (s : State) (n : ℕ) → ranBy list items s n ≡ folded (λ i. acted i items) (decoded list n) s
+unfolding ranBy decoded folded
+ran-folded list items s zero = refl
+ran-folded list items s (suc n) =
+    ap (acted (instructionAt list n) items) (ran-folded list items s n)
+    ∙ sym (folded-append (λ i. acted i items) (decoded list n) (instructionAt list n ∷ []) s)

@@ -1,0 +1,185 @@
+-- From the one-word machine to the run: the sum and the difference list are plain, what a run of them leaves, and that this fixes every byte. Assumes nothing.
+use mathlib.Core.Path.{_≡_, refl, sym, ap, subst, _∙_}
+use mathlib.Core.Bool.{Bool, false, not, _||_}
+use mathlib.Core.List.{List, _++_}
+use Prim.Native.Nat.{ℕ, _+_, _-_, _/_, _%_, _^_, _<_, _≤_}
+use native.Mathlib.Decide.{decLe}
+use native.Mathlib.Omega.{arith}
+use lib.Dec.{ltb}
+use lib.ListN.{length, take, drop, replicate, take-append-drop, length-drop}
+use lib.Seq.{take-at, take-all, drop-drop}
+use Rattle.bits.specs.Bits.{digit, bitOf, listed, byteOf, digitsOf, item}
+use Rattle.bits.proofs.Binary.{off}
+use Rattle.bits.proofs.Digits.{digitsOf-lt, digitsOf-at, digitsOf-ext}
+use Rattle.bits.proofs.Items.{bitOf-bit, bitOf-pack}
+use Rattle.network.proofs.TableRules.{none-permitted}
+use Rattle.registers.specs.declared.Registers.{Registers}
+use Rattle.registers.specs.Rows.{registersOf, bytesOf}
+use Rattle.judge.specs.declared.Instruction.{Instruction}
+use Rattle.judge.specs.Judge.{unfit, wrongKind, wrongSource, lacksTag, wrongTag, idleAccess, wrongPass, wrongLogic}
+use Rattle.module.specs.Act.{State, acted}
+use Rattle.module.specs.Run.{begun, Left, ran}
+use Rattle.module.proofs.PartLaws.{registers-bytes}
+use Rattle.lists.specs.Lists.{logicFrom, logicAt, storeAt, encoded}
+use Rattle.lists.specs.Fields.{bitRound, bitRounds, sumByte, differenceByte, carryByte, moveByte, sumList, differenceList, Fields, builtWith}
+use Rattle.lists.specs.Word.{Word, folded, ranWord, Each, none, more}
+use Rattle.fields.specs.Line.{wordOf, outsideAt, At, Local}
+use Rattle.fields.specs.Value.{wordBit, value, listOf, Bytes, Put}
+use Rattle.lists.proofs.Folds.{each-rounds, each-map}
+use Rattle.fields.proofs.LineLaws.{ran-at, at-self}
+use Rattle.lists.proofs.Carries.{quotient, rest}
+use Rattle.lists.proofs.Adder.{After}
+use Rattle.fields.proofs.Whole.{bytes-ext, pack-bytes, part-bytes, Good, begun-good, registers-ok, folded-good, memory-ext}
+use Rattle.fields.proofs.Runs.{Plain, ran-plain}
+
+-- ---- the lists are plain
+
+local : (k s t g l : ℕ) → g < 256 → Local (record { kind = k; source = s; tag = t; mode = 0; addr = g; flip = 0; code = 0; logic = l })
+local k s t g l h = record { mode0 = refl; flip0 = refl; code0 = refl; inside = h }
+
+module _ (t : ℕ) (choice : ltb 4 (t / 16) ≡ false) where
+  plain-from : Plain (logicFrom 2 t)
+  unfolding wrongKind wrongSource lacksTag wrongTag idleAccess wrongPass wrongLogic
+  plain-from =
+      record {
+        local = local 0 2 0 0 t (omega arith);
+        takes-none = refl;
+        gives-none = refl;
+        formed = (refl, (refl, (refl, (refl, (refl, (ap (λ (p : Bool). not p || false || false) none-permitted, (ap (λ (c : Bool). c || false) choice, tt)))))));
+      }
+
+  plain-at : (g : ℕ) → g < 256 → Plain (logicAt g t)
+  unfolding wrongKind wrongSource lacksTag wrongTag idleAccess wrongPass wrongLogic
+  plain-at g h =
+      record {
+        local = local 0 0 1 g t h;
+        takes-none = refl;
+        gives-none = refl;
+        formed = (refl, (refl, (refl, (refl, (refl, (ap (λ (p : Bool). not p || false || false) none-permitted, (ap (λ (c : Bool). c || false) choice, tt)))))));
+      }
+
+plain-store : (g : ℕ) → g < 256 → Plain (storeAt 3 g)
+unfolding wrongKind wrongSource lacksTag wrongTag idleAccess wrongPass wrongLogic
+plain-store g h =
+    record {
+      local = local 2 3 1 g 0 h;
+      takes-none = refl;
+      gives-none = refl;
+      formed = (refl, (refl, (refl, (refl, (refl, (ap (λ (p : Bool). not p || false || false) none-permitted, (refl, tt)))))));
+    }
+
+bits-plain : (t a b s n : ℕ) → ltb 4 (t / 16) ≡ false → Fields a b s n → Each Plain (bitRounds t a b s n)
+bits-plain t a b s n choice f =
+    each-rounds (λ k. bitRound t (a + k) (b + k) (s + k)) n
+    (λ k l.
+    more (plain-at sumByte refl (a + k) (let q = f .fitsA in omega arith))
+    (more (plain-at t choice (b + k) (let q = f .fitsB in omega arith))
+    (more (plain-store (s + k) (let q = f .fitsS in omega arith)) (more (plain-from carryByte refl) (more (plain-from moveByte refl) none)))))
+
+pub sum-plain : (a b s n : ℕ) → Fields a b s n → Each Plain (sumList a b s n)
+sum-plain a b s n f = more (plain-from 32 refl) (bits-plain sumByte a b s n refl f)
+
+pub difference-plain : (a b s n : ℕ) → Fields a b s n → Each Plain (differenceList a b s n)
+difference-plain a b s n f = more (plain-from 32 refl) (more (plain-from 31 refl) (bits-plain differenceByte a b s n refl f))
+
+-- ---- the list that a builder wrote
+
+pub list-built : (fault : ℕ) (bytes buffer : List ℕ) → fault ≡ 0 → listOf (builtWith fault bytes buffer) ≡ bytes
+list-built fault bytes buffer e = ap (λ (x : ℕ). listOf (builtWith x bytes buffer)) e ∙ take-at bytes (drop (length bytes) buffer) (length bytes) refl
+
+-- ---- what a plain list leaves that has the adder's invariant at each word
+
+zeros : item (λ k. 0) ≡ replicate 32 0
+unfolding listed byteOf digitsOf
+zeros = refl
+
+module _ (u : ℕ → ℕ) (a b s n c : ℕ) (l : List Instruction) (plain : Each Plain l) (few : length l ≤ 4096) (fitsS : s + n ≤ 256)
+    (mem regs items out : List ℕ) (memory : Bytes mem 8192) (registers : Bytes regs 96) (supplied : unfit 32 (length items) ≡ false) where
+  abbrev begin : State
+  begin = begun mem out (registersOf regs)
+
+  abbrev end : State
+  end = folded (λ i. acted i items) l begin
+
+  abbrev wordEnd : ℕ → Word
+  wordEnd w = ranWord l (outsideAt w items) (wordOf w begin)
+
+  module _ (t : ℕ → ℕ) (after : (w : ℕ) → w < 256 → After u a b s c (wordOf w begin) n (wordEnd w))
+      (total : (w : ℕ) → w < 256 → value mem w a n + (digitsOf (λ j. u (wordBit mem w (b + j))) n + c) ≡ t w) where
+    line : (w : ℕ) → w < 256 → At w end (wordEnd w)
+    line w h = ran-at w h l items begin (wordOf w begin) (each-map (λ i p. p .local) plain) (at-self w begin)
+
+    good : Good end
+    good = folded-good l items begin (begun-good mem regs out memory registers)
+
+    rows : registersOf (bytesOf (end .regs)) ≡ end .regs
+    rows = registers-bytes (end .regs) (good .m-ok .size) (good .x-ok .size) (good .y-ok .size)
+
+    field-end : (w : ℕ) → w < 256 → value (end .mem) w s n ≡ digitsOf (λ j. wordEnd w .bits (s + j)) n
+    field-end w h = digitsOf-ext _ _ n (λ j q. line w h .word (s + j) (omega arith))
+
+    small : (w : ℕ) → w < 256 → digitsOf (λ j. wordEnd w .bits (s + j)) n < 2 ^ n
+    small w h = digitsOf-lt (λ j. wordEnd w .bits (s + j)) (λ j. after w h .low (s + j)) n
+
+    pub put-plain : Put (length l) s n t mem regs out (ran mem regs (encoded l) items out)
+    put-plain =
+        subst (Put (length l) s n t mem regs out) (sym (ran-plain l plain few mem regs items out (memory .size) (registers .size) supplied))
+        (record {
+          done = refl;
+          field = λ w h. field-end w h ∙ rest n _ (wordEnd w .y) (t w) (small w h) (after w h .total ∙ total w h);
+          carry = λ w h. ap (λ (r : Registers). bitOf (r .y) w) rows ∙ line w h .bitY ∙ quotient n _ (wordEnd w .y) (t w) (small w h) (after w h .total ∙ total w h);
+          zeroX = ap (λ (r : Registers). r .x) rows ∙ bytes-ext (end .regs .x) (item (λ k. 0)) 32 (good .x-ok) (pack-bytes (λ k. 0) (λ k. off) 32) (λ w h. line w h .bitX ∙ after w h .zeroX ∙ sym (bitOf-pack (λ k. 0) (λ k. off) 32 w h)) ∙ zeros;
+          keepsM = ap (λ (r : Registers). r .m) rows ∙ bytes-ext (end .regs .m) (begin .regs .m) 32 (good .m-ok) (begun-good mem regs out memory registers .m-ok) (λ w h. line w h .bitM ∙ after w h .keepsM);
+          others = λ w i h q o. line w h .word i q ∙ after w h .other i o;
+          memory = good .mem-ok;
+          registers = registers-ok end good;
+          quiet = refl;
+        })
+
+-- ---- what is left is fixed, every byte of it
+
+bytes-registers : (l : List ℕ) → length l ≡ 96 → bytesOf (registersOf l) ≡ l
+bytes-registers l h =
+    ap (λ (z : List ℕ). take 32 l ++ z)
+    (ap (λ (z : List ℕ). take 32 (drop 32 l) ++ z) (take-all 32 (drop 64 l) (simp length-drop (omega arith)) ∙ sym (drop-drop 32 32 l))
+    ∙ take-append-drop 32 (drop 32 l))
+    ∙ take-append-drop 32 l
+
+module _ (steps s n : ℕ) (t t′ : ℕ → ℕ) (mem regs out : List ℕ) (r r′ : Left) (fits : s + n ≤ 256) (same : (w : ℕ) → w < 256 → t w ≡ t′ w)
+    (f : Put steps s n t mem regs out r) (g : Put steps s n t′ mem regs out r′) where
+  digit-of : (x : List ℕ) (w j : ℕ) → j < n → digit (value x w s n) j ≡ wordBit x w (s + j)
+  digit-of x w j h = digitsOf-at (λ i. wordBit x w (s + i)) (λ i. bitOf-bit x _) n j h
+
+  same-word : (w b : ℕ) → w < 256 → b < 256 → wordBit (r .mem) w b ≡ wordBit (r′ .mem) w b
+  same-word w b hw hb = go (decLe s b) (decLe (s + n) b)
+    where
+      outside : (s ≤ b → b < s + n → ⊥) → wordBit (r .mem) w b ≡ wordBit (r′ .mem) w b
+      outside o = f .others w b hw hb o ∙ sym (g .others w b hw hb o)
+
+      go : Dec (s ≤ b) → Dec (s + n ≤ b) → wordBit (r .mem) w b ≡ wordBit (r′ .mem) w b
+      go (no l) d = outside (λ x y. l x)
+      go (yes l) (yes q) = outside (λ x y. omega arith)
+      go (yes l) (no q) =
+          let e : s + (b - s) ≡ b = omega arith in
+          ap (wordBit (r .mem) w) (sym e)
+          ∙ sym (digit-of (r .mem) w (b - s) (omega arith))
+          ∙ ap (λ (x : ℕ). digit x (b - s)) (f .field w hw ∙ ap (λ (x : ℕ). x % 2 ^ n) (same w hw) ∙ sym (g .field w hw))
+          ∙ digit-of (r′ .mem) w (b - s) (omega arith)
+          ∙ ap (wordBit (r′ .mem) w) e
+
+  same-y : registersOf (r .regs) .y ≡ registersOf (r′ .regs) .y
+  same-y =
+      bytes-ext (registersOf (r .regs) .y) (registersOf (r′ .regs) .y) 32
+      (part-bytes (r .regs) 96 64 32 (omega arith) (f .registers)) (part-bytes (r′ .regs) 96 64 32 (omega arith) (g .registers))
+      (λ w h. f .carry w h ∙ ap (λ (x : ℕ). x / 2 ^ n) (same w h) ∙ sym (g .carry w h))
+
+  same-rows : registersOf (r .regs) ≡ registersOf (r′ .regs)
+  same-rows = λ i. record { m = (f .keepsM ∙ sym (g .keepsM)) i; x = (f .zeroX ∙ sym (g .zeroX)) i; y = same-y i }
+
+  pub put-unique : r ≡ r′
+  put-unique =
+      let em = memory-ext (r .mem) (r′ .mem) (f .memory) (g .memory) same-word in
+      let er = sym (bytes-registers (r .regs) (f .registers .size)) ∙ ap bytesOf same-rows ∙ bytes-registers (r′ .regs) (g .registers .size) in
+      let eo = f .quiet ∙ sym (g .quiet) in
+      let ea = f .done ∙ sym (g .done) in
+      λ i. record { mem = em i; regs = er i; out = eo i; answer = ea i }

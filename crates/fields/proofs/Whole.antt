@@ -1,0 +1,140 @@
+-- States whose every line is the same are the same, byte for byte: bytes stay bytes in a run, and bytes are known by their bits. Assumes nothing.
+use mathlib.Core.Path.{_≡_, sym, ap, ap₂, _∙_}
+use mathlib.Core.Bool.{Bool, true, false, cond}
+use mathlib.Core.List.{List, [], _∷_, _++_}
+use Prim.Native.Nat.{ℕ, _+_, _-_, _*_, _/_, _%_, _<_, _≤_}
+use native.Mathlib.Decide.{decLt}
+use native.Mathlib.Omega.{arith}
+use lib.Bits.{bitXor, xor-lt}
+use lib.Dec.{eqb}
+use lib.ListN.{length, getD, take, drop, length-append, length-take, length-drop, List·getD-append, List·getD-eq-default}
+use lib.Seq.{getD-append-add, getD-take, getD-drop}
+use Rattle.bits.specs.Bits.{bitOf, byteOf, pack}
+use Rattle.bits.proofs.Binary.{Bit}
+use Rattle.bits.proofs.Items.{length-listed, getD-listed, bitOf-bit, byteOf-lt, same-bits}
+use Rattle.bits.proofs.Xor.{xor-twice}
+use Rattle.memory.specs.Table.{table}
+use Rattle.memory.specs.Memory.{cell, stored, every, maskOf}
+use Rattle.memory.proofs.MemoryLaws.{stored-bit}
+use Rattle.network.specs.Shifts.{shiftOf, pOf, mOf}
+use Rattle.network.specs.Pass.{passed}
+use Rattle.network.specs.Answer.{passedItem}
+use Rattle.network.proofs.PassLaws.{passed-bit}
+use Rattle.registers.specs.declared.Registers.{Registers}
+use Rattle.registers.specs.Logic.{logicOf}
+use Rattle.registers.specs.Rows.{registersOf, bytesOf, withM}
+use Rattle.registers.proofs.LogicLaws.{newX-bit, newY-bit}
+use Rattle.judge.specs.declared.Instruction.{Instruction}
+use Rattle.module.specs.Act.{State, sourceItem, passedBy, regsAfter, memAfter, acted}
+use Rattle.module.specs.Run.{begun}
+use Rattle.lists.specs.Word.{folded}
+use Rattle.fields.specs.Value.{Bytes}
+
+-- ---- bytes
+
+pub bytes-ext : (l r : List ℕ) (n : ℕ) → Bytes l n → Bytes r n → ((k : ℕ) → k < 8 * n → bitOf l k ≡ bitOf r k) → l ≡ r
+bytes-ext l r n a b h = same-bits l r (a .size ∙ sym (b .size)) (a .low) (b .low) (λ k q. h k (omega (arith, a .size)))
+
+-- below the length the bytes, and 0 from there on
+bytes-of : (l : List ℕ) (n : ℕ) → length l ≡ n → ((i : ℕ) → i < n → getD l i 0 < 256) → Bytes l n
+bytes-of l n size low = record { size = size; low = λ i. go i (decLt i n) }
+  where
+    go : (i : ℕ) → Dec (i < n) → getD l i 0 < 256
+    go i (yes h) = low i h
+    go i (no u) = rw (List·getD-eq-default l 0 {n = i} (omega arith)) (omega arith)
+
+pub pack-bytes : (f : ℕ → ℕ) → ((k : ℕ) → Bit (f k)) → (n : ℕ) → Bytes (pack f n) n
+pack-bytes f bits n = bytes-of (pack f n) n (length-listed (byteOf f) n) (λ i h. rw (getD-listed (byteOf f) n i h) (byteOf-lt f bits i))
+
+pub part-bytes : (l : List ℕ) (m k n : ℕ) → k + n ≤ m → Bytes l m → Bytes (take n (drop k l)) n
+part-bytes l m k n h a =
+    bytes-of (take n (drop k l)) n (simp (length-take, length-drop) (omega (arith, a .size)))
+    (λ i q. rw (getD-take n (drop k l) i 0 q, getD-drop k l i 0) (a .low (k + i)))
+
+append-bytes : (l r : List ℕ) (m n : ℕ) → Bytes l m → Bytes r n → Bytes (l ++ r) (m + n)
+append-bytes l r m n a b = record { size = length-append l r ∙ ap₂ (λ (x y : ℕ). x + y) (a .size) (b .size); low = λ i. go i (decLt i (length l)) }
+  where
+    go : (i : ℕ) → Dec (i < length l) → getD (l ++ r) i 0 < 256
+    go i (yes h) = rw (List·getD-append l r 0 i h) (a .low i)
+    go i (no u) =
+        let e : i ≡ length l + (i - length l) = omega arith in
+        let q : getD (l ++ r) i 0 ≡ getD r (i - length l) 0 = ap (λ (z : ℕ). getD (l ++ r) z 0) e ∙ getD-append-add l r (i - length l) 0 in
+        rw q (b .low (i - length l))
+
+-- ---- a state of 8,192 and 96 bytes
+
+pub record Good (s : State) : Type 0 where
+  pub mem-ok : Bytes (s .mem) 8192
+  pub m-ok : Bytes (s .regs .m) 32
+  pub x-ok : Bytes (s .regs .x) 32
+  pub y-ok : Bytes (s .regs .y) 32
+
+pub begun-good : (mem regs out : List ℕ) → Bytes mem 8192 → Bytes regs 96 → Good (begun mem out (registersOf regs))
+begun-good mem regs out a b =
+    record { mem-ok = a; m-ok = part-bytes regs 96 0 32 (omega arith) b; x-ok = part-bytes regs 96 32 32 (omega arith) b; y-ok = part-bytes regs 96 64 32 (omega arith) b }
+
+pub registers-ok : (s : State) → Good s → Bytes (bytesOf (s .regs)) 96
+registers-ok s g = append-bytes (s .regs .m) (s .regs .x ++ s .regs .y) 32 64 (g .m-ok) (append-bytes (s .regs .x) (s .regs .y) 32 32 (g .x-ok) (g .y-ok))
+
+memory-good : (i : Instruction) (mem m f : List ℕ) → Bytes mem 8192 → Bytes (memAfter i mem m f) 8192
+unfolding memAfter stored
+memory-good i mem m f a = go (eqb (i .kind) 2) (eqb (i .kind) 3)
+  where
+    kept : (mask : ℕ → ℕ) → Bytes (stored mem (i .mode) (i .addr) mask (bitOf f)) 8192
+    kept mask = pack-bytes _ (λ k. stored-bit mem (i .mode) (i .addr) mask (bitOf f) (bitOf-bit f) (k / 256) (k % 256)) 8192
+
+    go : (two three : Bool) → Bytes (cond two (stored mem (i .mode) (i .addr) every (bitOf f)) (cond three (stored mem (i .mode) (i .addr) (maskOf m (i .flip)) (bitOf f)) mem)) 8192
+    go true three = kept every
+    go false true = kept (maskOf m (i .flip))
+    go false false = a
+
+passed-good : (i : Instruction) (mem items : List ℕ) (r : Registers) (k : ℕ) → Bytes (passedBy i mem items r k) 32
+unfolding passedBy passedItem
+passed-good i mem items r k =
+    pack-bytes (passed (sourceItem i mem items r k) (i .flip) (pOf (shiftOf (i .code))) (mOf (shiftOf (i .code))))
+    (λ j. passed-bit (sourceItem i mem items r k) (i .flip) (pOf (shiftOf (i .code))) (mOf (shiftOf (i .code))) j) 32
+
+registers-good : (i : Instruction) (f : List ℕ) (s : State) → Bytes f 32 → Good s
+    → Bytes (regsAfter i (s .regs) f .m) 32 × Bytes (regsAfter i (s .regs) f .x) 32 × Bytes (regsAfter i (s .regs) f .y) 32
+unfolding regsAfter logicOf
+registers-good i f s b g = go (eqb (i .kind) 0) (eqb (i .kind) 1)
+  where
+    after : Bool → Bool → Registers
+    after zeroth first = cond zeroth (logicOf (s .regs) f (i .logic)) (cond first (withM (s .regs) f) (s .regs))
+
+    go : (zeroth first : Bool) → Bytes (after zeroth first .m) 32 × Bytes (after zeroth first .x) 32 × Bytes (after zeroth first .y) 32
+    go true first = (
+      g .m-ok,
+      pack-bytes _ (λ k. newX-bit (i .logic) (bitOf (s .regs .x) k) (bitOf (s .regs .y) k) (bitOf f k) (bitOf-bit (s .regs .x) k)) 32,
+      pack-bytes _ (λ k. newY-bit (i .logic) (bitOf (s .regs .y) k) (bitOf f k) (bitOf-bit (s .regs .y) k)) 32,
+    )
+    go false true = (b, g .x-ok, g .y-ok)
+    go false false = (g .m-ok, g .x-ok, g .y-ok)
+
+acted-good : (i : Instruction) (items : List ℕ) (s : State) → Good s → Good (acted i items s)
+unfolding acted
+acted-good i items s g =
+    let f = passedBy i (s .mem) items (s .regs) (s .taken) in
+    let r = registers-good i f s (passed-good i (s .mem) items (s .regs) (s .taken)) g in
+    record { mem-ok = memory-good i (s .mem) (s .regs .m) f (g .mem-ok); m-ok = r .0; x-ok = r .1; y-ok = r .2 }
+
+pub folded-good : (l : List Instruction) (items : List ℕ) (s : State) → Good s → Good (folded (λ i. acted i items) l s)
+unfolding folded
+folded-good [] items s g = g
+folded-good (i ∷ l) items s g = folded-good l items (acted i items s) (acted-good i items s g)
+
+-- ---- the same lines
+
+-- every place of the memory is a bit of a word
+place : (mem : List ℕ) (k : ℕ) → k < 65536 → bitOf mem k ≡ table (cell mem) (bitXor (k % 256) (k / 256)) (k % 256)
+place mem k h =
+    let e : k ≡ 256 * (k / 256) + k % 256 = omega arith in
+    ap (bitOf mem) e ∙ ap (λ (c : ℕ). cell mem c (k % 256)) (sym (xor-twice (k % 256) (k / 256)))
+
+pub memory-ext : (mem mem′ : List ℕ) → Bytes mem 8192 → Bytes mem′ 8192
+    → ((w b : ℕ) → w < 256 → b < 256 → table (cell mem) w b ≡ table (cell mem′) w b) → mem ≡ mem′
+memory-ext mem mem′ a b h =
+    bytes-ext mem mem′ 8192 a b
+    (λ k l. place mem k l
+    ∙ h (bitXor (k % 256) (k / 256)) (k % 256) (xor-lt 8 (k % 256) (k / 256) (omega arith) (omega arith)) (omega arith)
+    ∙ sym (place mem′ k l))

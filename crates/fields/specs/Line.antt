@@ -1,0 +1,33 @@
+-- The array seen at one line: line p of a state as a one-word machine, and the instructions that keep to their line.
+use mathlib.Core.Path.{_≡_}
+use mathlib.Core.List.{List}
+use Prim.Native.Nat.{ℕ, _<_}
+use Rattle.bits.specs.Bits.{bitOf}
+use Rattle.memory.specs.Table.{table}
+use Rattle.memory.specs.Memory.{cell}
+use Rattle.judge.specs.declared.Instruction.{Instruction}
+use Rattle.module.specs.Act.{State, partAt}
+use Rattle.lists.specs.Word.{Word}
+
+-- Line p of a state is v.
+pub record At (p : ℕ) (s : State) (v : Word) : Type 0 where
+  pub word : (b : ℕ) → b < 256 → table (cell (s .mem)) p b ≡ v .bits b
+  pub bitM : bitOf (s .regs .m) p ≡ v .m
+  pub bitX : bitOf (s .regs .x) p ≡ v .x
+  pub bitY : bitOf (s .regs .y) p ≡ v .y
+  pub count : s .taken ≡ v .taken
+
+-- Line p of a state, and of the lent items.
+abbrev pub wordOf : ℕ → State → Word
+wordOf p s =
+    record { bits = table (cell (s .mem)) p; m = bitOf (s .regs .m) p; x = bitOf (s .regs .x) p; y = bitOf (s .regs .y) p; taken = s .taken }
+
+abbrev pub outsideAt : ℕ → List ℕ → ℕ → ℕ
+outsideAt p items t = bitOf (partAt items t) p
+
+-- An instruction that keeps to its line: mode 0, no flip and no shift.
+pub record Local (i : Instruction) : Type 0 where
+  pub mode0 : i .mode ≡ 0
+  pub flip0 : i .flip ≡ 0
+  pub code0 : i .code ≡ 0
+  pub inside : i .addr < 256

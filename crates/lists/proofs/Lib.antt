@@ -1,0 +1,8 @@
+-- Laws of the definitions in specs/, for the proofs of this crate and of those above it.
+pub mod ListLaws
+pub mod PutLaws
+pub mod Refusals
+pub mod Folds
+pub mod Carries
+pub mod Adder
+pub mod Examples

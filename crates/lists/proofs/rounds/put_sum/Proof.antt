@@ -1,0 +1,51 @@
+-- `lists::rounds::put_sum`: the leading instructions and the rounds one behind the other, by `put-more`. Assumes nothing.
+use mathlib.Core.Path.{refl}
+use mathlib.Core.List.{[], _∷_}
+use native.Mathlib.Omega.{arith}
+use denote.Ref.{now}
+use Rattle.lists.specs.Fields.{clear, bitRounds, sumByte}
+use Rattle.lists.proofs.PutLaws.{put-more}
+use borrow.Author.Needs.{needs}
+use Rattle.lists.proofs.rounds.put_sum.Statement.{statement}
+use Rattle.lists.proofs.rounds.put_sum.Tie as tie
+
+put-logic-from-requires : tie.Need-put-logic-from-requires
+put-logic-from-requires c κs = search needs
+
+cast-put-rounds : tie.Need-cast-put-rounds
+cast-put-rounds c = search needs
+
+cast-put-rounds-2 : tie.Need-cast-put-rounds-2
+cast-put-rounds-2 c = search needs
+
+cast-put-rounds-3 : tie.Need-cast-put-rounds-3
+cast-put-rounds-3 c = search needs
+
+cast-put-rounds-4 : tie.Need-cast-put-rounds-4
+cast-put-rounds-4 c = search needs
+
+put-rounds-requires : tie.Need-put-rounds-requires
+put-rounds-requires c κs = search needs
+
+same-length : tie.Need-same-length
+same-length c = search needs
+
+returns : tie.Need-returns
+returns c =
+    let a = c .before .before .before .before .before .before .before .before .before .args in
+    let p = c .before .before .before .before .before .before .put-logic-from in
+    let q = c .before .before .put-rounds in
+    put-more 0 1 (clear ∷ []) (bitRounds sumByte (a .a) (a .b) (a .s) (a .n)) (now (a .list)) (p .last .0) (q .last .0) (omega arith) refl (p .ensures) (q .ensures)
+
+pub put-sum-spec : {M : Type 1} → statement M
+put-sum-spec =
+    tie.close
+    (tie.spec
+    put-logic-from-requires
+    cast-put-rounds
+    cast-put-rounds-2
+    cast-put-rounds-3
+    cast-put-rounds-4
+    put-rounds-requires
+    same-length
+    returns)

@@ -1,0 +1,42 @@
+-- Lists of instructions as bytes, and the instructions that lists on fields are made of. Document 01, Instructions.
+use mathlib.Core.List.{List, [], _∷_, _++_}
+use Prim.Native.Nat.{ℕ, zero, suc}
+use Rattle.judge.specs.declared.Instruction.{Instruction}
+use Rattle.judge.specs.Judge.{instructionAt}
+
+-- ---- instructions
+
+-- "Instructions, 8 bytes each", in their order.
+abbrev pub instruction : ℕ → ℕ → ℕ → ℕ → ℕ → ℕ → ℕ → ℕ → Instruction
+instruction k s t m g f c l = record { kind = k; source = s; tag = t; mode = m; addr = g; flip = f; code = c; logic = l }
+
+-- Logic with byte 7 t: source a register, so that no memory is touched; or bit g of every word. "Slices have mode 0, given; no flip or shift."
+abbrev pub logicFrom : ℕ → ℕ → Instruction
+logicFrom s t = instruction 0 s 0 0 0 0 0 t
+
+abbrev pub logicAt : ℕ → ℕ → Instruction
+logicAt g t = instruction 0 0 1 0 g 0 0 t
+
+-- The store of a register to bit g of every word.
+abbrev pub storeAt : ℕ → ℕ → Instruction
+storeAt s g = instruction 2 s 1 0 g 0 0 0
+
+-- ---- lists
+
+abbrev pub bytesOf : Instruction → List ℕ
+bytesOf i = i .kind ∷ i .source ∷ i .tag ∷ i .mode ∷ i .addr ∷ i .flip ∷ i .code ∷ i .logic ∷ []
+
+-- The bytes of a list of instructions.
+unfoldable pub encoded : List Instruction → List ℕ
+encoded [] = []
+encoded (i ∷ l) = bytesOf i ++ encoded l
+
+-- What a list does for bit 0, then for bit 1, and so on to bit n - 1.
+unfoldable pub rounds : (ℕ → List Instruction) → ℕ → List Instruction
+rounds g zero = []
+rounds g (suc n) = rounds g n ++ g n
+
+-- The first n instructions of a list's bytes.
+unfoldable pub decoded : List ℕ → ℕ → List Instruction
+decoded l zero = []
+decoded l (suc n) = decoded l n ++ (instructionAt l n ∷ [])
