@@ -1,0 +1,38 @@
+-- `sums_right`: both stored sums against both sums; each branch is a test of the definition.
+use mathlib.Core.Path.{_≡_, sym, ap₂, _∙_}
+use lib.Dec.{eqb}
+use borrow.Author.Tests.{eq-eqb, ne-eqb}
+use borrow.Author.Needs.{needs}
+use denote.Ref.{now}
+use Rattle.blocks.specs.Sums.{s1}
+use Rattle.blocks.specs.Block.{twoAt, sumsRight}
+use Rattle.blocks.proofs.sums_right.Statement.{statement}
+use Rattle.blocks.proofs.sums_right.Tie as tie
+
+sums-requires : tie.Need-sums-requires
+sums-requires c κs = search needs
+
+two-at-requires : tie.Need-two-at-requires
+two-at-requires c κs = search needs
+
+two-at-requires-2 : tie.Need-two-at-requires-2
+two-at-requires-2 c κs = search needs
+
+returns : tie.Need-returns
+unfolding sumsRight
+returns c =
+    let d = c .before .before .before in
+    let b = now (d .before .before .before .before .args .block) in
+    let x : twoAt b 508 ≡ s1 b = sym (d .before .two-at .ensures .0) ∙ c .before .if1 .taken ∙ d .before .before .sums .ensures .0 in
+    ap₂ eqb (d .two-at2 .ensures .0) (d .before .before .sums .ensures .1) ∙ simp (eq-eqb (twoAt b 508) (s1 b) x)
+
+returns-2 : tie.Need-returns-2
+unfolding sumsRight
+returns-2 c =
+    let d = c .before .before in
+    let b = now (d .before .before .before .before .args .block) in
+    simp (ne-eqb (twoAt b 508) (s1 b) (λ e. c .if1 .left (d .before .two-at .ensures .0 ∙ e ∙ sym (d .before .before .sums .ensures .0))))
+
+pub sums-right-spec : {M : Type 1} → statement M
+sums-right-spec =
+    tie.close (tie.spec sums-requires two-at-requires two-at-requires-2 returns returns-2)

@@ -1,0 +1,2 @@
+-- Pictures: what the contracts of this crate cite, beside those of files.
+pub mod Picture

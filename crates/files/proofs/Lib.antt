@@ -1,0 +1,8 @@
+-- Laws of the definitions in specs/, for the proofs of this crate and of those above it.
+pub mod FileLaws
+pub mod WriteLaws
+pub mod AnswerLaws
+pub mod RoundTrip
+pub mod OneForm
+pub mod Detection
+pub mod Examples

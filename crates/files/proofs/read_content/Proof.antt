@@ -1,0 +1,93 @@
+-- `read_content`: each return is a law of what a reader answers; only the last changes the target.
+use mathlib.Core.Bool.{Bool, true, false, _&&_}
+use mathlib.Core.Path.{_≡_, sym, ap, ap₂, _∙_}
+use Prim.Native.Nat.{_≤_, _<_, _/_}
+use native.Mathlib.Omega.{arith}
+use lib.ListN.{length}
+use lib.Dec.{leb}
+use borrow.Author.Tests.{le-ltb, lt-ltb, le-leb, lt-leb}
+use borrow.Author.Needs.{needs}
+use denote.Ref.{now}
+use Rattle.blocks.specs.Block.{twoAt}
+use Rattle.blocks.proofs.BlockLaws.{used-le, fault-good}
+use Rattle.files.specs.File.{blockAt, contentOf, judge}
+use Rattle.files.proofs.FileLaws.{judge-stands, judged-each}
+use Rattle.files.specs.Content.{targetFits}
+use Rattle.files.proofs.AnswerLaws.{read-refused, read-26, read-done, changed-not, changed-done, refused-not}
+use Rattle.files.proofs.read_content.Statement.{statement}
+use Rattle.files.proofs.read_content.Tie as tie
+
+judge-requires : tie.Need-judge-requires
+judge-requires c κs = search needs
+
+returns : tie.Need-returns
+returns c =
+    let a = c .before .before .before .before .args in
+    let j = c .before .judge in
+    (read-refused (a .kind) (now (a .bytes)) _ (j .result) (j .ensures) (c .if1 .taken), changed-not (j .result) _ (now (a .target)) (c .if1 .taken))
+
+refuse-requires : tie.Need-refuse-requires
+refuse-requires c κs = search needs
+
+returns-2 : tie.Need-returns-2
+returns-2 c =
+    let a = c .before .before .before .before .before .before .args in
+    let j = c .before .before .before .judge in
+    let f : targetFits (a .kind) (now (a .bytes)) (now (a .target)) ≡ false = ap (λ (t : Bool). t && leb (length (contentOf (now (a .bytes)))) (length (now (a .target)))) (le-ltb 1 (a .kind) (c .before .if2 .taken)) in (
+      c .refuse .ensures ∙ read-26 (a .kind) (now (a .bytes)) _ (j .result) (j .ensures) (c .before .before .if1 .left) f,
+      changed-not (c .refuse .result) _ (now (a .target)) (refused-not (c .refuse .result) 26 0 (c .refuse .ensures) (λ x. omega arith)),
+    )
+
+refuse-requires-2 : tie.Need-refuse-requires-2
+refuse-requires-2 c κs = search needs
+
+returns-3 : tie.Need-returns-3
+returns-3 c =
+    let a = c .before .before .before .before .before .before .before .args in
+    let j = c .before .before .before .before .judge in
+    let b = now (a .bytes) in
+    let s = judge-stands (a .kind) b (sym (ap (λ x. x .number) (j .ensures)) ∙ c .before .before .before .if1 .left) in
+    let l : length (now (a .target)) < length (contentOf b) = omega (arith, ap (λ x. x .bytes) (j .ensures ∙ s .answer), c .before .if3 .taken) in
+    let f : targetFits (a .kind) b (now (a .target)) ≡ false = ap₂ _&&_ (lt-ltb 1 (a .kind) (c .before .before .if2 .left)) (lt-leb (length (contentOf b)) (length (now (a .target))) l) in (
+      c .refuse2 .ensures ∙ read-26 (a .kind) b _ (j .result) (j .ensures) (c .before .before .before .if1 .left) f,
+      changed-not (c .refuse2 .result) _ (now (a .target)) (refused-not (c .refuse2 .result) 26 0 (c .refuse2 .ensures) (λ x. omega arith)),
+    )
+
+gather-requires : tie.Need-gather-requires
+gather-requires c κs =
+    let a = c .before .before .before .before .before .before .before .args in
+    let b = now (a .bytes) in
+    let j = c .before .before .before .before .judge in
+    let s = judge-stands (a .kind) b (sym (ap (λ x. x .number) (j .ensures)) ∙ c .before .before .before .if1 .left) in (
+      omega arith,
+      λ i h. used-le i (length b / 512) (twoAt (blockAt b i) 6) (fault-good (blockAt b i) (a .kind) i (length b / 512) (judged-each (a .kind) b (length b / 512) (length b / 512) i h (s .blocks)) .used),
+      omega (arith, ap (λ x. x .bytes) (j .ensures ∙ s .answer), c .before .if3 .left),
+    )
+
+same-length : tie.Need-same-length
+same-length c = search needs
+
+returns-4 : tie.Need-returns-4
+returns-4 c =
+    let a = c .before .before .before .before .before .before .before .before .before .before .args in
+    let j = c .before .before .before .before .before .before .before .judge in
+    let b = now (a .bytes) in
+    let z = c .before .before .before .before .before .before .if1 .left in
+    let s = judge-stands (a .kind) b (sym (ap (λ x. x .number) (j .ensures)) ∙ z) in
+    let l : length (contentOf b) ≤ length (now (a .target)) = omega (arith, ap (λ x. x .bytes) (j .ensures ∙ s .answer), c .before .before .before .before .if3 .left) in
+    let f : targetFits (a .kind) b (now (a .target)) ≡ true = ap₂ _&&_ (lt-ltb 1 (a .kind) (c .before .before .before .before .before .if2 .left)) (le-leb (length (contentOf b)) (length (now (a .target))) l) in
+    (read-done (a .kind) b _ (j .result) (j .ensures) z f, c .before .before .gather .ensures ∙ changed-done (j .result) _ (now (a .target)) z)
+
+pub read-content-spec : {M : Type 1} → statement M
+read-content-spec =
+    tie.close
+    (tie.spec
+    judge-requires
+    returns
+    refuse-requires
+    returns-2
+    refuse-requires-2
+    returns-3
+    gather-requires
+    same-length
+    returns-4)

@@ -1,0 +1,3 @@
+-- Files of blocks and what they hold: what the contracts of this crate and of those above it cite.
+pub mod File
+pub mod Content
