@@ -1,0 +1,3 @@
+-- Laws of the printed lines.
+pub mod ReportLaws
+pub mod Examples

@@ -1,0 +1,79 @@
+-- `put_item`: each turn is one byte more; then the line feed.
+use mathlib.Core.Path.{_≡_, refl, sym, ap, _∙_}
+use mathlib.Core.List.{List, [], _∷_, _++_, append-nil}
+use Prim.Native.Nat.{ℕ, _≤_, _+_, _-_, _*_}
+use denote.Ref.{now}
+use lib.ListN.{length, getD, take}
+use lib.Seq.{take-all}
+use Rattle.report.specs.Report.{hexed}
+use Rattle.report.proofs.ReportLaws.{hexed-more, then-text}
+use borrow.Author.Needs.{needs}
+use native.Mathlib.Omega.{arith}
+use Rattle.report.proofs.put_item.Statement.{statement}
+use Rattle.report.proofs.put_item.Tie as tie
+
+abbrev Inv-loop : tie.InvT-loop
+Inv-loop text₀ at item next₀ j₀ text next j = (j ≤ 32) × (length text ≡ length text₀) × (next ≡ at + 2 * j) × (take next text ≡ take at text₀ ++ hexed (take j item))
+
+abbrev μ-loop : tie.MeasureT-loop
+μ-loop text₀ at item next₀ j₀ text next j = 32 - j
+
+loop-holds : tie.Need-loop-holds Inv-loop μ-loop
+unfolding hexed
+loop-holds c = (omega arith, refl, omega arith, sym (append-nil _))
+
+shared-slice-read-put-byte : tie.Need-shared-slice-read-put-byte Inv-loop μ-loop
+shared-slice-read-put-byte c = search needs
+
+put-byte-requires : tie.Need-put-byte-requires Inv-loop μ-loop
+put-byte-requires c κs = search needs
+
+add-j : tie.Need-add-j Inv-loop μ-loop
+add-j c = search needs
+
+loop-less : tie.Need-loop-less Inv-loop μ-loop
+loop-less c = search needs
+
+loop-again : tie.Need-loop-again Inv-loop μ-loop
+loop-again c =
+    let a = c .before .before .before .before .before .before .before .before .before .args in
+    let l = c .before .before .before .before .before .before .loop in
+    let r = c .before .before .put-byte in (
+      omega arith,
+      r .kept .0 ∙ l .inv .1,
+      omega (arith, r .ensures .0),
+      then-text (take (a .at) (now (a .text))) (hexed (take (l .j) (now (a .item)))) (hexed (getD (now (a .item)) (l .j) 0 ∷ [])) (hexed (take (l .j + 1) (now (a .item)))) _ _
+          (l .inv .3) (r .ensures .1) (hexed-more (now (a .item)) (l .j) (omega arith)),
+    )
+
+put-requires : tie.Need-put-requires Inv-loop μ-loop
+put-requires c κs = search needs
+
+same-length : tie.Need-same-length Inv-loop μ-loop
+same-length c = search needs
+
+returns : tie.Need-returns Inv-loop μ-loop
+returns c =
+    let a = c .before .before .before .before .before .before .before .before .args in
+    let l = c .before .before .before .before .before .loop in
+    let p = c .before .before .put in (
+      omega (arith, p .ensures .0),
+      then-text (take (a .at) (now (a .text))) (hexed (take (l .j) (now (a .item)))) (10 ∷ []) (hexed (now (a .item)) ++ (10 ∷ [])) _ _
+          (l .inv .3) (p .ensures .1) (ap (λ (x : List ℕ). hexed x ++ (10 ∷ [])) (take-all (l .j) (now (a .item)) (omega arith))),
+    )
+
+pub put-item-spec : {M : Type 1} → statement M
+put-item-spec =
+    tie.close
+    (tie.spec
+    Inv-loop
+    μ-loop
+    loop-holds
+    shared-slice-read-put-byte
+    put-byte-requires
+    add-j
+    loop-less
+    loop-again
+    put-requires
+    same-length
+    returns)

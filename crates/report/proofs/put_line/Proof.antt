@@ -1,0 +1,61 @@
+-- `put_line`: each text behind what stands.
+use Rattle.report.specs.Report.{line, spaced}
+use Rattle.report.proofs.ReportLaws.{line-text}
+use borrow.Author.Needs.{needs}
+use native.Mathlib.Omega.{arith}
+use Rattle.report.proofs.put_line.Statement.{statement}
+use Rattle.report.proofs.put_line.Tie as tie
+
+put-requires : tie.Need-put-requires
+put-requires c κs = search needs
+
+put-spaced-requires : tie.Need-put-spaced-requires
+put-spaced-requires c κs = search needs
+
+put-spaced-requires-2 : tie.Need-put-spaced-requires-2
+put-spaced-requires-2 c κs = search needs
+
+put-spaced-requires-3 : tie.Need-put-spaced-requires-3
+put-spaced-requires-3 c κs = search needs
+
+put-spaced-requires-4 : tie.Need-put-spaced-requires-4
+put-spaced-requires-4 c κs = search needs
+
+put-spaced-requires-5 : tie.Need-put-spaced-requires-5
+put-spaced-requires-5 c κs = search needs
+
+put-requires-2 : tie.Need-put-requires-2
+put-requires-2 c κs = search needs
+
+same-length : tie.Need-same-length
+same-length c = search needs
+
+returns : tie.Need-returns
+unfolding line
+returns c =
+    let a = c .before .before .before .before .before .before .before .before .before .before .before .before .before .before .before .before .before .before .before .before .before .before .before .before .before .before .before .before .before .args in
+    let t₀ = c .before .before .before .before .before .before .before .before .before .before .before .before .before .before .before .before .before .before .before .before .before .before .before .before .before .before .put in
+    let t₁ = c .before .before .before .before .before .before .before .before .before .before .before .before .before .before .before .before .before .before .before .before .before .before .put-spaced in
+    let t₂ = c .before .before .before .before .before .before .before .before .before .before .before .before .before .before .before .before .before .before .put-spaced2 in
+    let t₃ = c .before .before .before .before .before .before .before .before .before .before .before .before .before .before .put-spaced3 in
+    let t₄ = c .before .before .before .before .before .before .before .before .before .before .put-spaced4 in
+    let t₅ = c .before .before .before .before .before .before .put-spaced5 in
+    let t₆ = c .before .before .put2 in (
+      omega (arith, t₀ .ensures .0, t₁ .ensures .0, t₂ .ensures .0, t₃ .ensures .0, t₄ .ensures .0, t₅ .ensures .0, t₆ .ensures .0),
+      line-text (a .letter) (spaced (a .number)) (spaced (a .place)) (spaced (a .steps)) (spaced (a .taken)) (spaced (a .given)) _ _ _ _ _ _ _
+          (t₀ .ensures .1) (t₁ .ensures .1) (t₂ .ensures .1) (t₃ .ensures .1) (t₄ .ensures .1) (t₅ .ensures .1) (t₆ .ensures .1),
+    )
+
+pub put-line-spec : {M : Type 1} → statement M
+put-line-spec =
+    tie.close
+    (tie.spec
+    put-requires
+    put-spaced-requires
+    put-spaced-requires-2
+    put-spaced-requires-3
+    put-spaced-requires-4
+    put-spaced-requires-5
+    put-requires-2
+    same-length
+    returns)

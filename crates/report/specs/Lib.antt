@@ -1,0 +1,2 @@
+-- What the program prints: what the contracts of this crate cite.
+pub mod Report

@@ -1,0 +1,4 @@
+-- Laws of the definitions in specs/, for the proofs of this crate and of those above it.
+pub mod FileLaws
+pub mod SessionLaws
+pub mod SessionDemand

@@ -1,0 +1,58 @@
+-- What is promised of the program, on a page, in names of specs/: absent files, refusals that write nothing, and that the contract has one answer only. Assumes nothing.
+use mathlib.Core.Path.{_≡_, refl, sym, ap, _∙_}
+use mathlib.Core.List.{List, []}
+use Prim.Native.Nat.{ℕ, _*_}
+use native.Mathlib.Omega.{arith}
+use lib.ListN.{length, take}
+use lib.Seq.{length-take-le}
+use Rattle.files.specs.File.{done, refused, blockCount, blocksOf}
+use Rattle.disk.specs.Picture.{pictureOf}
+use Rattle.files.proofs.RoundTrip.{all-length}
+use Rattle.disk.proofs.PictureLaws.{length-picture}
+use Rattle.module.specs.Run.{Left}
+use Rattle.session.specs.declared.Counts.{Counts}
+use Rattle.session.specs.Session.{File, absent, failed, Outcome, contentAnswer, refusal, finished, outcome}
+use Rattle.session.specs.Shown.{Shown}
+use Rattle.session.proofs.SessionLaws.{outcome-p, after-none, after-done}
+
+-- ---- absent, and not to be read
+
+-- "An absent before.pic .. refused with 20", whatever the other files are; so is one that cannot be read
+pub absent-picture : (list items : File) → outcome absent list items ≡ refusal 112 (refused 20 0)
+absent-picture list items = outcome-p absent list items (refused 20 0) refl (λ z. omega arith)
+
+pub failed-picture : (list items : File) → outcome failed list items ≡ refusal 112 (refused 20 0)
+failed-picture list items = outcome-p failed list items (refused 20 0) refl (λ z. omega arith)
+
+-- "An absent run.lst is the empty list and an absent in.itm means no items": both stand, with no bytes
+pub absent-content : (kind : ℕ) → contentAnswer kind absent ≡ done 0
+absent-content kind = refl
+
+-- ---- after.pic
+
+-- a run that is refused writes none
+pub refused-run : (s : Left) → (s .answer .number ≡ 0 → ⊥) → finished s .after ≡ []
+unfolding finished
+refused-run s u = after-none (s .answer .number) (s .mem) (s .regs) u
+
+-- a run that is done writes the picture of the memory and the registers that it left: 17 blocks
+pub done-run : (s : Left) → s .answer .number ≡ 0 → finished s .after ≡ blocksOf 1 (pictureOf (s .mem) (s .regs))
+unfolding finished
+done-run s z = after-done (s .answer .number) (s .mem) (s .regs) z
+
+pub done-size : (s : Left) → s .answer .number ≡ 0 → length (s .regs) ≡ 96 → length (finished s .after) ≡ 8704
+done-size s z l =
+    ap length (done-run s z) ∙ all-length 1 (pictureOf (s .mem) (s .regs)) ∙ ap (λ (k : ℕ). 512 * blockCount k) (length-picture (s .mem) (s .regs) l)
+
+-- ---- one answer only
+
+module _ (o : Outcome) (r r′ : Counts) (text text′ : List ℕ) (s : Shown o r text) (s′ : Shown o r′ text′) where
+  -- as many characters as the text has
+  size : (x : Counts) (t : List ℕ) → Shown o x t → x .text ≡ length (o .text)
+  size x t h = sym (length-take-le (x .text) t (h .room)) ∙ ap length (h .printed)
+
+  pub same-counts : r ≡ r′
+  same-counts = λ j. record { text = (size r text s ∙ sym (size r′ text′ s′)) j; after = (s .written ∙ sym (s′ .written)) j }
+
+  pub same-text : take (r .text) text ≡ take (r′ .text) text′
+  same-text = s .printed ∙ sym (s′ .printed)

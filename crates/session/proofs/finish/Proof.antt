@@ -1,0 +1,62 @@
+-- `finish`: what the run leaves goes into the lines and the picture, and `finished-shown` puts them together.
+use mathlib.Core.Path.{refl, ap, _∙_}
+use denote.Ref.{now}
+use Rattle.module.specs.Run.{Left, ran}
+use Rattle.session.proofs.SessionLaws.{run-small, finished-shown}
+use Rattle.session.specs.Session.{finished}
+use borrow.Author.Needs.{needs}
+use Rattle.session.proofs.finish.Statement.{statement}
+use Rattle.session.proofs.finish.Tie as tie
+
+run-requires : tie.Need-run-requires
+run-requires c κs = search needs
+
+print-run-requires : tie.Need-print-run-requires
+print-run-requires c κs =
+    let s = c .before .before .before .before .before .before .before .before .before .before .before .before .before .before .before .before .before .before .before in
+    let a = s .args in
+    let r = c .before .before .before .before .before .before .before .before .run in
+    let l = r .kept .1 .1 .1 .1 .0 in
+    (run-small (now (a .memory)) (now (a .registers)) (now (a .list)) (now (a .items)) (now (a .out)) (r .last .1 .1 .1 .1 .0) (r .result) (ap (λ (x : Left). x .answer) (r .ensures)) l, l ∙ s .pre .2, s .pre .4)
+
+keep-requires : tie.Need-keep-requires
+keep-requires c κs = search needs
+
+same-length : tie.Need-same-length
+same-length c = search needs
+
+same-length-2 : tie.Need-same-length-2
+same-length-2 c = search needs
+
+same-length-3 : tie.Need-same-length-3
+same-length-3 c = search needs
+
+same-length-4 : tie.Need-same-length-4
+same-length-4 c = search needs
+
+same-length-5 : tie.Need-same-length-5
+same-length-5 c = search needs
+
+returns : tie.Need-returns
+returns c =
+    let p = c .before .before .before .before .before .before .before .before in
+    let q = p .before .before .before .before .before .before .before .before .before in
+    let a = q .before .before .before .before .before .before .before .before .before .before .before .args in
+    let s = ran (now (a .memory)) (now (a .registers)) (now (a .list)) (now (a .items)) (now (a .out)) in
+    let k = c .before .before .keep in
+    let t = p .print-run in
+    finished-shown (finished s) s _ _ _ (q .run .result) (t .result) (k .result) (t .last .1 .1 .0) (now (a .after)) (k .last .1 .1 .1 .0) refl (q .run .ensures) (t .ensures .0) (t .ensures .1) (k .ensures .0) (k .ensures .1) (k .ensures .2)
+
+pub finish-spec : {M : Type 1} → statement M
+finish-spec =
+    tie.close
+    (tie.spec
+    run-requires
+    print-run-requires
+    keep-requires
+    same-length
+    same-length-2
+    same-length-3
+    same-length-4
+    same-length-5
+    returns)

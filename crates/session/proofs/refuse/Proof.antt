@@ -1,0 +1,33 @@
+-- `refuse`: the line, which says nothing of an out buffer.
+use mathlib.Core.Path.{refl, _∙_}
+use native.Mathlib.Omega.{arith}
+use Rattle.session.proofs.SessionLaws.{line-alone}
+use borrow.Author.Needs.{needs}
+use Rattle.session.proofs.refuse.Statement.{statement}
+use Rattle.session.proofs.refuse.Tie as tie
+
+cast-report : tie.Need-cast-report
+cast-report c = search needs
+
+cast-report-2 : tie.Need-cast-report-2
+cast-report-2 c = search needs
+
+slice-aggregate-report : tie.Need-slice-aggregate-report
+slice-aggregate-report c = search needs
+
+report-requires : tie.Need-report-requires
+report-requires c κs = search needs
+
+same-length : tie.Need-same-length
+same-length c = search needs
+
+returns : tie.Need-returns
+returns c =
+    let a = c .before .before .before .before .before .before .before .before .args in
+    let p = c .before .before .report in
+    record { room = p .ensures .0; printed = p .ensures .1 ∙ line-alone (a .letter) (a .a .number) (a .a .place) _; written = refl; most = omega arith }
+
+pub refuse-spec : {M : Type 1} → statement M
+refuse-spec =
+    tie.close
+    (tie.spec cast-report cast-report-2 slice-aggregate-report report-requires same-length returns)

@@ -1,0 +1,80 @@
+-- `take_content`: each arm of the match is a law of FileLaws.
+use mathlib.Core.Path.{_≡_, sym, ap, _∙_}
+use denote.Ref.{now}
+use Rattle.session.specs.declared.Found.{Found}
+use Rattle.session.specs.Session.{bytes, fileOf, contentAnswer}
+use Rattle.session.proofs.FileLaws.{read-long, content-absent, content-refused, content-taken}
+use borrow.Author.Needs.{needs}
+use Rattle.session.proofs.take_content.Statement.{statement}
+use Rattle.session.proofs.take_content.Tie as tie
+
+enum-told : tie.Need-enum-told
+enum-told c = search needs
+
+enum-told-2 : tie.Need-enum-told-2
+enum-told-2 c = search needs
+
+refused-requires : tie.Need-refused-requires
+refused-requires c κs = search needs
+
+enum-known-found : tie.Need-enum-known-found
+enum-known-found c = search needs
+
+front-requires : tie.Need-front-requires
+front-requires c κs = search needs
+
+refused-requires-2 : tie.Need-refused-requires-2
+refused-requires-2 c κs = search needs
+
+returns : tie.Need-returns
+returns c =
+    let w = c .before .before in
+    let a = w .before .before .before .before .before .before .args in
+    let b = now (a .buffer) in
+    let e : bytes (now (w .front .result)) ≡ fileOf (a .found) b = ap bytes (w .front .ensures) ∙ sym (ap (λ (f : Found). fileOf f b) (w .before .before .found .given .1)) in
+    content-refused (a .kind) (fileOf (a .found) b) (c .refused2 .result) _ (c .refused2 .ensures) (read-long 8192 (a .kind) (now (w .front .result)) (c .before .if1 .taken) ∙ ap (contentAnswer (a .kind)) e)
+
+read-content-requires : tie.Need-read-content-requires
+read-content-requires c κs = search needs
+
+returns-2 : tie.Need-returns-2
+returns-2 c =
+    let a = c .before .before .before .before .args in
+    let b = now (a .buffer) in
+    content-absent (a .kind) (fileOf (a .found) b) (now (a .target)) (sym (ap (λ (f : Found). fileOf f b) (c .enum-told .given .1)))
+
+returns-3 : tie.Need-returns-3
+returns-3 c =
+    let a = c .before .before .before .before .before .args in
+    let b = now (a .buffer) in
+    content-refused (a .kind) (fileOf (a .found) b) (c .refused .result) _ (c .refused .ensures) (sym (ap (λ (f : Found). contentAnswer (a .kind) (fileOf f b)) (c .before .enum-told2 .given .1)))
+
+same-length : tie.Need-same-length
+same-length c = search needs
+
+returns-4 : tie.Need-returns-4
+returns-4 c =
+    let w = c .before .before .before .before .before in
+    let s = w .before .before .before .before .before .before in
+    let a = s .args in
+    let b = now (a .buffer) in
+    let r = c .before .before .read-content in
+    let e : bytes (now (w .front .result)) ≡ fileOf (a .found) b = ap bytes (w .front .ensures) ∙ sym (ap (λ (f : Found). fileOf f b) (w .before .before .found .given .1)) in
+    content-taken (a .kind) (fileOf (a .found) b) (now (w .front .result)) (now (a .target)) (r .last .1 .1 .0) (r .result) e (s .pre .0) (c .before .before .before .before .if1 .left) (s .pre .1) (r .ensures .0) (r .ensures .1)
+
+pub take-content-spec : {M : Type 1} → statement M
+take-content-spec =
+    tie.close
+    (tie.spec
+    enum-told
+    enum-told-2
+    refused-requires
+    enum-known-found
+    front-requires
+    refused-requires-2
+    returns
+    read-content-requires
+    returns-2
+    returns-3
+    same-length
+    returns-4)

@@ -1,0 +1,88 @@
+-- `take_picture`: each arm of the match is a law of FileLaws.
+use mathlib.Core.Path.{_≡_, sym, ap, _∙_}
+use denote.Ref.{now}
+use Rattle.session.specs.declared.Found.{Found}
+use Rattle.session.specs.Session.{bytes, fileOf, pictureAnswer}
+use Rattle.session.proofs.FileLaws.{read-long, picture-refused, picture-taken}
+use borrow.Author.Needs.{needs}
+use Rattle.session.proofs.take_picture.Statement.{statement}
+use Rattle.session.proofs.take_picture.Tie as tie
+
+enum-told : tie.Need-enum-told
+enum-told c = search needs
+
+refused-requires : tie.Need-refused-requires
+refused-requires c κs = search needs
+
+enum-told-2 : tie.Need-enum-told-2
+enum-told-2 c = search needs
+
+refused-requires-2 : tie.Need-refused-requires-2
+refused-requires-2 c κs = search needs
+
+enum-known-found : tie.Need-enum-known-found
+enum-known-found c = search needs
+
+front-requires : tie.Need-front-requires
+front-requires c κs = search needs
+
+refused-requires-3 : tie.Need-refused-requires-3
+refused-requires-3 c κs = search needs
+
+returns : tie.Need-returns
+returns c =
+    let w = c .before .before in
+    let a = w .before .before .before .before .before .before .before .args in
+    let b = now (a .buffer) in
+    let e : bytes (now (w .front .result)) ≡ fileOf (a .found) b = ap bytes (w .front .ensures) ∙ sym (ap (λ (f : Found). fileOf f b) (w .before .before .found .given .1)) in
+    picture-refused (fileOf (a .found) b) (c .refused3 .result) (now (a .memory)) (now (a .registers)) (c .refused3 .ensures) (read-long 8704 1 (now (w .front .result)) (c .before .if1 .taken) ∙ ap pictureAnswer e)
+
+read-picture-requires : tie.Need-read-picture-requires
+read-picture-requires c κs = search needs
+
+returns-2 : tie.Need-returns-2
+returns-2 c =
+    let a = c .before .before .before .before .before .before .args in
+    let b = now (a .buffer) in
+    picture-refused (fileOf (a .found) b) (c .refused .result) (now (a .memory)) (now (a .registers)) (c .refused .ensures) (sym (ap (λ (f : Found). pictureAnswer (fileOf f b)) (c .before .enum-told .given .1)))
+
+returns-3 : tie.Need-returns-3
+returns-3 c =
+    let a = c .before .before .before .before .before .before .args in
+    let b = now (a .buffer) in
+    picture-refused (fileOf (a .found) b) (c .refused2 .result) (now (a .memory)) (now (a .registers)) (c .refused2 .ensures) (sym (ap (λ (f : Found). pictureAnswer (fileOf f b)) (c .before .enum-told2 .given .1)))
+
+same-length : tie.Need-same-length
+same-length c = search needs
+
+same-length-2 : tie.Need-same-length-2
+same-length-2 c = search needs
+
+returns-4 : tie.Need-returns-4
+returns-4 c =
+    let w = c .before .before .before .before .before .before .before .before in
+    let s = w .before .before .before .before .before .before .before in
+    let a = s .args in
+    let b = now (a .buffer) in
+    let r = c .before .before .before .before .read-picture in
+    let e : bytes (now (w .front .result)) ≡ fileOf (a .found) b = ap bytes (w .front .ensures) ∙ sym (ap (λ (f : Found). fileOf f b) (w .before .before .found .given .1)) in
+    picture-taken (fileOf (a .found) b) (now (w .front .result)) (now (a .memory)) (now (a .registers)) (r .last .1 .1 .0) (r .last .1 .1 .1 .0) (r .result) e (c .before .before .before .before .before .before .before .if1 .left) (s .pre .0) (s .pre .1) (r .ensures .0) (r .ensures .1 .0) (r .ensures .1 .1)
+
+pub take-picture-spec : {M : Type 1} → statement M
+take-picture-spec =
+    tie.close
+    (tie.spec
+    enum-told
+    refused-requires
+    enum-told-2
+    refused-requires-2
+    enum-known-found
+    front-requires
+    refused-requires-3
+    returns
+    read-picture-requires
+    returns-2
+    returns-3
+    same-length
+    same-length-2
+    returns-4)

@@ -1,0 +1,102 @@
+// The program: reads before.pic, run.lst and in.itm of the folder that it is started in, runs, writes after.pic and prints. Document 01, The program.
+//
+// What is printed and written is `session::session`, which is proved; here are the system's calls alone.
+use libc::STDOUT_FILENO;
+use session::Found;
+
+// Reads an open file to its end, or until the buffer is full: whoever lends one byte more than a file may have sees that it is too long, and reads no further.
+fn fill(fd: i32, name: &[u8], buffer: &mut [u8]) -> Found {
+    let mut done: usize = 0;
+    while done < buffer.len() {
+        let got = libc::read(fd, &mut buffer[done..]);
+        if got < 0 {
+            os::fail(name);
+            return Found::Failed;
+        }
+        let more = io::count(got, &buffer[done..]);
+        if more == 0 {
+            return Found::Bytes(done);
+        }
+        done += more;
+    }
+    Found::Bytes(done)
+}
+
+// Absent is a file of which the system says that there is none. Any other that cannot be opened or read has failed, and the system's reason goes to standard error.
+fn load(name: &[u8], buffer: &mut [u8]) -> Found {
+    let fd = os::open_read(name);
+    if fd < 0 {
+        if os::errno() == libc::ENOENT {
+            return Found::Absent;
+        }
+        os::fail(name);
+        return Found::Failed;
+    }
+    let found = fill(fd, name, buffer);
+    libc::close(fd);
+    found
+}
+
+// All of the picture, through to the device.
+fn put(fd: i32, picture: &[u8]) -> bool {
+    if !io::write_all(fd, picture) {
+        os::fail(b"after.pic.new");
+        return false;
+    }
+    if libc::fsync(fd) < 0 {
+        os::fail(b"after.pic.new");
+        return false;
+    }
+    true
+}
+
+// The picture in a new file beside after.pic. One that an earlier run left there goes first; a name that is taken all the same is refused.
+fn write_new(picture: &[u8]) -> bool {
+    os::unlink(b"after.pic.new");
+    let fd = os::create(b"after.pic.new");
+    if fd < 0 {
+        os::fail(b"after.pic.new");
+        return false;
+    }
+    let whole = put(fd, picture);
+    if libc::close(fd) < 0 {
+        os::fail(b"after.pic.new");
+        return false;
+    }
+    whole
+}
+
+// after.pic is the whole picture, or as it was: the new file takes its name only once it is complete, and is removed where it cannot.
+fn replace(picture: &[u8]) -> bool {
+    if write_new(picture) {
+        if os::rename(b"after.pic.new", b"after.pic") == 0 {
+            return true;
+        }
+        os::fail(b"after.pic");
+    }
+    os::unlink(b"after.pic.new");
+    false
+}
+
+// Nothing is printed where after.pic is to be written and cannot be.
+fn main() {
+    let mut picture = [0u8; 8705];
+    let mut list = [0u8; 8193];
+    let mut items = [0u8; 8193];
+    let p = load(b"before.pic", &mut picture);
+    let l = load(b"run.lst", &mut list);
+    let i = load(b"in.itm", &mut items);
+    let mut after = [0u8; 8704];
+    let mut text = [0u8; 16697];
+    let counts = session::session(p, l, i, &picture, &list, &items, &mut after, &mut text);
+    let size = counts.after;
+    if size > 0 {
+        if !replace(&after[..size]) {
+            return;
+        }
+    }
+    let printed = counts.text;
+    if !io::write_all(STDOUT_FILENO, &text[..printed]) {
+        os::fail(b"standard output");
+    }
+}

@@ -1,0 +1,114 @@
+#!/bin/bash
+# The program on folders of every kind, from outside: absent, empty, too long, damaged and unreadable files; what happens to an old after.pic;
+# what is left behind. Prints a line for each case, and at last 'N passed, 0 failed'. Run it from anywhere; it builds the program if there is none.
+#   tests/program_cases.sh
+set -u
+here=$(cd "$(dirname "$0")/.." && pwd -P)
+make="python3 $here/tests/make_blocks.py"
+work=$(mktemp -d)
+trap 'chmod -R u+rwx "$work" 2>/dev/null; rm -rf "$work"' EXIT
+passed=0 failed=0
+
+# A fresh folder with the document's example: an all-zero picture, no items, and a list of two instructions.
+fresh() { rm -rf "$work/f"; mkdir "$work/f"; cp "$here"/crates/staran_run/data/* "$work/f"; cd "$work/f" || exit 2; }
+
+# Runs the program in the folder, and keeps what it says.
+run() { timeout 20 "$here/staran" "$work/f" >"$work/out" 2>"$work/err"; }
+
+judge() { # NAME CONDITION: counts a case; CONDITION is the status of the test before it
+    if [ "$2" -eq 0 ]; then passed=$((passed + 1)); echo "ok   $1"
+    else failed=$((failed + 1)); echo "FAIL $1"; sed 's/^/     out: /' "$work/out"; sed 's/^/     err: /' "$work/err"; fi
+}
+
+# NAME LINES [REASON]: the program prints LINES, on standard error REASON or nothing, and leaves no other file.
+says() {
+    run
+    printf '%b' "$2" >"$work/want"
+    cmp -s "$work/out" "$work/want" && [ ! -e "$work/f/after.pic.new" ] &&
+        if [ -n "${3:-}" ]; then grep -qx -- "$3" "$work/err"; else [ ! -s "$work/err" ]; fi
+    judge "$1" $?
+}
+kept() { cmp -s "$work/f/after.pic" "$work/old"; judge "$1" $?; }
+none() { [ ! -e "$work/f/after.pic" ]; judge "$1" $?; }
+old() { head -c 5000 /dev/urandom >"$work/old"; cp "$work/old" "$work/f/after.pic"; }
+same() { cmp -s "$work/f/after.pic" "$work/f/before.pic"; judge "$1" $?; }
+
+zeros=$(printf '%064d' 0)
+one=01${zeros#00}
+done_lines="r 0 0 2 0 1\n$one\n"
+
+# ---- the document's example, and absent files
+fresh; says "the document's example" "$done_lines"
+size=$(wc -c <"$work/f/after.pic"); [ "$size" -eq 8704 ]; judge "after.pic is 17 blocks" $?
+fresh; rm run.lst; says "absent run.lst is the empty list" "r 0 0 0 0 0\n"; same "the empty list leaves the picture as it was"
+fresh; rm before.pic; old; says "absent before.pic" "p 20 0 0 0 0\n"; kept "a refusal keeps an old after.pic"
+fresh; rm before.pic run.lst; says "an empty folder" "p 20 0 0 0 0\n"; none "a refusal makes no after.pic"
+fresh; $make items in.itm; says "a lone block of no items" "$done_lines"
+fresh; $make list run.lst; says "a lone block of no instructions" "r 0 0 0 0 0\n"
+
+# ---- files with no bytes, and of a wrong length
+for name in before.pic:p run.lst:l in.itm:i; do
+    file=${name%:*} letter=${name#*:}
+    fresh; : >"$file"; says "empty $file" "$letter 20 0 0 0 0\n"; none "no after.pic with an empty $file"
+    fresh; [ -f "$file" ] || $make items in.itm; printf x >>"$file"; says "$file and a byte more" "$letter 20 0 0 0 0\n"
+done
+fresh; head -c 9216 /dev/zero >before.pic; says "a picture file of 18 blocks" "p 20 0 0 0 0\n"
+fresh; head -c 8704 /dev/zero >before.pic; says "17 blocks of zeros are read" "p 22 0 0 0 0\n"
+fresh; head -c 8705 /dev/zero >before.pic; says "a picture file of 17 blocks and a byte" "p 20 0 0 0 0\n"
+fresh; head -c 8704 /dev/zero >run.lst; says "a list of 17 blocks" "l 20 0 0 0 0\n"
+fresh; head -c 8192 /dev/zero >run.lst; says "16 blocks of zeros are read" "l 22 0 0 0 0\n"
+fresh; head -c 8704 /dev/zero >in.itm; says "items of 17 blocks" "i 20 0 0 0 0\n"
+fresh; truncate -s 1T run.lst; says "a list of 2^40 bytes is not read to its end" "l 20 0 0 0 0\n"
+fresh; truncate -s 1T before.pic; says "a picture of 2^40 bytes is not read to its end" "p 20 0 0 0 0\n"
+
+# ---- damaged blocks
+change() { printf "$3" | dd of="$1" bs=1 seek="$2" conv=notrunc status=none; } # FILE INDEX BYTES
+fresh; change before.pic 600 '\001'; old; says "a byte altered in block 1 of the picture" "p 21 1 0 0 0\n"; kept "a damaged picture keeps an old after.pic"
+fresh; change run.lst 20 '\377'; says "a byte altered in the list" "l 21 0 0 0 0\n"
+fresh; $make list in.itm; says "a list under the name of the items" "i 22 0 0 0 0\n"
+fresh; head -c 512 before.pic >x; mv x before.pic; says "the first block of a picture alone" "p 23 0 0 0 0\n"
+fresh; $make list run.lst 000200; says "a list of three bytes" "l 25 0 0 0 0\n"
+fresh; $make items in.itm 00; says "items of one byte" "i 25 0 0 0 0\n"
+fresh; change before.pic 600 '\001'; change run.lst 20 '\377'; : >in.itm; says "three bad files: the picture is named" "p 21 1 0 0 0\n"
+fresh; change run.lst 20 '\377'; : >in.itm; says "two bad files: the list is named" "l 21 0 0 0 0\n"
+fresh; $make list run.lst FF00000000000000; : >in.itm; says "bad items hide a bad instruction" "i 20 0 0 0 0\n"
+
+# ---- runs that are refused
+fresh; $make list run.lst 000200000000001F FF00000000000000; old; says "a kind over 5" "r 5 1 0 0 0\n"; kept "a refused run keeps an old after.pic"
+fresh; $make list run.lst 02030000FF000000; says "a store without a mode" "r 7 0 0 0 0\n"; none "a refused run makes no after.pic"
+fresh; $make list run.lst 0404000000000000; says "items too few" "r 12 0 0 0 0\n"
+fresh; $make list run.lst $(for i in $(seq 257); do echo 0500000000000000; done); says "the out buffer too short for 257" "r 13 256 0 0 0\n"
+fresh; $make list run.lst $(for i in $(seq 256); do echo 0500000000000000; done); says "256 items fit" "r 0 0 256 0 256\n$(for i in $(seq 256); do echo "$zeros\\n"; done | tr -d '\n')"
+fresh; $make list run.lst 0404000000000000; $make items in.itm 0123456789abcdef${zeros#????????????????}; says "an item goes out as it came in" "r 0 0 1 1 1\n0123456789abcdef${zeros#????????????????}\n"
+
+# ---- what cannot be opened or read
+for name in before.pic:p run.lst:l in.itm:i; do
+    file=${name%:*} letter=${name#*:}
+    fresh; rm -f "$file"; mkdir "$file"; old; says "a directory named $file" "$letter 20 0 0 0 0\n" "$file: Is a directory"; kept "a directory named $file keeps an old after.pic"
+done
+fresh; rm run.lst; ln -s run.lst run.lst; says "a link that leads to itself" "l 20 0 0 0 0\n" "run.lst: Too many levels of symbolic links"
+fresh; rm run.lst; ln -s nothing run.lst; says "a link that leads nowhere is no file" "r 0 0 0 0 0\n"
+if [ "$(id -u)" -ne 0 ]; then
+    fresh; chmod 000 run.lst; says "a list that may not be read" "l 20 0 0 0 0\n" "run.lst: Permission denied"
+fi
+
+# ---- writing after.pic
+fresh; old; says "an old after.pic is replaced" "$done_lines"; size=$(wc -c <"$work/f/after.pic"); [ "$size" -eq 8704 ]; judge "all of it" $?
+fresh; head -c 20000 /dev/zero >after.pic; rm run.lst; says "a longer after.pic is replaced" "r 0 0 0 0 0\n"; same "with nothing of the old one left"
+fresh; echo stale >after.pic.new; says "a stale after.pic.new goes" "$done_lines"
+fresh; mkdir after.pic; says "after.pic is a directory" "" "after.pic: Is a directory"
+fresh; mkdir after.pic.new; run; [ ! -s "$work/out" ] && grep -q 'after.pic.new: File exists' "$work/err"; judge "after.pic.new is a directory: nothing is printed" $?; none "and no after.pic is made"
+fresh; old; (ulimit -f 4; trap '' XFSZ; run); [ ! -s "$work/out" ] && [ -s "$work/err" ]; judge "a write that fails half way: nothing is printed, and the reason is said" $?; kept "it keeps an old after.pic"; [ ! -e "$work/f/after.pic.new" ]; judge "and no after.pic.new is left" $?
+if [ "$(id -u)" -ne 0 ]; then
+    fresh; old; chmod 555 .; run; chmod 755 .; [ ! -s "$work/out" ] && grep -q 'after.pic.new: Permission denied' "$work/err"; judge "a folder that may not be written" $?; kept "it keeps an old after.pic"
+fi
+
+# ---- printing
+fresh; timeout 20 "$here/staran" "$work/f" >/dev/full 2>"$work/err"; : >"$work/out"; grep -qx 'standard output: No space left on device' "$work/err" && [ -s "$work/f/after.pic" ]; judge "an output that takes nothing: the reason is said, and after.pic is whole" $?
+
+# ---- the demonstration
+"$here/staran" >"$work/out" 2>"$work/err"; status=$?
+[ $status -eq 0 ] && grep -qx 'r 0 0 163 1 1' "$work/out" && grep -q 'as before: yes' "$work/out" && grep -q '^  13 ' "$work/out"; judge "the demonstration" $?
+
+echo "$passed passed, $failed failed"
+[ "$failed" -eq 0 ]
