@@ -1,0 +1,157 @@
+//! Random cases given to a command for as long as asked, and the smallest differing case.
+
+use crate::case::*;
+use crate::plan::Plan;
+use crate::words;
+use std::io::Write;
+use std::process::{Command, Stdio};
+
+const BATCH: usize = 500;
+
+/// Gives the cases to the command and takes its answers, line by line.
+fn ask(command: &str, cases: &[Case]) -> Vec<String> {
+    let mut parts = command.split_whitespace();
+    let mut child = Command::new(parts.next().expect("a command"))
+        .args(parts)
+        .stdin(Stdio::piped())
+        .stdout(Stdio::piped())
+        .spawn()
+        .unwrap_or_else(|e| panic!("{}: {}", command, e));
+    let mut input = child.stdin.take().unwrap();
+    let text: String = cases.iter().map(|c| c.line() + "\n").collect();
+    let feeder = std::thread::spawn(move || {
+        let _ = input.write_all(text.as_bytes());
+    });
+    let output = child.wait_with_output().expect("an end");
+    feeder.join().unwrap();
+    String::from_utf8_lossy(&output.stdout).lines().map(|l| l.to_string()).collect()
+}
+
+fn differs(command: &str, case: &Case) -> bool {
+    ask(command, std::slice::from_ref(case)).first() != Some(&case.answer().line())
+}
+
+fn weight(case: &Case) -> (usize, usize, usize, u32) {
+    let lengths: usize = case.lengths.iter().map(|&l| l as usize).sum();
+    (lengths, case.record().len(), 6 - case.zeros.count_ones() as usize, case.seed)
+}
+
+/// Cases that are a little smaller and still keep the promises of the protocol.
+fn smaller(case: &Case) -> Vec<Case> {
+    let mut all = vec![];
+    for k in 0..case.patches.len() {
+        let mut one = case.clone();
+        one.patches.remove(k);
+        all.push(one);
+    }
+    for k in 0..6 {
+        if case.kind == PASS || case.kind == WIRED || (case.kind == STEP && k == REGISTERS) {
+            break;
+        }
+        let length = case.lengths[k] as usize;
+        let unit = [1, 1, 8, 32, 32, 512][k];
+        for new in [0, length / 2 / unit * unit, length.saturating_sub(8 * unit), length.saturating_sub(unit), length.saturating_sub(1)] {
+            if new < length {
+                let mut one = case.clone();
+                one.lengths[k] = new as u16;
+                for patch in &mut one.patches {
+                    if patch.target as usize == k {
+                        let end = new.saturating_sub(patch.offset as usize).min(patch.bytes.len());
+                        patch.bytes.truncate(end);
+                    }
+                }
+                one.patches.retain(|p| if p.target == SEAL { (p.offset as usize) < one.lengths[FILE] as usize / 512 } else { !p.bytes.is_empty() });
+                all.push(one);
+            }
+        }
+        if case.kind == RUN && k == LIST && length % 8 == 0 && length > 8 && length <= 640 {
+            // written out, so that any one instruction can be left out
+            let list = case.make()[LIST].clone();
+            for leave in 0..length / 8 {
+                let mut bytes = list.clone();
+                bytes.drain(8 * leave..8 * leave + 8);
+                let mut one = case.clone();
+                one.shape = 0;
+                one.zeros |= 1 << LIST;
+                one.patches.retain(|p| p.target as usize != LIST);
+                one.lengths[LIST] = bytes.len() as u16;
+                one.patch(LIST, 0, &bytes);
+                all.push(one);
+            }
+        }
+    }
+    for k in 0..6 {
+        if (case.zeros >> k) % 2 == 0 && case.lengths[k] != 0 {
+            let mut one = case.clone();
+            one.zeros |= 1 << k;
+            all.push(one);
+        }
+    }
+    all.retain(|c| c.record().len() <= LONGEST_RECORD);
+    all
+}
+
+fn shrink(command: &str, case: Case) -> Case {
+    let mut best = case;
+    let mut tries = 0;
+    'again: loop {
+        let mut candidates = smaller(&best);
+        candidates.sort_by_key(weight);
+        for one in candidates {
+            // a literal list is a longer record at first, but fewer bytes lent
+            let (a, b) = (weight(&one), weight(&best));
+            if a.0 > b.0 || (a.0 == b.0 && a >= b && one.zeros == best.zeros) {
+                continue;
+            }
+            one.check();
+            tries += 1;
+            if tries > 4000 {
+                return best;
+            }
+            if differs(command, &one) {
+                best = one;
+                continue 'again;
+            }
+        }
+        return best;
+    }
+}
+
+pub fn go_on(command: &str, seed: Option<u64>, count: usize, open_points: bool) {
+    let seed = seed.unwrap_or_else(|| std::time::SystemTime::now().duration_since(std::time::UNIX_EPOCH).map(|d| d.as_secs()).unwrap_or(1));
+    println!("seed {}", seed);
+    let mut plan = Plan::new(seed);
+    plan.open_points = open_points;
+    let mut done = 0;
+    let mut reported = 0;
+    while count == 0 || done < count {
+        let size = if count == 0 { BATCH } else { BATCH.min(count - done) };
+        plan.cases.clear();
+        plan.random_cases(size);
+        let answers = ask(command, &plan.cases);
+        for (k, case) in plan.cases.iter().enumerate() {
+            let expected = case.answer().line();
+            if answers.get(k) != Some(&expected) {
+                println!("case {} of seed {} differs", done + k, seed);
+                let alone = differs(command, case);
+                let small = if alone {
+                    shrink(command, case.clone())
+                } else {
+                    println!("it does not differ when asked alone; the case as it was:");
+                    case.clone()
+                };
+                println!("{}", small.line());
+                print!("{}", words::describe(&small));
+                let got = if alone { ask(command, std::slice::from_ref(&small)).first().cloned() } else { answers.get(k).cloned() };
+                print!("{}", words::differences("the emulator", Some(&small.answer().line()), "the command", got.as_deref()));
+                std::process::exit(1);
+            }
+        }
+        done += size;
+        if done - reported >= 5000 || done == count {
+            println!("{} cases, no difference (seed {})", done, seed);
+            let _ = std::io::stdout().flush();
+            reported = done;
+        }
+    }
+}

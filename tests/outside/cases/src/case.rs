@@ -1,0 +1,503 @@
+//! A case: how it is written, how its buffers are made, how it is called and how its answer is
+//! written. PROTOCOL.md says the same in words; where the two differ, one of them is wrong.
+
+pub const MEMORY: usize = 0;
+pub const REGISTERS: usize = 1;
+pub const LIST: usize = 2;
+pub const ITEMS: usize = 3;
+pub const OUT: usize = 4;
+pub const FILE: usize = 5;
+/// Not a buffer: a patch that seals a block of the file.
+pub const SEAL: u8 = 6;
+
+pub const MAXIMUM: [usize; 6] = [8200, 100, 33000, 33000, 8200, 35000];
+pub const LONGEST_RECORD: usize = 800;
+pub const HEADER: usize = 36;
+
+pub const RUN: u8 = 0;
+pub const STEP: u8 = 1;
+pub const PASS: u8 = 2;
+pub const WIRED: u8 = 3;
+pub const SUM: u8 = 4;
+pub const DIFFERENCE: u8 = 5;
+pub const READ_PLAIN: u8 = 6;
+pub const READ_PICTURE: u8 = 7;
+pub const WRITE_PLAIN: u8 = 8;
+pub const WRITE_PICTURE: u8 = 9;
+pub const SUM_RUN: u8 = 10;
+pub const DIFFERENCE_RUN: u8 = 11;
+
+pub const KINDS: [&str; 12] = [
+    "run",
+    "step",
+    "pass",
+    "wired pass",
+    "sum list",
+    "difference list",
+    "read plain",
+    "read picture",
+    "write plain",
+    "write picture",
+    "sum list, then run",
+    "difference list, then run",
+];
+
+pub const BUFFERS: [&str; 6] = ["memory", "registers", "list", "items", "out", "file"];
+
+#[derive(Clone, PartialEq, Eq, Debug)]
+pub struct Patch {
+    pub target: u8,
+    pub offset: u16,
+    pub bytes: Vec<u8>,
+}
+
+#[derive(Clone, PartialEq, Eq, Debug)]
+pub struct Case {
+    pub kind: u8,
+    pub shape: u8,
+    /// Bit k set: buffer k is filled with zeros.
+    pub zeros: u8,
+    pub seed: u32,
+    pub lengths: [u16; 6],
+    pub p: [u32; 4],
+    pub patches: Vec<Patch>,
+}
+
+pub type Buffers = [Vec<u8>; 6];
+
+/// The generator of both sides.
+pub fn next(x: u32) -> u32 {
+    let mut x = x;
+    x ^= x << 13;
+    x ^= x >> 17;
+    x ^= x << 5;
+    x
+}
+
+/// Two polynomials in primes: a changed byte changes both halves.
+pub fn digest(bytes: &[u8]) -> u32 {
+    let mut d1 = 1u32;
+    let mut d2 = 1u32;
+    for &b in bytes {
+        d1 = (d1 * 251 + b as u32) % 65521;
+        d2 = (d2 * 263 + b as u32) % 65519;
+    }
+    65536 * d1 + d2
+}
+
+/// Turns any 8 bytes into an instruction that is not refused by 5 to 11.
+pub fn shaped(r: &[u8], shape: u8) -> [u8; 8] {
+    let kind = if shape == 1 {
+        r[0] % 6
+    } else if r[2] < 248 {
+        r[0] % 4
+    } else {
+        4 + r[0] % 2
+    };
+    let source = match kind {
+        2 | 3 => 1 + r[1] % 4,
+        5 => 0,
+        _ => r[1] % 5,
+    };
+    let touches = kind == 2 || kind == 3 || (kind != 5 && source == 0);
+    let mut b = [kind, source, 0, 0, 0, 0, 0, 0];
+    if touches {
+        b[2] = 1;
+        b[3] = r[3];
+        b[4] = r[4];
+    }
+    if kind != 5 {
+        b[5] = r[5];
+    }
+    let q = r[6] % 9;
+    if (kind == 0 || kind == 1 || kind == 4) && q > 0 {
+        b[6] = 16 * q + (r[6] / 16) % q;
+    }
+    if kind == 0 {
+        b[7] = 16 * ((r[7] / 16) % 5) + r[7] % 16;
+    }
+    b
+}
+
+fn low_first(bytes: &mut [u8], value: u32) {
+    bytes[0] = (value % 256) as u8;
+    bytes[1] = (value / 256 % 256) as u8;
+}
+
+/// Puts right sums into block `block` of the file. Done here once more, apart from the emulator's.
+pub fn seal(file: &mut [u8], block: usize) {
+    let at = 512 * block;
+    let (mut s1, mut s2) = (0u32, 0u32);
+    for i in 0..508u32 {
+        let b = file[at + i as usize] as u32;
+        s1 = (s1 + b) % 65535;
+        s2 = (s2 + (508 - i) * b) % 65535;
+    }
+    low_first(&mut file[at + 508..], s1);
+    low_first(&mut file[at + 510..], s2);
+}
+
+fn format_blocks(file: &mut [u8], kind: u32, used_last: u32) {
+    let count = file.len() / 512;
+    for place in 0..count {
+        let used = if place + 1 < count { 496 } else { used_last };
+        let at = 512 * place;
+        low_first(&mut file[at..], kind);
+        low_first(&mut file[at + 2..], place as u32);
+        low_first(&mut file[at + 4..], count as u32);
+        low_first(&mut file[at + 6..], used);
+        file[at + 8..at + 12].fill(0);
+        for i in 0..496 {
+            if i as u32 >= used {
+                file[at + 12 + i] = 0;
+            }
+        }
+        seal(file, place);
+    }
+}
+
+impl Case {
+    pub fn new(kind: u8, seed: u32) -> Case {
+        Case { kind, shape: 0, zeros: 0, seed, lengths: [0; 6], p: [0; 4], patches: vec![] }
+    }
+
+    pub fn patch(&mut self, target: usize, offset: usize, bytes: &[u8]) -> &mut Case {
+        for (k, part) in bytes.chunks(255).enumerate() {
+            self.patches.push(Patch { target: target as u8, offset: (offset + 255 * k) as u16, bytes: part.to_vec() });
+        }
+        self
+    }
+
+    pub fn seal(&mut self, block: usize) -> &mut Case {
+        self.patches.push(Patch { target: SEAL, offset: block as u16, bytes: vec![] });
+        self
+    }
+
+    /// Every promise of PROTOCOL.md about a case.
+    pub fn check(&self) {
+        assert!((self.kind as usize) < KINDS.len() && self.shape <= 2 && self.zeros < 64);
+        for k in 0..6 {
+            assert!(self.lengths[k] as usize <= MAXIMUM[k], "{:?}", self);
+        }
+        if self.kind == STEP {
+            assert_eq!(self.lengths[REGISTERS], 96);
+        }
+        if self.kind == PASS || self.kind == WIRED {
+            assert!(self.lengths[ITEMS] == 32 && self.lengths[OUT] == 32 && self.p[0] < 256 && self.p[1] < 256);
+        }
+        assert!(self.patches.len() < 256);
+        for patch in &self.patches {
+            if patch.target == SEAL {
+                assert!(patch.bytes.is_empty() && (patch.offset as usize) < self.lengths[FILE] as usize / 512);
+            } else {
+                let end = patch.offset as usize + patch.bytes.len();
+                assert!(end <= self.lengths[patch.target as usize] as usize, "{:?}", self);
+            }
+        }
+        assert!(self.record().len() <= LONGEST_RECORD, "{:?}", self);
+    }
+
+    pub fn record(&self) -> Vec<u8> {
+        let mut bytes = vec![self.kind, self.shape, self.zeros, self.patches.len() as u8];
+        bytes.extend_from_slice(&self.seed.to_le_bytes());
+        for length in self.lengths {
+            bytes.extend_from_slice(&length.to_le_bytes());
+        }
+        for p in self.p {
+            bytes.extend_from_slice(&p.to_le_bytes());
+        }
+        assert_eq!(bytes.len(), HEADER);
+        for patch in &self.patches {
+            bytes.push(patch.target);
+            bytes.extend_from_slice(&patch.offset.to_le_bytes());
+            bytes.push(patch.bytes.len() as u8);
+            bytes.extend_from_slice(&patch.bytes);
+        }
+        bytes
+    }
+
+    /// The line of the case, without its line feed.
+    pub fn line(&self) -> String {
+        self.record().iter().map(|b| format!("{:02x}", b)).collect()
+    }
+
+    pub fn from_line(line: &str) -> Result<Case, String> {
+        if line.len() % 2 != 0 || !line.bytes().all(|c| matches!(c, b'0'..=b'9' | b'a'..=b'f')) {
+            return Err("not pairs of lower-case hex digits".to_string());
+        }
+        let mut bytes = Vec::new();
+        for k in 0..line.len() / 2 {
+            bytes.push(u8::from_str_radix(&line[2 * k..2 * k + 2], 16).map_err(|e| e.to_string())?);
+        }
+        if bytes.len() < HEADER {
+            return Err("too short".to_string());
+        }
+        let two = |at: usize| bytes[at] as u16 + 256 * bytes[at + 1] as u16;
+        let four = |at: usize| two(at) as u32 + 65536 * two(at + 2) as u32;
+        let mut case = Case::new(bytes[0], four(4));
+        case.shape = bytes[1];
+        case.zeros = bytes[2];
+        for k in 0..6 {
+            case.lengths[k] = two(8 + 2 * k);
+        }
+        for k in 0..4 {
+            case.p[k] = four(20 + 4 * k);
+        }
+        let mut at = HEADER;
+        for _ in 0..bytes[3] {
+            if at + 4 > bytes.len() || at + 4 + bytes[at + 3] as usize > bytes.len() {
+                return Err("a patch is cut off".to_string());
+            }
+            let n = bytes[at + 3] as usize;
+            case.patches.push(Patch { target: bytes[at], offset: two(at + 1), bytes: bytes[at + 4..at + 4 + n].to_vec() });
+            at += 4 + n;
+        }
+        if at != bytes.len() {
+            return Err("bytes after the last patch".to_string());
+        }
+        Ok(case)
+    }
+
+    /// The buffers as they are lent.
+    pub fn make(&self) -> Buffers {
+        let mut buffers: Buffers = Default::default();
+        let mut x = self.seed;
+        for k in 0..6 {
+            for _ in 0..self.lengths[k] {
+                if (self.zeros >> k) % 2 == 1 {
+                    buffers[k].push(0);
+                } else {
+                    x = next(x);
+                    buffers[k].push((x % 256) as u8);
+                }
+            }
+        }
+        if self.shape != 0 {
+            for at in (0..buffers[LIST].len() / 8).map(|i| 8 * i) {
+                let b = shaped(&buffers[LIST][at..at + 8], self.shape);
+                buffers[LIST][at..at + 8].copy_from_slice(&b);
+            }
+        }
+        if (self.kind == READ_PLAIN || self.kind == READ_PICTURE) && self.p[3] == 1 {
+            format_blocks(&mut buffers[FILE], self.p[1], self.p[2]);
+        }
+        for patch in &self.patches {
+            let offset = patch.offset as usize;
+            if patch.target == SEAL {
+                seal(&mut buffers[FILE], offset);
+            } else {
+                buffers[patch.target as usize][offset..offset + patch.bytes.len()].copy_from_slice(&patch.bytes);
+            }
+        }
+        buffers
+    }
+
+    /// Calls the emulator: the five numbers.
+    pub fn call(&self, buffers: &mut Buffers) -> [u32; 5] {
+        let [memory, registers, list, items, out, file] = buffers;
+        let p = self.p;
+        match self.kind {
+            RUN => numbers(emulator::run(memory, registers, list, items, out)),
+            STEP => {
+                let mut record = [0u8; 96];
+                record.copy_from_slice(registers);
+                let answer = emulator::step(memory, &mut record, list, items, out);
+                registers.copy_from_slice(&record);
+                numbers(answer)
+            }
+            PASS | WIRED => {
+                let mut item = [0u8; 32];
+                item.copy_from_slice(items);
+                let form = if self.kind == PASS { emulator::pass } else { emulator::wired_pass };
+                let (number, passed) = form(&item, p[0] as u8, p[1] as u8);
+                out.copy_from_slice(&passed);
+                [number, 0, 0, 0, 0]
+            }
+            SUM | DIFFERENCE => {
+                let build = if self.kind == SUM { emulator::sum_list } else { emulator::difference_list };
+                let built = build(p[0], p[1], p[2], p[3], list);
+                [built.number, 0, built.count, 0, 0]
+            }
+            READ_PLAIN => put(emulator::read_plain(p[0], file, list)),
+            READ_PICTURE => put(emulator::read_picture(file, memory, registers)),
+            WRITE_PLAIN => put(emulator::write_plain(p[0], list, file)),
+            WRITE_PICTURE => put(emulator::write_picture(memory, registers, file)),
+            SUM_RUN | DIFFERENCE_RUN => {
+                let build = if self.kind == SUM_RUN { emulator::sum_list } else { emulator::difference_list };
+                let built = build(p[0], p[1], p[2], p[3], list);
+                if built.number != 0 {
+                    return [built.number, 0, 0, 0, 0];
+                }
+                numbers(emulator::run(memory, registers, &list[..built.count as usize], items, out))
+            }
+            _ => panic!("no such case"),
+        }
+    }
+
+    pub fn answer(&self) -> Reply {
+        let mut buffers = self.make();
+        let numbers = self.call(&mut buffers);
+        let mut words = [0u32; 11];
+        words[..5].copy_from_slice(&numbers);
+        for k in 0..6 {
+            words[5 + k] = digest(&buffers[k]);
+        }
+        Reply { words }
+    }
+}
+
+fn numbers(a: emulator::Answer) -> [u32; 5] {
+    [a.number, a.place, a.steps, a.taken, a.given]
+}
+
+fn put(a: emulator::Put) -> [u32; 5] {
+    [a.number, a.place, a.bytes, 0, 0]
+}
+
+/// Five numbers, then six digests.
+#[derive(Clone, Copy, PartialEq, Eq, Debug)]
+pub struct Reply {
+    pub words: [u32; 11],
+}
+
+impl Reply {
+    /// The answer's line, without its line feed.
+    pub fn line(&self) -> String {
+        let words: Vec<String> = self.words.iter().map(|w| format!("{:08x}", w)).collect();
+        words.join(" ")
+    }
+
+    pub fn from_line(line: &str) -> Option<Reply> {
+        let mut words = [0; 11];
+        let parts: Vec<&str> = line.split(' ').collect();
+        if parts.len() != 11 {
+            return None;
+        }
+        for k in 0..11 {
+            if parts[k].len() != 8 {
+                return None;
+            }
+            words[k] = u32::from_str_radix(parts[k], 16).ok()?;
+        }
+        Some(Reply { words })
+    }
+}
+
+#[cfg(test)]
+mod tests {
+    use super::*;
+
+    #[test]
+    fn shaped_instructions_stand_and_reach_everything() {
+        let mut x = 7;
+        let mut codes = std::collections::BTreeSet::new();
+        let mut logic = std::collections::BTreeSet::new();
+        let mut kinds = std::collections::BTreeSet::new();
+        for round in 0..8000 {
+            let mut r = [0u8; 8];
+            for b in &mut r {
+                x = next(x);
+                *b = (x % 256) as u8;
+            }
+            let shape = 1 + (round % 2) as u8;
+            let b = shaped(&r, shape);
+            kinds.insert((shape, b[0], b[1]));
+            codes.insert(b[6]);
+            if b[0] == 0 {
+                logic.insert(b[7]);
+            }
+            if round % 8 == 0 || b[0] == 5 {
+                let mut out = [0; 32];
+                let a = emulator::run(&mut [0; 8192], &mut [0; 96], &b, &[0; 32], &mut out);
+                assert_eq!(a.number, 0, "{:?}", b);
+            }
+        }
+        assert_eq!(codes.len(), 37);
+        assert_eq!(logic.len(), 80);
+        assert_eq!(kinds.len(), 2 * (5 + 5 + 4 + 4 + 5 + 1));
+    }
+
+    #[test]
+    fn a_changed_or_swapped_byte_shows() {
+        let mut bytes: Vec<u8> = Vec::new();
+        let mut x = 9;
+        for _ in 0..35000 {
+            x = next(x);
+            bytes.push((x % 256) as u8);
+        }
+        let whole = digest(&bytes);
+        for at in [0usize, 1, 2, 255, 256, 8191, 34999] {
+            for value in 0..=255u8 {
+                let old = bytes[at];
+                bytes[at] = value;
+                let other = digest(&bytes);
+                bytes[at] = old;
+                assert_eq!(other / 65536 == whole / 65536, value == old);
+                assert_eq!(other % 65536 == whole % 65536, value == old);
+            }
+        }
+        // 251 has order 65,520 in the first prime: a swap shows at any distance up to 35,000
+        let (mut power, mut order) = (251u32, 1);
+        while power != 1 {
+            power = power * 251 % 65521;
+            order += 1;
+        }
+        assert_eq!(order, 65520);
+        let (mut power, mut order) = (263u32, 1);
+        while power != 1 {
+            power = power * 263 % 65519;
+            order += 1;
+        }
+        assert_eq!(order, 65518);
+        for d in 2..256u32 {
+            assert!(65521 % d != 0 && 65519 % d != 0);
+        }
+    }
+
+    #[test]
+    fn sealing_agrees_with_the_emulator() {
+        let mut case = Case::new(READ_PLAIN, 5);
+        case.lengths[FILE] = 2048;
+        case.p = [2, 2, 16, 1];
+        let buffers = case.make();
+        for block in buffers[FILE].chunks(512) {
+            let mut again = block.to_vec();
+            emulator::blocks::seal(&mut again);
+            assert_eq!(again, block);
+        }
+    }
+
+    /// The values that PROTOCOL.md prints.
+    #[test]
+    fn the_values_of_the_protocol() {
+        let page = include_str!("../PROTOCOL.md");
+        let lines: Vec<&str> = page.lines().collect();
+        let mut checked = 0;
+        let asked: Vec<&str> = lines.iter().copied().filter(|l| l.len() > 70 && l.bytes().all(|c| c.is_ascii_hexdigit())).collect();
+        let answered: Vec<&str> = lines.iter().copied().filter(|l| Reply::from_line(l).is_some()).collect();
+        assert_eq!((asked.len(), answered.len()), (4, 4));
+        for (line, reply) in asked.iter().zip(&answered) {
+            let case = Case::from_line(line).unwrap();
+            case.check();
+            assert_eq!(case.line(), *line);
+            assert_eq!(case.answer().line(), *reply);
+            checked += 1;
+        }
+        assert_eq!(checked, 4);
+        let mut case = Case::new(RUN, 1);
+        case.lengths[LIST] = 8;
+        assert_eq!(case.make()[LIST], [0x21, 0x01, 0xc5, 0x4f, 0xd1, 0xd0, 0x1a, 0xb2]);
+        assert_eq!(digest(&[0, 1, 2, 3, 4, 5, 6, 7]), 0xf308c57b);
+        assert_eq!(digest(&[0; 32]), 0x63071f6b);
+        assert_eq!(digest(&[]), 0x00010001);
+        case.lengths[LIST] = 8192;
+        assert_eq!(digest(&case.make()[LIST]), 0x1980442a);
+        case.lengths[LIST] = 32;
+        case.shape = 2;
+        assert_eq!(case.make()[LIST][16..24], [0, 3, 0, 0, 0, 0xb9, 0x10, 0x4f]);
+        let mut case = Case::new(READ_PLAIN, 1);
+        case.lengths[FILE] = 1024;
+        case.p = [2, 2, 16, 1];
+        assert_eq!(digest(&case.make()[FILE]), 0x18fde4f6);
+    }
+}

@@ -1,0 +1,124 @@
+//! A case and a difference in words.
+
+use crate::case::*;
+use std::fmt::Write;
+
+const DID: [&str; 6] = ["logic", "set M", "store", "masked store", "deliver", "resolve"];
+const FROM: [&str; 5] = ["memory", "M", "X", "Y", "outside"];
+
+pub fn hex(bytes: &[u8]) -> String {
+    bytes.iter().map(|b| format!("{:02x}", b)).collect::<Vec<_>>().join(" ")
+}
+
+pub fn instruction(b: &[u8]) -> String {
+    let kind = DID.get(b[0] as usize).copied().unwrap_or("?");
+    let source = FROM.get(b[1] as usize).copied().unwrap_or("?");
+    let mut text = format!("{} from {}", kind, source);
+    if b[2] != 0 || b[3] != 0 || b[4] != 0 {
+        write!(text, ", tag {} mode {} address {}", b[2], b[3], b[4]).unwrap();
+    }
+    if b[5] != 0 {
+        write!(text, ", flip {}", b[5]).unwrap();
+    }
+    if b[6] != 0 {
+        write!(text, ", byte 6 = {} (2^{} mod 2^{})", b[6], b[6] % 16, b[6] / 16).unwrap();
+    }
+    if b[0] == 0 || b[7] != 0 {
+        write!(text, ", choice {} function {}", b[7] / 16, b[7] % 16).unwrap();
+    }
+    text
+}
+
+pub fn describe(case: &Case) -> String {
+    let mut t = String::new();
+    let p = case.p;
+    writeln!(t, "kind {}: {}; seed {}", case.kind, KINDS[case.kind as usize], case.seed).unwrap();
+    match case.kind {
+        PASS | WIRED => writeln!(t, "flip {}, byte 6 = {} (2^{} mod 2^{}, 0 for none)", p[0], p[1], p[1] % 16, p[1] / 16).unwrap(),
+        SUM | DIFFERENCE | SUM_RUN | DIFFERENCE_RUN => {
+            let first = if case.kind == SUM || case.kind == SUM_RUN { 1 } else { 2 };
+            writeln!(t, "A starts at {}, B at {}, S at {}, width {}", p[0], p[1], p[2], p[3]).unwrap();
+            if p[3] <= 64 {
+                writeln!(t, "the list wants {} bytes", 8 * (first + 5 * p[3])).unwrap();
+            }
+        }
+        READ_PLAIN | READ_PICTURE => {
+            if case.kind == READ_PLAIN {
+                writeln!(t, "kind asked {}", p[0]).unwrap();
+            }
+            if p[3] == 1 {
+                let blocks = case.lengths[FILE] / 512;
+                writeln!(t, "file formatted as {} blocks of kind {}, the last using {}", blocks, p[1], p[2]).unwrap();
+            } else {
+                writeln!(t, "file not formatted").unwrap();
+            }
+        }
+        WRITE_PLAIN => writeln!(t, "kind asked {}", p[0]).unwrap(),
+        _ => {}
+    }
+    for k in 0..6 {
+        if case.lengths[k] != 0 {
+            let filled = if (case.zeros >> k) % 2 == 1 || case.seed == 0 { "zeros" } else { "from the seed" };
+            writeln!(t, "buffer {} ({}): {} bytes, {}", k, BUFFERS[k], case.lengths[k], filled).unwrap();
+        }
+    }
+    let buffers = case.make();
+    if case.kind == RUN || case.kind == STEP {
+        if case.shape != 0 {
+            writeln!(t, "the list is shaped ({})", case.shape).unwrap();
+        }
+        for (k, b) in buffers[LIST].chunks(8).enumerate() {
+            if k == 24 {
+                writeln!(t, "  ... {} instructions in all", buffers[LIST].len() / 8).unwrap();
+                break;
+            }
+            if b.len() == 8 {
+                writeln!(t, "  {:>4}: {}   {}", k, hex(b), instruction(b)).unwrap();
+            } else {
+                writeln!(t, "  {:>4}: {}   (not whole)", k, hex(b)).unwrap();
+            }
+        }
+    }
+    if case.kind == PASS || case.kind == WIRED {
+        writeln!(t, "item {}", hex(&buffers[ITEMS])).unwrap();
+    }
+    for patch in &case.patches {
+        let at = patch.offset as usize;
+        match patch.target {
+            SEAL => writeln!(t, "then block {} is sealed", at).unwrap(),
+            k if k as usize == LIST && (case.kind == RUN || case.kind == STEP) && at % 8 == 0 => {
+                writeln!(t, "patch: list from instruction {} on, {} bytes", at / 8, patch.bytes.len()).unwrap()
+            }
+            k if k as usize == FILE => {
+                writeln!(t, "patch: file byte {} (block {}, byte {}): {}", at, at / 512, at % 512, hex(&patch.bytes)).unwrap()
+            }
+            k => writeln!(t, "patch: {} byte {}: {}", BUFFERS[k as usize], at, hex(&patch.bytes)).unwrap(),
+        }
+    }
+    t
+}
+
+pub fn differences(one: &str, x: Option<&str>, other: &str, y: Option<&str>) -> String {
+    let mut t = String::new();
+    writeln!(t, "{}: {}", one, x.unwrap_or("(no line)")).unwrap();
+    writeln!(t, "{}: {}", other, y.unwrap_or("(no line)")).unwrap();
+    let parsed = (x.and_then(Reply::from_line), y.and_then(Reply::from_line));
+    let (a, b) = match parsed {
+        (Some(a), Some(b)) => (a.words, b.words),
+        _ => {
+            writeln!(t, "one of them is no answer of eleven words").unwrap();
+            return t;
+        }
+    };
+    const NUMBERS: [&str; 5] = ["number", "place", "steps, count or bytes", "taken", "given"];
+    for k in 0..11 {
+        if a[k] != b[k] {
+            if k < 5 {
+                writeln!(t, "{}: {} against {}", NUMBERS[k], a[k], b[k]).unwrap();
+            } else {
+                writeln!(t, "buffer {} ({}) differs afterwards", k - 5, BUFFERS[k - 5]).unwrap();
+            }
+        }
+    }
+    t
+}

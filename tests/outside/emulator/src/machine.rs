@@ -1,0 +1,308 @@
+//! Judging and running of instruction lists.
+
+use crate::bits::{pack, unpack, Row, ZERO};
+use crate::memory::Table;
+use crate::network::{pass_lines, shift_of, Shift};
+
+/// What a run or a step gives.
+#[derive(Clone, Copy, PartialEq, Eq, Debug, Default)]
+pub struct Answer {
+    pub number: u32,
+    pub place: u32,
+    pub steps: u32,
+    pub taken: u32,
+    pub given: u32,
+}
+
+impl Answer {
+    /// A refusal has the last three 0.
+    fn refused(number: u32, place: usize) -> Answer {
+        Answer { number, place: place as u32, ..Answer::default() }
+    }
+}
+
+#[derive(Clone, Copy, PartialEq, Eq, Debug)]
+enum Source {
+    Memory { mode: usize, address: usize },
+    M,
+    X,
+    Y,
+    Outside,
+}
+
+#[derive(Clone, Copy, PartialEq, Eq, Debug)]
+enum Act {
+    Logic { choice: u8, function: u8 },
+    SetM,
+    Store { mode: usize, address: usize, masked: bool },
+    Deliver,
+}
+
+/// An instruction that has been judged good.
+#[derive(Clone, Copy, PartialEq, Eq, Debug)]
+enum Instruction {
+    Pass { source: Source, flip: usize, shift: Shift, act: Act },
+    Resolve,
+}
+
+impl Instruction {
+    fn takes(&self) -> bool {
+        matches!(self, Instruction::Pass { source: Source::Outside, .. })
+    }
+    fn gives(&self) -> bool {
+        matches!(self, Instruction::Resolve | Instruction::Pass { act: Act::Deliver, .. })
+    }
+}
+
+/// Refusals 5 to 11, in that order, or the instruction.
+fn judge_one(b: &[u8]) -> Result<Instruction, u32> {
+    let (kind, source) = (b[0], b[1]);
+    if kind > 5 {
+        return Err(5);
+    }
+    let store = kind == 2 || kind == 3;
+    let resolve = kind == 5;
+    if source > 4 || (store && source == 0) || (resolve && source != 0) {
+        return Err(6);
+    }
+    // Kinds 0, 1 and 4 with source 0, and kinds 2 and 3 always, touch memory; kind 5 does not,
+    // although its source byte is 0 (reading B6).
+    let touched = store || (!resolve && source == 0);
+    if touched && b[2] == 0 {
+        return Err(7);
+    }
+    if touched && b[2] > 1 {
+        return Err(8);
+    }
+    if !touched && (b[2] != 0 || b[3] != 0 || b[4] != 0) {
+        return Err(9);
+    }
+    let shift = match shift_of(b[6]) {
+        None => return Err(10),
+        Some(shift) => shift,
+    };
+    if store && b[6] != 0 {
+        return Err(10);
+    }
+    if resolve && (b[5] != 0 || b[6] != 0) {
+        return Err(10);
+    }
+    let (choice, function) = (b[7] / 16, b[7] % 16);
+    if kind == 0 {
+        if choice > 4 {
+            return Err(11);
+        }
+    } else if b[7] != 0 {
+        return Err(11);
+    }
+
+    if resolve {
+        return Ok(Instruction::Resolve);
+    }
+    let (mode, address) = (b[3] as usize, b[4] as usize);
+    let source = match source {
+        0 => Source::Memory { mode, address },
+        1 => Source::M,
+        2 => Source::X,
+        3 => Source::Y,
+        _ => Source::Outside,
+    };
+    let act = match kind {
+        0 => Act::Logic { choice, function },
+        1 => Act::SetM,
+        2 => Act::Store { mode, address, masked: false },
+        3 => Act::Store { mode, address, masked: true },
+        _ => Act::Deliver,
+    };
+    Ok(Instruction::Pass { source, flip: b[5] as usize, shift, act })
+}
+
+/// Refusals 5 to 11 for each instruction in turn; then 12; then 13.
+fn judge(list: &[u8], items: usize, room: usize) -> Result<Vec<Instruction>, (u32, usize)> {
+    let mut good = Vec::new();
+    for (place, bytes) in list.chunks(8).enumerate() {
+        good.push(judge_one(bytes).map_err(|number| (number, place))?);
+    }
+    let mut left = items;
+    for (place, instruction) in good.iter().enumerate() {
+        if instruction.takes() {
+            if left == 0 {
+                return Err((12, place));
+            }
+            left -= 1;
+        }
+    }
+    let mut left = room;
+    for (place, instruction) in good.iter().enumerate() {
+        if instruction.gives() {
+            if left == 0 {
+                return Err((13, place));
+            }
+            left -= 1;
+        }
+    }
+    Ok(good)
+}
+
+/// The module while it runs.
+struct Module {
+    table: Table,
+    m: Row,
+    x: Row,
+    y: Row,
+}
+
+/// Function bit 2r+f is the new register bit for old bit r and passed bit f.
+fn function_bit(function: u8, r: bool, f: bool) -> bool {
+    let number = 2 * (r as u8) + f as u8;
+    (function >> number) % 2 == 1
+}
+
+impl Module {
+    fn logic(&mut self, choice: u8, function: u8, passed: &Row) {
+        let (old_x, old_y) = (self.x, self.y);
+        for line in 0..256 {
+            let new_x = function_bit(function, old_x[line], passed[line]);
+            let new_y = function_bit(function, old_y[line], passed[line]);
+            match choice {
+                0 => self.x[line] = new_x,
+                1 => self.y[line] = new_y,
+                2 => {
+                    self.x[line] = new_x;
+                    self.y[line] = new_y;
+                }
+                3 => {
+                    if old_y[line] {
+                        self.x[line] = new_x;
+                    }
+                }
+                4 => {
+                    if old_y[line] {
+                        self.x[line] = new_x;
+                    }
+                    self.y[line] = new_y;
+                }
+                _ => unreachable!(),
+            }
+        }
+    }
+
+    /// 1 if any Y bit is set, else 0; the smallest set Y number, 0 if none; thirty zeros.
+    fn resolve(&self) -> [u8; 32] {
+        let mut item = [0u8; 32];
+        if let Some(first) = self.y.iter().position(|&bit| bit) {
+            item[0] = 1;
+            item[1] = first as u8;
+        }
+        item
+    }
+
+    fn act(&mut self, source_item: Row, flip: usize, shift: Shift, act: Act) -> Option<[u8; 32]> {
+        let mut passed = ZERO;
+        passed.copy_from_slice(&pass_lines(&source_item, flip, shift));
+        match act {
+            Act::Logic { choice, function } => {
+                self.logic(choice, function, &passed);
+                None
+            }
+            Act::SetM => {
+                self.m = passed;
+                None
+            }
+            Act::Store { mode, address, masked } => {
+                // The bit on line P after the flip came from line P xor F; the M bit is the one of
+                // that line (reading A7).
+                let mut may_write = [true; 256];
+                if masked {
+                    for before in 0..256 {
+                        may_write[before ^ flip] = self.m[before];
+                    }
+                }
+                self.table.store(mode, address, &passed, &may_write);
+                None
+            }
+            Act::Deliver => Some(pack(&passed)),
+        }
+    }
+}
+
+/// Everything after refusals 1 to 4; the lengths are right.
+fn run_judged(memory: &mut [u8], registers: &mut [u8], list: &[u8], items: &[u8], out: &mut [u8]) -> Answer {
+    let instructions = match judge(list, items.len() / 32, out.len() / 32) {
+        Ok(good) => good,
+        Err((number, place)) => return Answer::refused(number, place),
+    };
+    let mut module = Module {
+        table: Table::from_chips(memory),
+        m: unpack(&registers[0..32]),
+        x: unpack(&registers[32..64]),
+        y: unpack(&registers[64..96]),
+    };
+    let mut taken = 0;
+    let mut given = 0;
+    for instruction in &instructions {
+        let delivered = match *instruction {
+            Instruction::Resolve => Some(module.resolve()),
+            Instruction::Pass { source, flip, shift, act } => {
+                let source_item = match source {
+                    Source::Memory { mode, address } => module.table.fetch(mode, address),
+                    Source::M => module.m,
+                    Source::X => module.x,
+                    Source::Y => module.y,
+                    Source::Outside => {
+                        taken += 1;
+                        unpack(&items[32 * (taken - 1)..32 * taken])
+                    }
+                };
+                module.act(source_item, flip, shift, act)
+            }
+        };
+        if let Some(item) = delivered {
+            out[32 * given..32 * given + 32].copy_from_slice(&item);
+            given += 1;
+        }
+    }
+    module.table.to_chips(memory);
+    registers[0..32].copy_from_slice(&pack(&module.m));
+    registers[32..64].copy_from_slice(&pack(&module.x));
+    registers[64..96].copy_from_slice(&pack(&module.y));
+    Answer {
+        number: 0,
+        place: 0,
+        steps: instructions.len() as u32,
+        taken: taken as u32,
+        given: given as u32,
+    }
+}
+
+/// A run of a list.
+pub fn run(memory: &mut [u8], registers: &mut [u8], list: &[u8], items: &[u8], out: &mut [u8]) -> Answer {
+    if memory.len() != 8192 {
+        return Answer::refused(1, 0);
+    }
+    if registers.len() != 96 {
+        return Answer::refused(2, 0);
+    }
+    if list.len() % 8 != 0 || list.len() > 32768 {
+        return Answer::refused(3, 0);
+    }
+    if items.len() % 32 != 0 || items.len() > 32768 {
+        return Answer::refused(4, 0);
+    }
+    run_judged(memory, registers, list, items, out)
+}
+
+/// A step: as a run of the list of that one instruction, but the instruction is exactly 8 bytes,
+/// else 3 (also at 0 bytes, reading B15). The registers are the record M, X, Y, so 2 cannot arise.
+pub fn step(memory: &mut [u8], registers: &mut [u8; 96], instruction: &[u8], items: &[u8], out: &mut [u8]) -> Answer {
+    if memory.len() != 8192 {
+        return Answer::refused(1, 0);
+    }
+    if instruction.len() != 8 {
+        return Answer::refused(3, 0);
+    }
+    if items.len() % 32 != 0 || items.len() > 32768 {
+        return Answer::refused(4, 0);
+    }
+    run_judged(memory, registers, instruction, items, out)
+}

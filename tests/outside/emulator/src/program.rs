@@ -1,0 +1,55 @@
+//! The program: three files in, one line and the given items out, a picture if done.
+
+use crate::blocks::{read_picture, read_plain, write_picture, Put, ITEMS, LIST};
+use crate::machine::run;
+
+/// What the program prints, and after.pic if it writes one. A file that is absent is None.
+pub fn program(before: Option<&[u8]>, list: Option<&[u8]>, items: Option<&[u8]>) -> (String, Option<Vec<u8>>) {
+    let refusal = |letter: char, put: Put| (format!("{} {} {} 0 0 0\n", letter, put.number, put.place), None);
+    let twenty = Put { number: 20, place: 0, bytes: 0 };
+
+    let mut memory = vec![0u8; 8192];
+    let mut registers = vec![0u8; 96];
+    let put = match before {
+        Some(file) if file.len() <= 17 * 512 => read_picture(file, &mut memory, &mut registers),
+        _ => twenty,
+    };
+    if put.number != 0 {
+        return refusal('p', put);
+    }
+
+    let mut contents: Vec<Vec<u8>> = Vec::new();
+    for (letter, kind, file) in [('l', LIST, list), ('i', ITEMS, items)] {
+        let mut target = vec![0u8; 16 * 496];
+        let put = match file {
+            None => Put { number: 0, place: 0, bytes: 0 },
+            Some(file) if file.len() <= 16 * 512 => read_plain(kind, file, &mut target),
+            Some(_) => twenty,
+        };
+        if put.number != 0 {
+            return refusal(letter, put);
+        }
+        target.truncate(put.bytes as usize);
+        contents.push(target);
+    }
+
+    let mut out = vec![0u8; 8192];
+    let answer = run(&mut memory, &mut registers, &contents[0], &contents[1], &mut out);
+    let mut text = format!(
+        "r {} {} {} {} {}\n",
+        answer.number, answer.place, answer.steps, answer.taken, answer.given
+    );
+    if answer.number != 0 {
+        return (text, None);
+    }
+    for item in out.chunks(32).take(answer.given as usize) {
+        for byte in item {
+            text.push_str(&format!("{:02x}", byte));
+        }
+        text.push('\n');
+    }
+    let mut file = vec![0u8; 17 * 512];
+    let put = write_picture(&memory, &registers, &mut file);
+    assert_eq!(put, Put { number: 0, place: 0, bytes: 8704 });
+    (text, Some(file))
+}

@@ -1,0 +1,402 @@
+mod common;
+use common::*;
+use emulator::bits::{pack, unpack};
+use emulator::memory::met;
+use emulator::network::codes;
+use emulator::*;
+
+const NOTHING: [u8; 8] = [0, 2, 0, 0, 0, 0, 0, 0x0C]; // X becomes X: function 12 keeps r
+
+fn list(instructions: &[[u8; 8]]) -> Vec<u8> {
+    instructions.concat()
+}
+
+#[test]
+fn example_store_lands_at_bit_43_of_word_85() {
+    for (mode, address, line, bit, word) in [(7u8, 45u8, 83usize, 43, 85), (0, 13, 200, 13, 200), (255, 13, 200, 200, 13)] {
+        let mut bench = Bench::zero();
+        bench.registers[64 + line / 8] = 1 << (line % 8);
+        let answer = bench.run(&[2, 3, 1, mode, address, 0, 0, 0]);
+        assert_eq!(answer, ok(1, 0, 0));
+        let mut expected = emulator::memory::Table::zero();
+        expected.set(word, bit, true);
+        assert_eq!(bench.table(), expected);
+        assert_eq!(met(mode as usize, address as usize, line), (bit, word));
+    }
+}
+
+#[test]
+fn empty_list_is_done_but_buffers_are_judged() {
+    let mut bench = Bench::random(&mut Random(3), 64, 7);
+    let before = bench.clone();
+    assert_eq!(bench.run(&[]), ok(0, 0, 0));
+    assert!(bench == before);
+    bench.memory.pop();
+    bench.refused(&[], 1, 0);
+    let mut bench = before.clone();
+    bench.registers.push(0);
+    bench.refused(&[], 2, 0);
+    let mut bench = before.clone();
+    bench.items.push(0);
+    bench.refused(&[], 4, 0);
+}
+
+#[test]
+fn refusals_1_to_4_and_their_order() {
+    let good = Bench::random(&mut Random(4), 64, 64);
+    for length in [0, 1, 8191, 8193, 8200] {
+        let mut bench = good.clone();
+        bench.memory = vec![1; length];
+        bench.registers = vec![];
+        bench.items = vec![0; 5];
+        bench.refused(&[9; 3], 1, 0);
+    }
+    for length in [0, 95, 97, 32, 64] {
+        let mut bench = good.clone();
+        bench.registers = vec![1; length];
+        bench.items = vec![0; 5];
+        bench.refused(&[9; 3], 2, 0);
+    }
+    for length in [1, 7, 9, 12, 32767, 32769, 32776] {
+        let mut bench = good.clone();
+        bench.items = vec![0; 5];
+        bench.refused(&vec![9; length], 3, 0);
+    }
+    for length in [1, 31, 33, 32767, 32769, 32800] {
+        let mut bench = good.clone();
+        bench.items = vec![0; length];
+        bench.refused(&[9; 8], 4, 0);
+    }
+    let mut bench = good.clone();
+    bench.items = vec![7; 32768];
+    assert_eq!(bench.run(&list(&vec![NOTHING; 4096])), ok(4096, 0, 0));
+}
+
+/// The number that the table gives to an instruction, worded as the table is, condition by
+/// condition, without the order of the emulator's code.
+fn table_number(b: &[u8]) -> u32 {
+    let k = b[0];
+    let touched = ((k == 0 || k == 1 || k == 4) && b[1] == 0) || k == 2 || k == 3;
+    let stands = codes().contains(&b[6]);
+    let conditions = [
+        (5, k > 5),
+        (6, b[1] > 4 || (b[1] == 0 && (k == 2 || k == 3)) || (b[1] != 0 && k == 5)),
+        (7, touched && b[2] == 0),
+        (8, touched && b[2] > 1),
+        (9, !touched && (b[2] != 0 || b[3] != 0 || b[4] != 0)),
+        (10, !stands || (b[6] != 0 && (k == 2 || k == 3)) || ((b[5] != 0 || b[6] != 0) && k == 5)),
+        (11, if k == 0 { b[7] >= 80 } else { b[7] != 0 }),
+    ];
+    conditions.iter().find(|c| c.1).map(|c| c.0).unwrap_or(0)
+}
+
+#[test]
+fn refusals_5_to_11_against_the_table() {
+    let mut random = Random(8);
+    let mut seen = [0; 14];
+    let mut bench = Bench::zero();
+    bench.items = vec![0; 32];
+    bench.out = vec![0; 32];
+    for _ in 0..20000 {
+        let pick = |random: &mut Random, small: u64| if random.below(8) == 0 { random.byte() } else { random.below(small) as u8 };
+        let mut b = [0u8; 8];
+        b[0] = pick(&mut random, 7);
+        b[1] = pick(&mut random, 6);
+        b[2] = pick(&mut random, 3);
+        if random.below(2) == 0 {
+            b[3] = pick(&mut random, 2);
+            b[4] = pick(&mut random, 2);
+        }
+        b[5] = pick(&mut random, 2);
+        b[6] = if random.below(2) == 0 { 0 } else { random.byte() };
+        b[7] = if random.below(2) == 0 { 0 } else { random.byte() };
+        let number = table_number(&b);
+        seen[number as usize] += 1;
+        if number == 0 {
+            continue; // the run of these is for other tests
+        }
+        let place = random.below(4) as usize;
+        let mut instructions = vec![NOTHING; place];
+        instructions.push(b);
+        instructions.push([9; 8]);
+        bench.refused(&list(&instructions), number, place as u32);
+        let mut registers = [0u8; 96];
+        let answer = step(&mut bench.memory, &mut registers, &b, &bench.items, &mut bench.out);
+        assert_eq!((answer.number, answer.place), (number, 0));
+    }
+    for number in 5..=11 {
+        assert!(seen[number] > 20, "{:?}", seen);
+    }
+    assert!(seen[0] > 20, "{:?}", seen);
+}
+
+#[test]
+fn named_refusals() {
+    let cases: [([u8; 8], u32); 30] = [
+        ([6, 0, 0, 0, 0, 0, 0, 0], 5),
+        ([255, 9, 9, 9, 9, 9, 9, 9], 5),
+        ([0, 5, 0, 0, 0, 0, 0, 0], 6),
+        ([2, 0, 0, 0, 0, 0, 0, 0], 6), // reading B7
+        ([3, 0, 1, 0, 0, 0, 0, 0], 6),
+        ([5, 1, 0, 0, 0, 0, 0, 0], 6),
+        ([2, 3, 0, 255, 0, 0, 0, 0], 7), // a store with tag 0 and mode 255 is 7
+        ([2, 3, 0, 0, 0, 0, 0, 0], 7),
+        ([0, 0, 0, 0, 0, 0, 0, 0], 7),
+        ([1, 0, 0, 7, 7, 0, 0, 0], 7),
+        ([4, 0, 0, 7, 7, 0, 0, 0], 7),
+        ([3, 4, 2, 7, 7, 0, 0, 0], 8),
+        ([0, 0, 255, 7, 7, 0, 0, 0], 8),
+        ([0, 1, 1, 0, 0, 0, 0, 0], 9),
+        ([1, 2, 0, 1, 0, 0, 0, 0], 9),
+        ([4, 3, 0, 0, 1, 0, 0, 0], 9),
+        ([5, 0, 1, 0, 0, 0, 0, 0], 9), // reading B6
+        ([5, 0, 0, 0, 5, 0, 0, 0], 9),
+        ([0, 1, 0, 0, 0, 0, 1, 0], 10),
+        ([0, 1, 0, 0, 0, 0, 136, 0], 10),
+        ([0, 1, 0, 0, 0, 0, 0x90, 0], 10),
+        ([2, 1, 1, 0, 0, 0, 48, 0], 10),
+        ([3, 1, 1, 0, 0, 9, 0x87, 0], 10),
+        ([5, 0, 0, 0, 0, 1, 0, 0], 10),
+        ([5, 0, 0, 0, 0, 0, 16, 0], 10),
+        ([0, 1, 0, 0, 0, 0, 0, 0x50], 11),
+        ([0, 1, 0, 0, 0, 0, 0, 0xFF], 11),
+        ([1, 1, 0, 0, 0, 0, 0, 1], 11),
+        ([2, 1, 1, 0, 0, 0, 0, 0x10], 11),
+        ([5, 0, 0, 0, 0, 0, 0, 2], 11),
+    ];
+    for (bytes, number) in cases {
+        for place in [0usize, 1, 17] {
+            let mut instructions = vec![NOTHING; place];
+            instructions.push(bytes);
+            let mut bench = Bench::zero();
+            bench.refused(&list(&instructions), number, place as u32);
+        }
+    }
+}
+
+#[test]
+fn order_across_instructions() {
+    let mut bench = Bench::zero();
+    // an 11 at 0 comes before a 5 at 1
+    bench.refused(&list(&[[1, 1, 0, 0, 0, 0, 0, 1], [6; 8]]), 11, 0);
+    // 12 and 13 only after every 5 to 11
+    bench.refused(&list(&[[4, 4, 0, 0, 0, 0, 0, 0], [6; 8]]), 5, 1);
+    // a 13 at instruction 0 yields to a 12 at instruction 2
+    bench.refused(&list(&[[5, 0, 0, 0, 0, 0, 0, 0], NOTHING, [1, 4, 0, 0, 0, 0, 0, 0]]), 12, 2);
+    // deliver from outside lacks both: 12
+    bench.refused(&list(&[[4, 4, 0, 0, 0, 0, 0, 0]]), 12, 0);
+    bench.items = vec![1; 32];
+    bench.refused(&list(&[[4, 4, 0, 0, 0, 0, 0, 0]]), 13, 0);
+    bench.out = vec![1; 31];
+    bench.refused(&list(&[NOTHING, [4, 4, 0, 0, 0, 0, 0, 0]]), 13, 1);
+    bench.out = vec![1; 33];
+    assert_eq!(bench.run(&list(&[[4, 4, 0, 0, 0, 0, 0, 0]])), ok(1, 1, 1));
+    assert_eq!(bench.out, vec![1; 33]);
+}
+
+#[test]
+fn places_of_12_and_13() {
+    let take = [1, 4, 0, 0, 0, 0, 0, 0];
+    let store_taken = [2, 4, 1, 0, 0, 0, 0, 0];
+    let give = [4, 1, 0, 0, 0, 0, 0, 0];
+    let resolve = [5, 0, 0, 0, 0, 0, 0, 0];
+    let both = [4, 4, 0, 0, 0, 0, 0, 0];
+    let instructions = list(&[NOTHING, take, give, store_taken, resolve, both, NOTHING, resolve, take]);
+    let takers = [1, 3, 5, 8];
+    let givers = [2, 4, 5, 7];
+    for items in 0..6usize {
+        for room in 0..6usize {
+            for odd in [0, 31] {
+                let mut bench = Bench::random(&mut Random(77), 32 * items, 32 * room + odd);
+                if items < 4 {
+                    bench.refused(&instructions, 12, takers[items]);
+                } else if room < 4 {
+                    bench.refused(&instructions, 13, givers[room]);
+                } else {
+                    assert_eq!(bench.run(&instructions), ok(9, 4, 4));
+                }
+            }
+        }
+    }
+}
+
+#[test]
+fn step_answers_as_a_run_of_one() {
+    let mut random = Random(21);
+    for round in 0..400 {
+        let mut b = [0u8; 8];
+        b[0] = random.below(6) as u8;
+        b[1] = random.below(5) as u8;
+        b[2] = (random.below(4) != 0) as u8;
+        b[3] = random.byte();
+        b[4] = random.byte();
+        if random.below(3) == 0 {
+            b[2] = 0;
+            b[3] = 0;
+            b[4] = 0;
+        }
+        b[5] = random.byte();
+        b[6] = codes()[random.below(37) as usize];
+        if round % 2 == 0 {
+            b[6] = 0;
+        }
+        b[7] = if b[0] == 0 { random.below(80) as u8 } else { 0 };
+        let (items, out) = (32 * random.below(2) as usize, random.below(70) as usize);
+        let mut one = Bench::random(&mut random, items, out);
+        let mut two = one.clone();
+        let run_answer = one.run(&b);
+        let mut record = [0u8; 96];
+        record.copy_from_slice(&two.registers);
+        let step_answer = step(&mut two.memory, &mut record, &b, &two.items, &mut two.out);
+        two.registers = record.to_vec();
+        assert_eq!(run_answer, step_answer);
+        assert!(one == two);
+    }
+}
+
+#[test]
+fn step_lengths() {
+    let mut random = Random(22);
+    for length in [0usize, 1, 7, 9, 16, 64] {
+        let mut bench = Bench::random(&mut random, 32, 32);
+        let before = bench.clone();
+        let mut record = [5u8; 96];
+        let instruction = vec![0u8; length];
+        let answer = step(&mut bench.memory, &mut record, &instruction, &bench.items, &mut bench.out);
+        assert_eq!(answer, Answer { number: 3, ..Answer::default() });
+        let answer = step(&mut bench.memory, &mut record, &instruction, &[0; 31], &mut bench.out);
+        assert_eq!(answer.number, 3);
+        let answer = step(&mut bench.memory[..8191], &mut record, &instruction, &[0; 31], &mut bench.out);
+        assert_eq!(answer.number, 1);
+        assert!(bench == before && record == [5u8; 96]);
+    }
+    let mut bench = Bench::zero();
+    let answer = step(&mut bench.memory, &mut [0; 96], &NOTHING, &[0; 31], &mut []);
+    assert_eq!(answer.number, 4);
+}
+
+#[test]
+fn all_choices_and_functions() {
+    let mut random = Random(31);
+    for choice in 0..5u8 {
+        for function in 0..16u8 {
+            for source in 0..5u8 {
+                let mut bench = Bench::random(&mut random, 32, 0);
+                let before = bench.clone();
+                let touched = (source == 0) as u8;
+                let (mode, address) = if source == 0 { (random.byte(), random.byte()) } else { (0, 0) };
+                let flip = random.byte();
+                let byte6 = codes()[random.below(37) as usize];
+                let instruction = [0, source, touched, mode, address, flip, byte6, 16 * choice + function];
+                let answer = bench.run(&instruction);
+                assert_eq!(answer, ok(1, (source == 4) as u32, 0));
+                let item = match source {
+                    0 => pack(&before.table().fetch(mode as usize, address as usize)),
+                    4 => {
+                        let mut item = [0; 32];
+                        item.copy_from_slice(&before.items);
+                        item
+                    }
+                    s => pack(&before.row(s as usize - 1)),
+                };
+                let passed = unpack(&wired_pass(&item, flip, byte6).1);
+                let (m, x, y) = (before.row(0), before.row(1), before.row(2));
+                let f = |r: bool, p: bool| (function >> (2 * r as u8 + p as u8)) & 1 == 1;
+                assert_eq!(bench.row(0), m);
+                for line in 0..256 {
+                    let changes_x = choice == 0 || choice == 2 || ((choice == 3 || choice == 4) && y[line]);
+                    let changes_y = choice == 1 || choice == 2 || choice == 4;
+                    let new_x = if changes_x { f(x[line], passed[line]) } else { x[line] };
+                    let new_y = if changes_y { f(y[line], passed[line]) } else { y[line] };
+                    assert_eq!((bench.row(1)[line], bench.row(2)[line]), (new_x, new_y));
+                }
+                assert!(bench.memory == before.memory);
+            }
+        }
+    }
+}
+
+#[test]
+fn masked_store_with_flip_uses_the_line_before_the_flip() {
+    let mut random = Random(41);
+    for _ in 0..60 {
+        let mut bench = Bench::random(&mut random, 32, 0);
+        let before = bench.clone();
+        let (mode, address, flip) = (random.byte(), random.byte(), random.byte());
+        let source = 1 + random.below(4) as u8;
+        let masked = random.below(3) != 0;
+        let answer = bench.run(&[2 + masked as u8, source, 1, mode, address, flip, 0, 0]);
+        assert_eq!(answer, ok(1, (source == 4) as u32, 0));
+        let item = if source == 4 { unpack(&before.items) } else { before.row(source as usize - 1) };
+        let mut expected = before.table();
+        for from in 0..256usize {
+            let to = from ^ flip as usize;
+            let (bit, word) = met(mode as usize, address as usize, to);
+            if !masked || before.row(0)[from] {
+                expected.set(word, bit, item[from]);
+            }
+        }
+        assert_eq!(bench.table(), expected);
+        assert_eq!(bench.registers, before.registers);
+    }
+}
+
+#[test]
+fn the_mask_is_the_one_of_that_moment() {
+    let mut bench = Bench::zero();
+    bench.items = vec![0xFF; 64];
+    bench.items[..32].copy_from_slice(&[0x0F; 32]);
+    let answer = bench.run(&list(&[[1, 4, 0, 0, 0, 0, 0, 0], [3, 4, 1, 255, 9, 0, 0, 0], [4, 0, 1, 255, 9, 0, 0, 0]]));
+    assert_eq!((answer.number, answer.place), (13, 2));
+    bench.out = vec![3; 40];
+    let answer = bench.run(&list(&[[1, 4, 0, 0, 0, 0, 0, 0], [3, 4, 1, 255, 9, 0, 0, 0], [4, 0, 1, 255, 9, 0, 0, 0]]));
+    assert_eq!(answer, ok(3, 2, 1));
+    assert_eq!(bench.out[..32], [0x0F; 32]);
+    assert_eq!(bench.out[32..], [3; 8]);
+    assert_eq!(bench.registers[..32], [0x0F; 32]);
+}
+
+#[test]
+fn resolve() {
+    for first in 0..256usize {
+        let mut bench = Bench::zero();
+        bench.out = vec![0xEE; 64];
+        bench.registers[64 + first / 8] |= 1 << (first % 8);
+        bench.registers[95] |= 128;
+        let answer = bench.run(&[5, 0, 0, 0, 0, 0, 0, 0]);
+        assert_eq!(answer, ok(1, 0, 1));
+        let mut expected = vec![0u8; 32];
+        expected[0] = 1;
+        expected[1] = first as u8;
+        expected.extend_from_slice(&[0xEE; 32]);
+        assert_eq!(bench.out, expected);
+    }
+    let mut bench = Bench::zero();
+    bench.out = vec![0xEE; 32];
+    bench.run(&[5, 0, 0, 0, 0, 0, 0, 0]);
+    assert_eq!(bench.out, vec![0; 32]);
+}
+
+#[test]
+fn deliver_every_source_and_outside_in_turn() {
+    let mut random = Random(51);
+    let mut bench = Bench::random(&mut random, 96, 32 * 6);
+    let before = bench.clone();
+    let answer = bench.run(&list(&[
+        [4, 4, 0, 0, 0, 0, 0, 0],
+        [4, 1, 0, 0, 0, 0, 0, 0],
+        [4, 2, 0, 0, 0, 255, 0, 0],
+        [4, 3, 0, 0, 0, 0, 0x87, 0],
+        [4, 4, 0, 0, 0, 0, 0, 0],
+    ]));
+    assert_eq!(answer, ok(5, 2, 4 + 1));
+    assert_eq!(bench.out[..32], before.items[..32]);
+    assert_eq!(bench.out[32..64], before.registers[..32]);
+    let mirrored: Vec<u8> = before.registers[32..64].iter().rev().map(|b| b.reverse_bits()).collect();
+    assert_eq!(bench.out[64..96], mirrored[..]);
+    assert_eq!(bench.out[96..112], before.registers[80..96]);
+    assert_eq!(bench.out[112..128], before.registers[64..80]);
+    assert_eq!(bench.out[128..160], before.items[32..64]);
+    assert_eq!(bench.out[160..], before.out[160..]);
+    assert!(bench.memory == before.memory && bench.registers == before.registers);
+}

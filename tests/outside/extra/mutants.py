@@ -1,0 +1,127 @@
+"""How many of the stored cases notice each of a list of small mistakes in the emulator.
+
+    python3 extra/mutants.py [NUMBER ...]
+
+The repository is copied into a temporary directory; there each mistake in turn is put into the copy,
+the copy answers cases/stdin, and the answers are compared with cases/stdout. A mistake that no case
+notices is printed as SURVIVED.
+"""
+import os
+import shutil
+import subprocess
+import sys
+import tempfile
+
+HERE = os.path.dirname(os.path.dirname(os.path.abspath(__file__)))
+
+M=[
+('memory.rs','let bit = (not(m) & g) ^ (m & p);','let bit = (m & g) ^ (m & p);'),
+('memory.rs','self.words[location ^ chip][location];','self.words[chip][location];'),
+('network.rs','let flipped = i ^ flip;\n    match shift {\n        Shift::None => flipped,','let flipped = i;\n    match shift {\n        Shift::None => flipped ^ flip,'),
+('network.rs','m <= j && j < p && k <= m','m <= j && j < p && k < m'),
+('network.rs','m <= j && j < p && k <= m','m <= j && j <= p && k <= m'),
+('network.rs','(rest + (1usize << m)) % size','(rest + size - (1usize << m)) % size'),
+('machine.rs','may_write[before ^ flip]','may_write[before]'),
+('machine.rs','''                4 => {
+                    if old_y[line] {''','''                4 => {
+                    if new_y {'''),
+('machine.rs','store || (!resolve && source == 0)','store || source == 0'),
+('machine.rs','if touched && b[2] == 0 {','if touched && b[2] == 0 && b[3] != 0 {'),
+('machine.rs','if touched && b[2] > 1 {','if touched && b[2] > 2 {'),
+('machine.rs','if touched && b[2] > 1 {','if touched && b[2] % 2 == 0 {'),
+('machine.rs','if store && b[6] != 0 {','if kind == 2 && b[6] != 0 {'),
+('machine.rs','(b[5] != 0 || b[6] != 0)','(b[6] != 0)'),
+('machine.rs','(b[5] != 0 || b[6] != 0)','(b[5] != 0)'),
+('machine.rs','b[2] != 0 || b[3] != 0 || b[4] != 0','b[2] != 0 || b[3] != 0'),
+('machine.rs','b[2] != 0 || b[3] != 0 || b[4] != 0','b[3] != 0 || b[4] != 0'),
+('machine.rs','if choice > 4 {','if choice > 5 {'),
+('machine.rs','} else if b[7] != 0 {','} else if b[7] / 16 != 0 {'),
+('machine.rs','} else if b[7] != 0 {','} else if kind != 5 && b[7] != 0 {'),
+('machine.rs','source > 4 ||','source > 5 ||'),
+('machine.rs','|| (resolve && source != 0)',''),
+('machine.rs','list.len() > 32768','list.len() > 33000'),
+('machine.rs','list.len() > 32768','list.len() >= 32768'),
+('machine.rs','items.len() > 32768 {\n        return Answer::refused(4, 0);\n    }\n    run_judged(memory, registers, list,','items.len() > 33000 {\n        return Answer::refused(4, 0);\n    }\n    run_judged(memory, registers, list,'),
+('machine.rs','items.len() > 32768 {\n        return Answer::refused(4, 0);\n    }\n    run_judged(memory, registers, instruction,','items.len() > 33000 {\n        return Answer::refused(4, 0);\n    }\n    run_judged(memory, registers, instruction,'),
+('machine.rs','items.len() > 32768','items.len() >= 32768'),
+('machine.rs','out.len() / 32)','(out.len() + 31) / 32)'),
+('machine.rs','if instruction.len() != 8 {','if instruction.len() != 8 && instruction.len() != 0 {'),
+('machine.rs','if instruction.len() != 8 {','if instruction.len() % 8 != 0 {'),
+('machine.rs','2 * (r as u8) + f as u8','r as u8 + 2 * f as u8'),
+('machine.rs','self.y.iter().position','self.y.iter().rposition'),
+('machine.rs','map_err(|number| (number, place))','map_err(|number| (number, place + 1))'),
+('machine.rs','if masked {','if true {'),
+('machine.rs','self.m = passed;','self.m = source_item;'),
+('machine.rs','Some(pack(&passed))','Some(pack(&source_item))'),
+('machine.rs','self.y[line] = new_y;\n                }\n                3 =>','self.y[line] = function_bit(function, old_y[line], new_x);\n                }\n                3 =>'),
+('machine.rs','return Err((12, place))','return Err((12, 0))'),
+('machine.rs','return Err((13, place))','return Err((13, 0))'),
+('lists.rs','(overlap(&field_s, &field_a) && s != a) || (overlap(&field_s, &field_b) && s != b)','(overlap(&field_s, &field_a) || overlap(&field_s, &field_b)) && s != b && s != a'),
+('lists.rs','(overlap(&field_s, &field_a) && s != a) ||','(overlap(&field_s, &field_a) && s > a) ||'),
+('lists.rs','if difference { 9 } else { 6 }','6'),
+('lists.rs','if buffer.len() < bytes.len() {','if buffer.len() < 8 * (1 + 5 * n as usize) {'),
+('lists.rs','a + n > 256','(a + n) % 4294967296 > 256'),
+('lists.rs','s + n > 256','s + n > 255'),
+('lists.rs','width > 64','width > 63'),
+('lists.rs','width < 1 ||','width > 65536 ||'),
+('lists.rs','logic(X, 3, 3)','logic(X, 3, 6)'),
+('blocks.rs','((s1 % 65535) as u32, (s2 % 65535) as u32)','((s1 % 65536) as u32, (s2 % 65535) as u32)'),
+('blocks.rs','((s1 % 65535) as u32, (s2 % 65535) as u32)','((s1 % 65535) as u32, (s2 % 65536) as u32)'),
+('blocks.rs','(508 - i as u64)','(509 - i as u64)'),
+('blocks.rs','(two(block, 508), two(block, 510)) != sums(block)','(two(block, 508) % 65535, two(block, 510)) != sums(block)'),
+('blocks.rs','(two(block, 508), two(block, 510)) != sums(block)','(two(block, 508), two(block, 510) % 65535) != sums(block)'),
+('blocks.rs','if two(block, 0) != kind {','if two(block, 0) % 256 != kind {'),
+('blocks.rs','two(block, 2) as usize != place','block[2] as usize != place'),
+('blocks.rs','two(block, 4) as usize != count','block[4] as usize != count'),
+('blocks.rs','1 <= used && used <= 496','used <= 496'),
+('blocks.rs','used <= 496\n    } else {','used >= 1 && used <= 496\n    } else {'),
+('blocks.rs','block[8..12]','block[8..11]'),
+('blocks.rs','block[8..12]','block[9..12]'),
+('blocks.rs','|| payload[used..].iter().any(|&b| b != 0)',''),
+('blocks.rs','payload[used..].iter()','payload[(used + 1).min(496)..].iter()'),
+('blocks.rs','file.len() > 34304','file.len() > 34816'),
+('blocks.rs','file.len() > 34304','file.len() > 34303'),
+('blocks.rs','ITEMS => size % 32 == 0 &&','ITEMS => size % 8 == 0 &&'),
+('blocks.rs','LIST => size % 8 == 0 && size <= 32768','LIST => size % 8 == 0'),
+('blocks.rs','LIST => size % 8 == 0 && size <= 32768','LIST => size % 8 == 0 && size < 32768'),
+('blocks.rs','pub fn read_plain(kind: u32, file: &[u8], target: &mut [u8]) -> Put {','pub fn read_plain(kind: u32, file: &[u8], target: &mut [u8]) -> Put {\n    let kind = kind % 65536;'),
+('blocks.rs','pub fn write_plain(kind: u32, content: &[u8], output: &mut [u8]) -> Put {','pub fn write_plain(kind: u32, content: &[u8], output: &mut [u8]) -> Put {\n    let kind = kind % 65536;'),
+('blocks.rs','memory.len() != 8192 || registers.len() != 96 {\n        return refused(26, 0);\n    }\n    Table::from_words(&content[..8192]).to_chips(memory);','memory.len() < 8192 || registers.len() != 96 {\n        return refused(26, 0);\n    }\n    Table::from_words(&content[..8192]).to_chips(&mut memory[..8192]);'),
+('blocks.rs','    target[..content.len()].copy_from_slice(&content);','    target.fill(0);\n    target[..content.len()].copy_from_slice(&content);'),
+('blocks.rs','    output[..file.len()].copy_from_slice(&file);','    output.fill(0);\n    output[..file.len()].copy_from_slice(&file);'),
+('blocks.rs','    if output.len() < file.len() {\n        return refused(27, 0);','    if output.len() < file.len() {\n        output.fill(0);\n        return refused(27, 0);'),
+('blocks.rs','if content.is_empty() { 1 } else { (content.len() + 495) / 496 }','content.len() / 496 + 1'),
+('blocks.rs','Table::from_words(&content[..8192]).to_chips(memory);','memory.copy_from_slice(&content[..8192]);'),
+('blocks.rs','map_err(|number| refused(number, place))','map_err(|number| refused(number, if number == 22 { 0 } else { place }))'),
+('blocks.rs','kind == PICTURE || target.len() < content.len()','kind == PICTURE || target.len() != content.len()'),
+]
+
+
+def main():
+    only = [int(a) for a in sys.argv[1:]]
+    expected = open(os.path.join(HERE, 'cases/stdout'), 'rb').read().split(b'\n')
+    survived = 0
+    with tempfile.TemporaryDirectory() as room:
+        copy = os.path.join(room, 'copy')
+        shutil.copytree(HERE, copy, ignore=shutil.ignore_patterns('target', '.git'))
+        for i, (name, old, new) in enumerate(M):
+            if only and i not in only:
+                continue
+            path = os.path.join(copy, 'emulator/src', name)
+            source = open(path).read()
+            assert old in source, (i, old)
+            open(path, 'w').write(source.replace(old, new))
+            subprocess.run(['cargo', 'build', '--offline', '--release', '-q', '-p', 'cases'], cwd=copy, check=True,
+                           stderr=subprocess.DEVNULL)
+            with open(os.path.join(HERE, 'cases/stdin')) as cases:
+                run = subprocess.run([os.path.join(copy, 'target/release/cases'), '--answer'], stdin=cases,
+                                     capture_output=True)
+            open(path, 'w').write(source)
+            got = run.stdout.split(b'\n')
+            noticed = sum(1 for k in range(len(expected)) if k >= len(got) or got[k] != expected[k])
+            survived += noticed == 0
+            print(i, name, noticed, 'SURVIVED' if noticed == 0 else '', repr(new[:60]), flush=True)
+    print(survived, 'survived')
+
+
+main()

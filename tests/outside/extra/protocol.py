@@ -1,0 +1,72 @@
+"""The making of the buffers and the digest once more, from PROTOCOL.md alone: checks that page and
+the stored files against each other for every buffer that a call leaves as it was.
+
+    python3 extra/protocol.py cases/stdin cases/stdout
+"""
+import sys
+def nxt(x):
+    x^=(x<<13)&0xffffffff; x^=x>>17; x^=(x<<5)&0xffffffff; return x
+def digest(b):
+    d1=d2=1
+    for v in b:
+        d1=(d1*251+v)%65521; d2=(d2*263+v)%65519
+    return d1*65536+d2
+def seal(f,n):
+    at=512*n;s1=s2=0
+    for i in range(508):
+        s1=(s1+f[at+i])%65535; s2=(s2+(508-i)*f[at+i])%65535
+    f[at+508:at+512]=bytes([s1%256,s1//256,s2%256,s2//256])
+def make(r):
+    le=lambda at,n:int.from_bytes(r[at:at+n],'little')
+    kind,shape,zeros,np=r[0],r[1],r[2],r[3]
+    x=le(4,4);L=[le(8+2*k,2) for k in range(6)];p=[le(20+4*k,4) for k in range(4)]
+    B=[]
+    for k in range(6):
+        b=bytearray()
+        for _ in range(L[k]):
+            if zeros>>k&1: b.append(0)
+            else: x=nxt(x); b.append(x%256)
+        B.append(b)
+    if shape:
+        l=B[2]
+        for i in range(len(l)//8):
+            r_=l[8*i:8*i+8]
+            b0=r_[0]%6 if shape==1 else (r_[0]%4 if r_[2]<248 else 4+r_[0]%2)
+            b1=r_[1]%5 if b0 in(0,1,4) else 1+r_[1]%4 if b0 in(2,3) else 0
+            t=b0 in(2,3) or (b0 in(0,1,4) and b1==0)
+            b234=[1,r_[3],r_[4]] if t else [0,0,0]
+            b5=0 if b0==5 else r_[5]
+            q=r_[6]%9
+            b6=(0 if q==0 else 16*q+(r_[6]//16)%q) if b0 in(0,1,4) else 0
+            b7=16*((r_[7]//16)%5)+r_[7]%16 if b0==0 else 0
+            l[8*i:8*i+8]=bytes([b0,b1,*b234,b5,b6,b7])
+    if kind in(6,7) and p[3]==1:
+        f=B[5];c=len(f)//512
+        for n in range(c):
+            at=512*n;used=496 if n<c-1 else p[2]
+            f[at:at+12]=bytes([p[1]%256,p[1]//256,n%256,n//256,c%256,c//256,used%256,used//256,0,0,0,0])
+            for i in range(496):
+                if i>=used:f[at+12+i]=0
+            seal(f,n)
+    at=36
+    for _ in range(np):
+        t,o,n=r[at],le(at+1,2),r[at+3]
+        if t==6: assert n==0; seal(B[5],o)
+        else:
+            assert o+n<=len(B[t]); B[t][o:o+n]=r[at+4:at+4+n]
+        at+=4+n
+    assert at==len(r)
+    return kind,p,B
+kept={0:[2,3,5],1:[2,3,5],2:[0,1,2,3,5],3:[0,1,2,3,5],4:[0,1,3,4,5],5:[0,1,3,4,5],6:[0,1,3,4,5],7:[2,3,4,5],8:[0,1,2,3,4],9:[0,1,2,3,4],10:[3,5],11:[3,5]}
+lines=open(sys.argv[1]).read().split('\n');ans=open(sys.argv[2]).read().split('\n')
+assert lines[-1]=='' and ans[-1]=='' and len(lines)==len(ans)
+checked=0
+for k in range(0,len(lines)-1):
+    kind,p,B=make(bytes.fromhex(lines[k]))
+    w=[int(v,16) for v in ans[k].split(' ')];assert len(ans[k])==98
+    keep=kept[kind] if w[0]==0 else range(6)
+    for b in keep:
+        if kind in (2,3) and b==4: continue
+        if kind in (10,11) and w[0]<30 and b==2: continue
+        assert w[5+b]==digest(B[b]),(k,b); checked+=1
+print(len(lines)-1,'cases',checked,'digests agree')
