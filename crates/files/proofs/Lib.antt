@@ -2,6 +2,8 @@
 pub mod FileLaws
 pub mod WriteLaws
 pub mod AnswerLaws
+pub mod Outcomes
+pub mod Bounds
 pub mod RoundTrip
 pub mod OneForm
 pub mod Detection

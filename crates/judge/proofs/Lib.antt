@@ -4,4 +4,5 @@ pub mod Shortage
 pub mod Verdicts
 pub mod Table
 pub mod Accepted
+pub mod Bounds
 pub mod Examples

@@ -44,6 +44,10 @@ none-fault : (list : List ℕ) (j : ℕ) → NoRow (instructionRows (instruction
 unfolding faultOf
 none-fault list j r = ap not (eq-eqb (faultOf (instructionAt list j)) 0 (numbered-none 5 (instructionRows (instructionAt list j)) r))
 
+pub fault-high : (i : Instruction) → faultOf i ≤ 11
+unfolding faultOf
+fault-high i = numbered-high 4 (instructionRows i)
+
 has-it : (wants : Instruction → Bool) (list : List ℕ) (have j : ℕ) → lacks wants list have j ≡ false → Has wants list have j
 has-it wants list have j e w =
     ltb-false have (32 * count (λ i. wants (instructionAt list i)) j + 32)
@@ -77,7 +81,7 @@ module _ (mem regs : ℕ) (list : List ℕ) (items out : ℕ) where
   abbrev pub Sized : Type 0
   Sized = NoRow (lengthRows mem regs (length list) items)
 
-  sized : lengthFault mem regs (length list) items ≡ 0 → Sized
+  pub sized : lengthFault mem regs (length list) items ≡ 0 → Sized
   unfolding lengthFault
   sized e = none-numbered 0 (lengthRows mem regs (length list) items) e
 
@@ -85,13 +89,9 @@ module _ (mem regs : ℕ) (list : List ℕ) (items out : ℕ) where
   unfolding lengthFault
   unsized s = numbered-none 1 (lengthRows mem regs (length list) items) s
 
-  length-high : lengthFault mem regs (length list) items ≤ 4
+  pub length-high : lengthFault mem regs (length list) items ≤ 4
   unfolding lengthFault
   length-high = numbered-high 0 (lengthRows mem regs (length list) items)
-
-  fault-high : (i : Instruction) → faultOf i ≤ 11
-  unfolding faultOf
-  fault-high i = numbered-high 4 (instructionRows i)
 
   fault-low : (i : Instruction) → (faultOf i ≡ 0 → ⊥) → 5 ≤ faultOf i
   unfolding faultOf
