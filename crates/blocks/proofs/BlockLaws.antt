@@ -99,19 +99,6 @@ module _ (b : List ℕ) (kind place count : ℕ) where
       unfolding fault
       fault-last p n u z eu ez = simp (s, eq-eqb (twoAt b 0) kind k, eq-eqb (twoAt b 2) place p, eq-eqb (twoAt b 4) count n, eu, ez)
 
--- 24 is the last number
-pub fault-le : (b : List ℕ) (kind place count : ℕ) → fault b kind place count ≤ 24
-unfolding fault
-fault-le b kind place count =
-    or-24 (not (sumsRight b)) 21 _ (omega arith)
-    (or-24 (not (eqb (twoAt b 0) kind)) 22 _ (omega arith)
-    (or-24 (not (eqb (twoAt b 2) place) || not (eqb (twoAt b 4) count)) 23 _ (omega arith)
-    (or-24 (not (usedRight place count (twoAt b 6)) || not (zerosRight b)) 24 0 (omega arith) (omega arith))))
-  where
-    or-24 : (t : Bool) (n a : ℕ) → n ≤ 24 → a ≤ 24 → cond t n a ≤ 24
-    or-24 true n a h l = h
-    or-24 false n a h l = l
-
 -- ---- what a good block has
 
 pub record Good (b : List ℕ) (kind place count : ℕ) : Type 0 where

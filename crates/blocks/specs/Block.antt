@@ -60,13 +60,29 @@ allZero (x ∷ l) = eqb x 0 && allZero l
 unfoldable pub zerosRight : List ℕ → Bool
 zerosRight b = allZero (part 8 12 b) && allZero (part (12 + twoAt b 6) 508 b)
 
--- "Per block 21 sums differ, 22 kind not the one asked, 23 number not its place or count not that of the blocks there, 24 used wrong or a byte not 0 that must be": the first that is met; 0 if none is.
+-- "Per block 21 sums differ"
+abbrev pub sumsDiffer : List ℕ → Bool
+sumsDiffer b = not (sumsRight b)
+
+-- "22 kind not the one asked"
+abbrev pub otherKind : List ℕ → ℕ → Bool
+otherKind b kind = not (eqb (twoAt b 0) kind)
+
+-- "23 number not its place or count not that of the blocks there"
+abbrev pub misplaced : List ℕ → ℕ → ℕ → Bool
+misplaced b place count = not (eqb (twoAt b 2) place) || not (eqb (twoAt b 4) count)
+
+-- "24 used wrong or a byte not 0 that must be"
+abbrev pub misfilled : List ℕ → ℕ → ℕ → Bool
+misfilled b place count = not (usedRight place count (twoAt b 6)) || not (zerosRight b)
+
+-- The first of these that is met; 0 if none is.
 unfoldable pub fault : List ℕ → ℕ → ℕ → ℕ → ℕ
 fault b kind place count =
-    cond (not (sumsRight b)) 21
-    (cond (not (eqb (twoAt b 0) kind)) 22
-    (cond (not (eqb (twoAt b 2) place) || not (eqb (twoAt b 4) count)) 23
-    (cond (not (usedRight place count (twoAt b 6)) || not (zerosRight b)) 24
+    cond (sumsDiffer b) 21
+    (cond (otherKind b kind) 22
+    (cond (misplaced b place count) 23
+    (cond (misfilled b place count) 24
     0)))
 
 -- "A block that meets none of 21 to 24 is good at its place."

@@ -11,7 +11,7 @@ use Rattle.bits.specs.Search.{count}
 use Rattle.registers.specs.Rows.{registersOf, bytesOf}
 use Rattle.judge.specs.declared.Instruction.{Instruction}
 use Rattle.judge.specs.Judge.{instructionAt, takes, gives, unfit, instructionRows, judged}
-use Rattle.judge.proofs.RowLaws.{NoRow}
+use Rattle.judge.specs.Table.{NoRow}
 use Rattle.judge.proofs.Table.{all-done}
 use Rattle.module.specs.Act.{State, passedBy, acted}
 use Rattle.module.specs.Run.{begun, ran}

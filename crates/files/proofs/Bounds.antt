@@ -7,7 +7,8 @@ use native.Mathlib.Omega.{arith}
 use lib.Dec.{eqb, leb, ltb}
 use lib.ListN.{length}
 use borrow.Author.Tests.{leb-true}
-use Rattle.blocks.proofs.BlockLaws.{and-right, fault-le}
+use Rattle.blocks.proofs.BlockLaws.{and-right}
+use Rattle.blocks.proofs.Table.{fault-le}
 use Rattle.files.specs.declared.Answer.{Answer}
 use Rattle.files.specs.File.{blockAt, contentOf, lengthRight, sizeFits}
 use Rattle.files.specs.Content.{readAnswer, writeAnswer, contentFits}

@@ -12,14 +12,11 @@ use Rattle.blocks.specs.Block.{fault}
 use Rattle.files.specs.declared.Answer.{Answer}
 use Rattle.files.specs.File.{done, refused, blockAt, contentOf, Verdict, good, bad, verdict, next, judged, kindRight, lengthRight, sizeFits, judge, blockCount}
 use Rattle.files.specs.Content.{readAnswer, writeAnswer}
+use Rattle.files.specs.Table.{GoodBelow}
 use Rattle.files.proofs.FileLaws.{judged-good, judged-each, judged-number, judge-22, judge-20, judge-bad, judge-good}
 use Rattle.files.proofs.AnswerLaws.{read-refused, read-26, read-done, write-22, write-26, write-27, write-done}
 
 -- ---- blocks in turn
-
--- each of the first n of count blocks is good at its place
-abbrev pub GoodBelow : ℕ → List ℕ → ℕ → ℕ → Type 0
-GoodBelow kind bytes count n = (j : ℕ) → j < n → fault (blockAt bytes j) kind j count ≡ 0
 
 module _ (kind : ℕ) (bytes : List ℕ) (count : ℕ) where
   all-good : (n : ℕ) → GoodBelow kind bytes count n → judged kind bytes count n ≡ good

@@ -12,8 +12,9 @@ use Rattle.network.specs.Shifts.{permitted}
 use Rattle.judge.specs.declared.Instruction.{Instruction}
 use Rattle.judge.specs.Judge.{instructionAt, takes, gives, wrongKind, wrongSource, wrongPass, wrongLogic, instructionRows, faultOf, refusal, done, judged, judgedStep}
 use Rattle.judge.specs.Steps.{Accepted}
-use Rattle.judge.proofs.RowLaws.{NoRow, numbered-none, none-numbered, or-none, and-none, fit-whole, fit-size}
-use Rattle.judge.proofs.Table.{Served, number-0, all-done}
+use Rattle.judge.specs.Table.{NoRow, Served}
+use Rattle.judge.proofs.RowLaws.{numbered-none, none-numbered, or-none, and-none, fit-whole, fit-size}
+use Rattle.judge.proofs.Table.{number-0, all-done}
 
 module _ (mem regs : ℕ) (list : List ℕ) (items out : ℕ) where
   formed-none : (k : ℕ) → NoRow (instructionRows (instructionAt list k)) → faultOf (instructionAt list k) ≡ 0

@@ -8,11 +8,7 @@ use lib.Dec.{eqb, ltb}
 use lib.ListN.{length}
 use borrow.Author.Tests.{eqb-true, ltb-false, not-false}
 use Rattle.judge.specs.Judge.{numbered, unfit}
-
--- none of the rows holds
-abbrev pub NoRow : List Bool → Type 0
-NoRow [] = Unit {0}
-NoRow (row ∷ rows) = (row ≡ false) × NoRow rows
+use Rattle.judge.specs.Table.{NoRow}
 
 -- row j holds, and none before it
 abbrev pub FirstRow : List Bool → ℕ → Type 0

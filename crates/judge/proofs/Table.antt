@@ -1,9 +1,10 @@
 -- Document 01, Numbers given back: the table. For each number a theorem of its own, both ways: it is given, at place k, exactly when its row says so at instruction k and no earlier row holds. Assumes nothing.
 use mathlib.Core.Path.{_≡_, refl, sym, ap, subst, _∙_}
-use mathlib.Core.Bool.{Bool, true, false, not, _&&_}
+use mathlib.Core.Bool.{Bool, true, false, cond, not, _&&_, true≢false}
 use mathlib.Core.List.{List}
 use mathlib.Core.Logic.{_↔_}
 use Prim.Native.Nat.{ℕ, _+_, _*_, _/_, _<_, _≤_}
+use native.Mathlib.Decide.{ℕ-discrete}
 use native.Mathlib.Omega.{arith}
 use lib.Dec.{eqb, ltb}
 use lib.ListN.{length}
@@ -11,27 +12,10 @@ use borrow.Author.Tests.{eqb-true, eqb-false, eq-eqb, ne-eqb, ltb-true, ltb-fals
 use Rattle.bits.specs.Search.{count}
 use Rattle.judge.specs.declared.Instruction.{Instruction}
 use Rattle.judge.specs.declared.Answer.{Answer}
-use Rattle.judge.specs.Judge.{instructionAt, takes, gives, wrongMemory, wrongRegisters, unfit, wrongKind, wrongSource, lacksTag, wrongTag, idleAccess, wrongPass, wrongLogic, lacks, lengthRows, lengthFault, instructionRows, faultOf, faulty, refusal, done, judged}
-use Rattle.judge.proofs.RowLaws.{NoRow, FirstRow, numbered-none, none-numbered, numbered-first, first-numbered, numbered-low, numbered-high, and-none, and-both, both-and}
+use Rattle.judge.specs.Judge.{instructionAt, takes, gives, wrongMemory, wrongRegisters, unfit, wrongKind, wrongSource, lacksTag, wrongTag, idleAccess, wrongPass, wrongLogic, lacks, lengthRows, lengthFault, instructionRows, faultOf, faulty, refusal, done, judged, judgedStep}
+use Rattle.judge.specs.Table.{NoRow, Formed, Has, Served, Lacks}
+use Rattle.judge.proofs.RowLaws.{FirstRow, numbered-none, none-numbered, numbered-first, first-numbered, numbered-low, numbered-high, and-none, and-both, both-and}
 use Rattle.judge.proofs.Verdicts.{Verdict, wrong-length, wrong-instruction, no-item, no-room, accepted, verdict, verdict-is}
-
--- ---- what stands on the table's right side
-
--- none of the rows 5 to 11 holds at any instruction before k
-abbrev pub Formed : List ℕ → ℕ → Type 0
-Formed list k = (j : ℕ) → j < k → NoRow (instructionRows (instructionAt list j))
-
--- instruction j has its item, or its room, in a buffer of `have` bytes: 32 beyond what those before it used
-abbrev pub Has : (Instruction → Bool) → List ℕ → ℕ → ℕ → Type 0
-Has wants list have j = wants (instructionAt list j) ≡ true → 32 * count (λ i. wants (instructionAt list i)) j + 32 ≤ have
-
--- each instruction before k has its
-abbrev pub Served : (Instruction → Bool) → List ℕ → ℕ → ℕ → Type 0
-Served wants list have k = (j : ℕ) → j < k → Has wants list have j
-
--- instruction k wants one, and it is not there
-abbrev pub Lacks : (Instruction → Bool) → List ℕ → ℕ → ℕ → Type 0
-Lacks wants list have k = (wants (instructionAt list k) ≡ true) × (have < 32 * count (λ i. wants (instructionAt list i)) k + 32)
 
 -- ---- tests and facts
 
@@ -270,3 +254,64 @@ module _ (mem regs : ℕ) (list : List ℕ) (items out : ℕ) where
   pub refusal-counts : (judged mem regs list items out .number ≡ 0 → ⊥)
       → judged mem regs list items out ≡ refusal (judged mem regs list items out .number) (judged mem regs list items out .place)
   refusal-counts = refused-counts _ (verdict mem regs list items out)
+
+-- ---- a step
+
+module _ (mem : ℕ) (instruction : List ℕ) (items out : ℕ) where
+  abbrev StepGives : ℕ → ℕ → Type 0
+  StepGives n k = (judgedStep mem instruction items out .number ≡ n) × (judgedStep mem instruction items out .place ≡ k)
+
+  -- an instruction of 8 bytes is judged as a list of one, with registers of 96
+  pub step-eight : length instruction ≡ 8 → judgedStep mem instruction items out ≡ judged mem 96 instruction items out
+  unfolding judgedStep
+  step-eight h =
+      ap (λ (t : Bool). cond t (refusal 3 0) (judged mem 96 instruction items out))
+      (ap (λ (t : Bool). eqb mem 8192 && not t) (eq-eqb (length instruction) 8 h) ∙ and-off (eqb mem 8192))
+    where
+      and-off : (t : Bool) → (t && false) ≡ false
+      and-off true = refl
+      and-off false = refl
+
+  -- one of another length is 3, after 1
+  pub step-not-eight : mem ≡ 8192 → (length instruction ≡ 8 → ⊥) → judgedStep mem instruction items out ≡ refusal 3 0
+  unfolding judgedStep
+  step-not-eight e u = simp (eq-eqb mem 8192 e, ne-eqb (length instruction) 8 u)
+
+  pub step-wrong : (mem ≡ 8192 → ⊥) → judgedStep mem instruction items out ≡ judged mem 96 instruction items out
+  unfolding judgedStep
+  step-wrong u = simp (ne-eqb mem 8192 u)
+
+  pub step-1 : (k : ℕ) → StepGives 1 k ↔ (k ≡ 0) × (wrongMemory mem ≡ true)
+  step-1 k = go (ℕ-discrete mem 8192) (ℕ-discrete (length instruction) 8)
+    where
+      same : judgedStep mem instruction items out ≡ judged mem 96 instruction items out → StepGives 1 k ↔ (k ≡ 0) × (wrongMemory mem ≡ true)
+      same e = subst (λ (a : Answer). ((a .number ≡ 1) × (a .place ≡ k)) ↔ (k ≡ 0) × (wrongMemory mem ≡ true)) (sym e) (number-1 mem 96 instruction items out k)
+
+      go : Dec (mem ≡ 8192) → Dec (length instruction ≡ 8) → StepGives 1 k ↔ (k ≡ 0) × (wrongMemory mem ≡ true)
+      go (no u) d = same (step-wrong u)
+      go (yes e) (yes h) = same (step-eight h)
+      go (yes e) (no u) =
+          let r = ap (λ (a : Answer). a .number) (step-not-eight e u) in (
+            λ g. absurd (omega (arith, g .0)),
+            λ f. absurd (true≢false (sym (f .1) ∙ ap not (eq-eqb mem 8192 e))),
+          )
+
+  pub step-3 : (k : ℕ) → StepGives 3 k ↔ (k ≡ 0) × ((wrongMemory mem ≡ false) × (length instruction ≡ 8 → ⊥))
+  step-3 k = go (ℕ-discrete mem 8192) (ℕ-discrete (length instruction) 8)
+    where
+      go : Dec (mem ≡ 8192) → Dec (length instruction ≡ 8) → StepGives 3 k ↔ (k ≡ 0) × ((wrongMemory mem ≡ false) × (length instruction ≡ 8 → ⊥))
+      go (no u) d =
+          let w : wrongMemory mem ≡ true = ap not (ne-eqb mem 8192 u) in
+          let r = step-1 0 .1 (refl, w) .0 in (
+            λ g. absurd (omega (arith, g .0)),
+            λ f. absurd (true≢false (sym w ∙ f .1 .0)),
+          )
+      go (yes e) (yes h) = (
+        λ g. let r = number-3 mem 96 instruction items out k .0 (sym (ap (λ (a : Answer). a .number) (step-eight h)) ∙ g .0, sym (ap (λ (a : Answer). a .place) (step-eight h)) ∙ g .1) in
+            absurd (true≢false (sym (r .1 .1 .1) ∙ ap (unfit 8) h)),
+        λ f. absurd (f .1 .1 h),
+      )
+      go (yes e) (no u) = (
+        λ g. (sym (g .1) ∙ ap (λ (a : Answer). a .place) (step-not-eight e u), (ap not (eq-eqb mem 8192 e), u)),
+        λ f. (ap (λ (a : Answer). a .number) (step-not-eight e u), ap (λ (a : Answer). a .place) (step-not-eight e u) ∙ sym (f .0)),
+      )

@@ -1,6 +1,6 @@
 -- A step, from what its parts leave; and the theorem that a step is a run of its one instruction. Assumes nothing.
 use mathlib.Core.Path.{_≡_, refl, sym, ap, ap₂, _∙_}
-use mathlib.Core.Bool.{Bool, true, false, cond, not, _&&_}
+use mathlib.Core.Bool.{Bool, true, false, cond}
 use mathlib.Core.List.{List}
 use Prim.Native.Nat.{ℕ, _/_}
 use lib.Dec.{eqb}
@@ -11,6 +11,7 @@ use Rattle.registers.specs.Rows.{bytesOf}
 use Rattle.judge.specs.declared.Answer.{Answer}
 use Rattle.judge.specs.Judge.{refusal, judged, judgedStep}
 use Rattle.judge.specs.Steps.{Accepted}
+use Rattle.judge.proofs.Table.{step-eight}
 use Rattle.judge.proofs.Accepted.{step-done}
 use Rattle.module.specs.Act.{State}
 use Rattle.module.specs.Run.{begun, ranBy, Left, ran, Updated, stepped}
@@ -43,15 +44,8 @@ module _ (mem : List ℕ) (r : Registers) (instruction items out : List ℕ) whe
   -- an instruction of 8 bytes
   judged-as-run : (n : ℕ) → n ≡ 96 → length instruction ≡ 8
       → judged (length mem) n instruction (length items) (length out) ≡ judgedStep (length mem) instruction (length items) (length out)
-  unfolding judgedStep
   judged-as-run n e h =
-      ap (λ (k : ℕ). judged (length mem) k instruction (length items) (length out)) e
-      ∙ sym (ap (λ (t : Bool). cond t (refusal 3 0) (judged (length mem) 96 instruction (length items) (length out)))
-      (ap (λ (t : Bool). eqb (length mem) 8192 && not t) (eq-eqb (length instruction) 8 h) ∙ and-off (eqb (length mem) 8192)))
-    where
-      and-off : (t : Bool) → (t && false) ≡ false
-      and-off true = refl
-      and-off false = refl
+      ap (λ (k : ℕ). judged (length mem) k instruction (length items) (length out)) e ∙ sym (step-eight (length mem) instruction (length items) (length out) h)
 
   pub step-is-run : length (r .m) ≡ 32 → length (r .x) ≡ 32 → length (r .y) ≡ 32 → length instruction ≡ 8
       → ran mem (bytesOf r) instruction items out ≡ asRun (stepped mem r instruction items out)
