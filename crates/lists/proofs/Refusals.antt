@@ -1,6 +1,6 @@
 -- What a builder's numbers say: the table of refusals both ways, the fields that have none, and what is left in each case. Assumes nothing.
 use mathlib.Core.Path.{_≡_, refl, sym, ap, ap₂, _∙_}
-use mathlib.Core.Bool.{Bool, true, false, not, _&&_, _||_, true≢false}
+use mathlib.Core.Bool.{Bool, true, false, cond, not, _&&_, _||_, true≢false}
 use mathlib.Core.Logic.{inl, inr, _↔_}
 use mathlib.Core.List.{List, _++_}
 use Prim.Native.Nat.{ℕ, _+_, _<_, _≤_}
@@ -8,7 +8,7 @@ use native.Mathlib.Decide.{decLe, ℕ-discrete}
 use native.Mathlib.Omega.{arith}
 use lib.Dec.{eqb, ltb}
 use lib.ListN.{length, drop}
-use borrow.Author.Tests.{eq-eqb, ne-eqb, ltb-false, lt-ltb, le-ltb}
+use borrow.Author.Tests.{eqb-true, eq-eqb, ne-eqb, ltb-false, lt-ltb, le-ltb}
 use Rattle.judge.proofs.RowLaws.{FirstRow, none-numbered, numbered-none, numbered-first, first-numbered, or-none}
 use Rattle.lists.specs.Fields.{beyond, crosses, Clear, Fields, listLength, fieldRows, fieldsFault, Left, builtWith}
 
@@ -92,6 +92,16 @@ module _ (lead a b s n have : ℕ) where
       )
 
 -- ---- what is left
+
+-- the number is that of the fields
+pub built-number : (fault : ℕ) (bytes buffer : List ℕ) → builtWith fault bytes buffer .answer .number ≡ fault
+built-number fault bytes buffer = go (eqb fault 0) refl
+  where
+    go : (t : Bool) → eqb fault 0 ≡ t
+        → cond {A = Left} t (record { answer = record { number = 0; count = length bytes }; list = bytes ++ drop (length bytes) buffer })
+        (record { answer = record { number = fault; count = 0 }; list = buffer }) .answer .number ≡ fault
+    go true e = sym (eqb-true fault 0 e)
+    go false e = refl
 
 pub built-refused : (fault : ℕ) (bytes buffer : List ℕ) (number : ℕ) → number ≡ fault → (number ≡ 0 → ⊥)
     → _≡_ {A = Left} (record { answer = record { number = number; count = 0 }; list = buffer }) (builtWith fault bytes buffer)

@@ -1,9 +1,10 @@
 -- A run, from what its parts leave: one instruction more, and the two ends of a judged list. Assumes nothing.
-use mathlib.Core.Path.{_≡_, sym, ap, ap₂, subst, _∙_}
+use mathlib.Core.Path.{_≡_, refl, sym, ap, ap₂, subst, _∙_}
 use mathlib.Core.Bool.{Bool, cond}
 use mathlib.Core.List.{List}
 use Prim.Native.Nat.{ℕ, _+_, _/_, _<_}
 use native.Mathlib.Numerals.{add-one}
+use native.Mathlib.Decide.{ℕ-discrete}
 use native.Mathlib.Omega.{arith}
 use lib.ListN.{length}
 use borrow.Author.Tests.{eq-eqb, ne-eqb}
@@ -85,3 +86,17 @@ module _ (mem regs list items out : List ℕ) (a : Answer) (judge : a ≡ judged
   ran-refused h =
       ap (λ (b : Answer). record { mem = mem; regs = regs; out = out; answer = b }) judge
       ∙ simp (ne-eqb _ _ (λ q. h (ap (λ (x : Answer). x .number) judge ∙ q)))
+
+-- the answer is the judge's, of the lengths and the list alone
+pub ran-answer : (mem regs list items out : List ℕ) → ran mem regs list items out .answer ≡ judged (length mem) (length regs) list (length items) (length out)
+ran-answer mem regs list items out = go (ℕ-discrete (a .number) 0)
+  where
+    a : Answer
+    a = judged (length mem) (length regs) list (length items) (length out)
+
+    s : State
+    s = ranBy list items (begun mem out (registersOf regs)) (length list / 8)
+
+    go : Dec (a .number ≡ 0) → ran mem regs list items out .answer ≡ a
+    go (yes z) = sym (ap (λ (l : Left). l .answer) (ran-done mem regs list items out a refl z (registersOf regs) s (bytesOf (s .regs)) refl refl refl))
+    go (no u) = sym (ap (λ (l : Left). l .answer) (ran-refused mem regs list items out a refl u))

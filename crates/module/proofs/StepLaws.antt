@@ -3,6 +3,7 @@ use mathlib.Core.Path.{_≡_, refl, sym, ap, ap₂, _∙_}
 use mathlib.Core.Bool.{Bool, true, false, cond}
 use mathlib.Core.List.{List}
 use Prim.Native.Nat.{ℕ, _/_}
+use native.Mathlib.Decide.{ℕ-discrete}
 use lib.Dec.{eqb}
 use lib.ListN.{length}
 use borrow.Author.Tests.{eq-eqb, ne-eqb}
@@ -33,6 +34,19 @@ module _ (mem : List ℕ) (r : Registers) (instruction items out : List ℕ) (a 
   stepped-refused h =
       ap (λ (b : Answer). record { mem = mem; regs = r; out = out; answer = b }) judge
       ∙ simp (ne-eqb _ _ (λ q. h (ap (λ (x : Answer). x .number) judge ∙ q)))
+
+-- the answer is the judge's, of the lengths and the instruction alone
+pub stepped-answer : (mem : List ℕ) (r : Registers) (instruction items out : List ℕ)
+    → stepped mem r instruction items out .answer ≡ judgedStep (length mem) instruction (length items) (length out)
+stepped-answer mem r instruction items out = go (ℕ-discrete (a .number) 0)
+  where
+    a : Answer
+    a = judgedStep (length mem) instruction (length items) (length out)
+
+    go : Dec (a .number ≡ 0) → stepped mem r instruction items out .answer ≡ a
+    go (yes z) =
+        sym (ap (λ (l : Updated). l .answer) (stepped-done mem r instruction items out a refl z (ranBy instruction items (begun mem out r) (length instruction / 8)) refl))
+    go (no u) = sym (ap (λ (l : Updated). l .answer) (stepped-refused mem r instruction items out a refl u))
 
 -- ---- "A step answers, refuses and leaves its buffers as a run of a list of that one instruction does."
 

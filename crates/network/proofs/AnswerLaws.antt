@@ -1,8 +1,10 @@
 -- What a pass answers, from where byte 6 stands in the table; the passed item in each form; that there is one answer. Assumes nothing.
 use mathlib.Core.Path.{_≡_, refl, sym, ap, _∙_, subst}
-use mathlib.Core.Bool.{true, false}
+use mathlib.Core.Bool.{Bool, true, false, cond, true≢false, false≢true}
 use mathlib.Core.List.{List}
+use mathlib.Core.Logic.{_↔_}
 use Prim.Native.Nat.{ℕ, _/_, _%_, _≤_, _<_}
+use native.Mathlib.Omega.{arith}
 use lib.Bits.{bitXor, xor-zero-r, xor-lt}
 use lib.ListN.{length, getD, replicate}
 use borrow.Author.Tests.{lt-ltb, le-ltb}
@@ -37,6 +39,23 @@ given l f c r t e = rw t (ap (λ (x : List ℕ). record { number = 0; item = x }
 pub refused : (l : List ℕ) (f c : ℕ) → permitted c ≡ false → _≡_ {A = Passed} (record { number = 10; item = replicate 32 0 }) (answer l f c)
 unfolding answer
 refused l f c t = rw t
+
+-- both ways: 10 exactly if byte 6 is none of the 37, else 0
+pub pass-10 : (l : List ℕ) (f c : ℕ) → (answer l f c .number ≡ 10) ↔ (permitted c ≡ false)
+unfolding answer
+pass-10 l f c = go (permitted c)
+  where
+    go : (t : Bool) → (cond {A = Passed} t (record { number = 0; item = passedItem l f c }) (record { number = 10; item = replicate 32 0 }) .number ≡ 10) ↔ (t ≡ false)
+    go true = (λ e. absurd (omega arith), λ e. absurd (true≢false e))
+    go false = (λ e. refl, λ e. refl)
+
+pub pass-0 : (l : List ℕ) (f c : ℕ) → (answer l f c .number ≡ 0) ↔ (permitted c ≡ true)
+unfolding answer
+pass-0 l f c = go (permitted c)
+  where
+    go : (t : Bool) → (cond {A = Passed} t (record { number = 0; item = passedItem l f c }) (record { number = 10; item = replicate 32 0 }) .number ≡ 0) ↔ (t ≡ true)
+    go true = (λ e. refl, λ e. refl)
+    go false = (λ e. absurd (omega arith), λ e. absurd (false≢true e))
 
 -- ---- the passed item in each form
 
