@@ -7,7 +7,8 @@ ghost use Prim.Native.Nat.{_<_};
 ghost use Rattle.registers.specs.Logic.{logicOf};
 ghost use Rattle.registers.specs.Rows.{withM};
 
-// The register set: one record of three rows of bytes.
+// The register set: one record of three rows of bytes. Its layout is C's, M, X and Y one after the other, so that a console in C can lend it.
+#[repr(C)]
 pub struct Registers {
     pub m: [u8; 32],
     pub x: [u8; 32],

@@ -1,0 +1,28 @@
+-- `staran_difference_list`: what the builder leaves, and its answer as two numbers. Assumes nothing.
+use denote.Ref.{now}
+use borrow.Author.Needs.{needs}
+use Rattle.staran.proofs.LeftLaws.{difference-small, difference-left}
+use Rattle.staran.proofs.staran_difference_list.Statement.{statement}
+use Rattle.staran.proofs.staran_difference_list.Tie as tie
+
+difference-list-requires : tie.Need-difference-list-requires
+difference-list-requires c κs = search needs
+
+two-requires : tie.Need-two-requires
+two-requires c κs =
+    let k = c .before .before in
+    let a = k .before .before .before .args in
+    difference-small (a .a) (a .b) (a .s) (a .n) (now (a .list)) _ (k .difference-list .ensures)
+
+same-length : tie.Need-same-length
+same-length c = search needs
+
+returns : tie.Need-returns
+returns c =
+    let k = c .before .before .before in
+    let a = k .before .before .before .args in
+    difference-left (a .a) (a .b) (a .s) (a .n) (now (a .list)) _ _ (k .difference-list .ensures) (c .two .ensures)
+
+pub staran-difference-list-spec : {M : Type 1} → statement M
+staran-difference-list-spec =
+    tie.close (tie.spec difference-list-requires two-requires same-length returns)

@@ -1,0 +1,22 @@
+-- `staran_pass`: the item and the number that the pass answers. Assumes nothing.
+use denote.Ref.{now}
+use borrow.Author.Needs.{needs}
+use Rattle.staran.proofs.LeftLaws.{pass-left}
+use Rattle.staran.proofs.staran_pass.Statement.{statement}
+use Rattle.staran.proofs.staran_pass.Tie as tie
+
+pass-requires : tie.Need-pass-requires
+pass-requires c κs = search needs
+
+cast-t8 : tie.Need-cast-t8
+cast-t8 c = search needs
+
+returns : tie.Need-returns
+returns c =
+    let k = c .before .before .before in
+    let a = k .before .args in
+    pass-left (now (a .item)) (a .flip) (a .code) _ (k .pass .ensures)
+
+pub staran-pass-spec : {M : Type 1} → statement M
+staran-pass-spec =
+    tie.close (tie.spec pass-requires cast-t8 returns)

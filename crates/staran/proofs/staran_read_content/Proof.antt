@@ -1,0 +1,28 @@
+-- `staran_read_content`: what the entry leaves, and its answer as three numbers. Assumes nothing.
+use denote.Ref.{now}
+use borrow.Author.Needs.{needs}
+use Rattle.staran.proofs.LeftLaws.{read-small, read-left}
+use Rattle.staran.proofs.staran_read_content.Statement.{statement}
+use Rattle.staran.proofs.staran_read_content.Tie as tie
+
+read-content-requires : tie.Need-read-content-requires
+read-content-requires c κs = search needs
+
+three-requires : tie.Need-three-requires
+three-requires c κs =
+    let k = c .before .before in
+    let a = k .before .before .before .before .args in
+    read-small (a .kind) (now (a .bytes)) (now (a .target)) _ (k .read-content .ensures .0)
+
+same-length : tie.Need-same-length
+same-length c = search needs
+
+returns : tie.Need-returns
+returns c =
+    let k = c .before .before .before in
+    let a = k .before .before .before .before .args in
+    read-left (a .kind) (now (a .bytes)) (now (a .target)) _ _ _ (k .read-content .ensures .0) (k .read-content .ensures .1) (c .three .ensures)
+
+pub staran-read-content-spec : {M : Type 1} → statement M
+staran-read-content-spec =
+    tie.close (tie.spec read-content-requires three-requires same-length returns)

@@ -1,0 +1,34 @@
+-- `staran_run`: what `run` leaves, and its answer as five numbers. Assumes nothing.
+use denote.Ref.{now}
+use borrow.Author.Needs.{needs}
+use Rattle.staran.proofs.LeftLaws.{ran-small, run-left}
+use Rattle.staran.proofs.staran_run.Statement.{statement}
+use Rattle.staran.proofs.staran_run.Tie as tie
+
+run-requires : tie.Need-run-requires
+run-requires c κs = search needs
+
+five-requires : tie.Need-five-requires
+five-requires c κs =
+    let k = c .before .before .before .before .before .before in
+    let a = k .before .before .before .before .before .before .before .before .before .args in
+    ran-small (now (a .memory)) (now (a .registers)) (now (a .list)) (now (a .items)) (now (a .out)) _ (k .run .ensures)
+
+same-length : tie.Need-same-length
+same-length c = search needs
+
+same-length-2 : tie.Need-same-length-2
+same-length-2 c = search needs
+
+same-length-3 : tie.Need-same-length-3
+same-length-3 c = search needs
+
+returns : tie.Need-returns
+returns c =
+    let k = c .before .before .before .before .before .before .before in
+    let a = k .before .before .before .before .before .before .before .before .before .args in
+    run-left (now (a .memory)) (now (a .registers)) (now (a .list)) (now (a .items)) (now (a .out)) _ _ (k .run .ensures) (c .five .ensures)
+
+pub staran-run-spec : {M : Type 1} → statement M
+staran-run-spec =
+    tie.close (tie.spec run-requires five-requires same-length same-length-2 same-length-3 returns)

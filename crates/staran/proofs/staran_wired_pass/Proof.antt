@@ -1,0 +1,22 @@
+-- `staran_wired_pass`: the item and the number that the pass answers. Assumes nothing.
+use denote.Ref.{now}
+use borrow.Author.Needs.{needs}
+use Rattle.staran.proofs.LeftLaws.{pass-left}
+use Rattle.staran.proofs.staran_wired_pass.Statement.{statement}
+use Rattle.staran.proofs.staran_wired_pass.Tie as tie
+
+wired-pass-requires : tie.Need-wired-pass-requires
+wired-pass-requires c κs = search needs
+
+cast-t8 : tie.Need-cast-t8
+cast-t8 c = search needs
+
+returns : tie.Need-returns
+returns c =
+    let k = c .before .before .before in
+    let a = k .before .args in
+    pass-left (now (a .item)) (a .flip) (a .code) _ (k .wired-pass .ensures)
+
+pub staran-wired-pass-spec : {M : Type 1} → statement M
+staran-wired-pass-spec =
+    tie.close (tie.spec wired-pass-requires cast-t8 returns)

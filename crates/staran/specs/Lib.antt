@@ -1,0 +1,2 @@
+-- What the contracts of the library for C cite.
+pub mod Left
