@@ -40,6 +40,22 @@ fn advance(
     done.regs
 }
 
+// A step: an operator's console lends the register record and finds it updated there.
+#[no_mangle]
+pub extern "C" fn staran_step(
+    memory: &mut [u8],
+    registers: &mut Registers,
+    items: &[u8],
+    out: &mut [u8],
+    instruction: &[u8],
+    answer: &mut [u32; 5],
+)
+    ensures { λ _. ⌜ record { memory = now (memory .exit); registers = now (registers .exit); out = now (out .exit); answer = now (answer .exit) } ≡ stepLeft (now (memory .entry)) (now (registers .entry)) (now (items .entry)) (now (out .entry)) (now (instruction .entry)) ⌝ }
+{
+    let old = *registers;
+    *registers = advance(memory, out, items, old, instruction, answer);
+}
+
 // A pass of the network in arithmetic form.
 #[no_mangle]
 pub extern "C" fn staran_pass<'a>(
