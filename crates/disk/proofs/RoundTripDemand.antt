@@ -12,46 +12,14 @@ use Rattle.blocks.specs.Sums.{at}
 use Rattle.blocks.proofs.BlockLaws.{and-left, and-right}
 use Rattle.files.specs.declared.Answer.{Answer}
 use Rattle.files.specs.File.{done, contentOf, kindRight, sizeFits, judge, blockCount, blocksOf}
-use Rattle.files.specs.Content.{readAnswer, writeAnswer, changed, over, targetFits, contentFits}
+use Rattle.files.specs.Content.{changed, over, targetFits, contentFits}
 use Rattle.disk.specs.Picture.{plainWords, pictureOf, scrambled, pictureFits}
+use Rattle.disk.specs.Entries.{contentAnswer, contentTarget, contentWritten, contentOut, pictureAnswer, pictureMemory, pictureRegisters, pictureWritten, pictureOut}
 use Rattle.files.proofs.FileLaws.{judge-stands, Stands}
 use Rattle.files.proofs.AnswerLaws.{changed-done, read-done, read-stands, write-stands, write-done}
 use Rattle.files.proofs.RoundTrip.{all-length, all-content, trip}
 use Rattle.files.proofs.OneForm.{content-bytes, one-form}
 use Rattle.disk.proofs.PictureLaws.{length-picture, length-plain, length-scrambled, fits-are, picture-size, picture-stands, picture-judged, plain-scrambled, scrambled-plain}
-
--- ---- what the entries leave
-
--- The answer of `read_content`, and its target afterwards.
-abbrev contentAnswer : ℕ → List ℕ → List ℕ → Answer
-contentAnswer kind bytes target = readAnswer kind bytes (targetFits kind bytes target)
-
-abbrev contentTarget : ℕ → List ℕ → List ℕ → List ℕ
-contentTarget kind bytes target = changed (contentAnswer kind bytes target) (over (contentOf bytes) target) target
-
--- The answer of `write_content`, its output afterwards, and the file in it: the bytes put out.
-abbrev contentWritten : ℕ → List ℕ → List ℕ → Answer
-contentWritten kind content out = writeAnswer kind (contentFits kind content) (length content) (length out)
-
-abbrev contentOut : ℕ → List ℕ → List ℕ → List ℕ
-contentOut kind content out = changed (contentWritten kind content out) (over (blocksOf kind content) out) out
-
--- The answer of `read_picture`, and its two targets afterwards.
-abbrev pictureAnswer : ℕ → List ℕ → List ℕ → List ℕ → Answer
-pictureAnswer kind bytes memory registers = readAnswer kind bytes (pictureFits kind (length memory) (length registers))
-
-abbrev pictureMemory : ℕ → List ℕ → List ℕ → List ℕ → List ℕ
-pictureMemory kind bytes memory registers = changed (pictureAnswer kind bytes memory registers) (scrambled (contentOf bytes)) memory
-
-abbrev pictureRegisters : ℕ → List ℕ → List ℕ → List ℕ → List ℕ
-pictureRegisters kind bytes memory registers = changed (pictureAnswer kind bytes memory registers) (drop 8192 (contentOf bytes)) registers
-
--- The answer of `write_picture`, and its output afterwards.
-abbrev pictureWritten : ℕ → List ℕ → List ℕ → List ℕ → Answer
-pictureWritten kind memory registers out = writeAnswer kind (pictureFits kind (length memory) (length registers)) 8288 (length out)
-
-abbrev pictureOut : ℕ → List ℕ → List ℕ → List ℕ → List ℕ
-pictureOut kind memory registers out = changed (pictureWritten kind memory registers out) (over (blocksOf kind (pictureOf memory registers)) out) out
 
 -- ---- the bytes put out are the blocks
 

@@ -1,2 +1,3 @@
 -- Pictures: what the contracts of this crate cite, beside those of files.
 pub mod Picture
+pub mod Entries

@@ -4,5 +4,3 @@ pub mod Whole
 pub mod Runs
 pub mod Sums
 pub mod SumRuns
-pub mod DemandThree
-pub mod Examples

@@ -40,7 +40,8 @@ module _ (a b s n : ℕ) (fields : Fields a b s n) (buffer : List ℕ) where
     unfolding sumBuilt
     sum-built = answer-built (fieldsFault 1 a b s n (length buffer)) (encoded (sumList a b s n)) buffer (listLength 1 n) sum-sound (sum-length a b s n)
 
-    sum-listed : listOf (sumBuilt a b s n buffer) ≡ encoded (sumList a b s n)
+    -- and these are its bytes
+    pub sum-listed : listOf (sumBuilt a b s n buffer) ≡ encoded (sumList a b s n)
     unfolding sumBuilt
     sum-listed = list-built (fieldsFault 1 a b s n (length buffer)) (encoded (sumList a b s n)) buffer sum-sound
 

@@ -8,10 +8,12 @@ use native.Mathlib.Decide.{ℕ-discrete}
 use lib.Dec.{eqb}
 use Rattle.bits.specs.Bits.{bitOf, item}
 use Rattle.bits.proofs.Items.{bitOf-bit, bitOf-pack}
-use Rattle.memory.specs.Memory.{stored, maskOf}
+use Rattle.memory.specs.Memory.{stored, every, maskOf}
 use Rattle.memory.proofs.MemoryLaws.{stored-ext}
 use Rattle.network.specs.Answer.{passedItem}
 use Rattle.registers.specs.declared.Registers.{Registers}
+use Rattle.registers.specs.Rows.{withM}
+use Rattle.registers.specs.Logic.{logicOf}
 use Rattle.registers.specs.Resolver.{resolved}
 use Rattle.judge.specs.declared.Instruction.{Instruction}
 use Rattle.judge.specs.Judge.{takes, gives}
@@ -92,3 +94,30 @@ act-is i items s f m o r t g ef em eo er et eg = parts ∙ same (ℕ-discrete (i
     same : Dec (i .kind ≡ 5) → after i f s ≡ after i (passedBy i (s .mem) items (s .regs) (s .taken)) s
     same (yes e) = resolve-any i f (passedBy i (s .mem) items (s .regs) (s .taken)) s e
     same (no u) = ap (λ (x : List ℕ). after i x s) (ef u)
+
+-- ---- an act by its source and by its kind
+
+module _ (i : Instruction) (mem items : List ℕ) (r : Registers) (taken : ℕ) where
+  -- the passed item of source n
+  abbrev pub bySource : ℕ → List ℕ
+  bySource n = passedItem (cond (eqb n 4) (partAt items taken) (held n (i .mode) (i .addr) mem r)) (i .flip) (i .code)
+
+  pub passed-source : (n : ℕ) → i .source ≡ n → passedBy i mem items r taken ≡ bySource n
+  unfolding passedBy sourceItem heldItem
+  passed-source n e = ap bySource e
+
+module _ (i : Instruction) (items : List ℕ) (s : State) where
+  -- the state that kind n leaves, whose passed item is f
+  abbrev pub byKind : List ℕ → ℕ → State
+  byKind f n =
+      record {
+        mem = cond (eqb n 2) (stored (s .mem) (i .mode) (i .addr) every (bitOf f)) (cond (eqb n 3) (stored (s .mem) (i .mode) (i .addr) (maskOf (s .regs .m) (i .flip)) (bitOf f)) (s .mem));
+        out = cond (eqb n 4) (putPart (s .out) (s .given) f) (cond (eqb n 5) (putPart (s .out) (s .given) (resolved (bitOf (s .regs .y)))) (s .out));
+        regs = cond (eqb n 0) (logicOf (s .regs) f (i .logic)) (cond (eqb n 1) (withM (s .regs) f) (s .regs));
+        taken = s .taken + cond (takes i) 1 0;
+        given = s .given + cond (gives i) 1 0;
+      }
+
+  pub acted-kind : (n : ℕ) → i .kind ≡ n → acted i items s ≡ byKind (passedBy i (s .mem) items (s .regs) (s .taken)) n
+  unfolding acted memAfter outAfter regsAfter
+  acted-kind n e = ap (byKind (passedBy i (s .mem) items (s .regs) (s .taken))) e

@@ -123,3 +123,20 @@ module _ (r : Registers) (l : List ℕ) (t k : ℕ) (line : k < 256) where
   pub logic-Y : bitOf (logicOf r l t .y) k ≡ newY t (bitOf (r .y) k) (bitOf l k)
   unfolding logicOf
   logic-Y = bitOf-pack (λ k. newY t (bitOf (r .y) k) (bitOf l k)) (λ k. newY-bit t (bitOf (r .y) k) (bitOf l k) (bitOf-bit (r .y) k)) 32 k line
+
+-- ---- byte 7 by its choice and its function
+
+module _ (c n : ℕ) (function : n < 16) where
+  choice-of : (16 * c + n) / 16 ≡ c
+  choice-of = omega arith
+
+  function-of : (16 * c + n) % 16 ≡ n
+  function-of = omega arith
+
+  pub choice-X : (x y f : ℕ) → newX (16 * c + n) x y f ≡ cond (writesX c y) (functionBit n x f) x
+  unfolding newX
+  choice-X x y f = ap₂ (λ (p q : ℕ). cond (writesX p y) (functionBit q x f) x) choice-of function-of
+
+  pub choice-Y : (y f : ℕ) → newY (16 * c + n) y f ≡ cond (writesY c) (functionBit n y f) y
+  unfolding newY
+  choice-Y y f = ap₂ (λ (p q : ℕ). cond (writesY p) (functionBit q y f) y) choice-of function-of

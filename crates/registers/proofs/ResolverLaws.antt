@@ -1,21 +1,21 @@
 -- The smallest line of a search by bytes, by the trailing zeros of the first byte that is not 0; what the resolver's answer says. Assumes nothing.
 use mathlib.Core.Path.{_≡_, refl, sym, ap, _∙_}
-use mathlib.Core.Bool.{Bool, false}
-use mathlib.Core.List.{List}
+use mathlib.Core.Bool.{Bool, false, cond}
+use mathlib.Core.List.{List, _∷_, replicate}
 use mathlib.Core.Logic.{_≢_}
 use Prim.Native.Nat.{ℕ, zero, suc, _+_, _-_, _*_, _/_, _%_, _^_, _<_, _≤_}
 use native.Mathlib.Nat.{div-div-eq-div-mul, div-one, pow-suc, pow-succ', zero-div}
 use native.Mathlib.Decide.{decLt}
 use native.Mathlib.Omega.{arith}
 use lib.Count.{trailingZeros, under}
-use lib.Dec.{eqb}
+use lib.Dec.{eqb, ltb}
 use lib.ListN.{getD}
-use borrow.Author.Tests.{eqb-true, eqb-false}
+use borrow.Author.Tests.{eqb-true, eqb-false, eq-eqb, ne-eqb, lt-ltb}
 use Rattle.bits.specs.Bits.{digit, bitOf}
 use Rattle.bits.specs.Search.{first}
 use Rattle.bits.proofs.Items.{bitOf-at}
 use Rattle.bits.proofs.Search.{NoneBelow, found, found-none, found-at, none-found}
-use Rattle.registers.specs.Resolver.{smallest}
+use Rattle.registers.specs.Resolver.{smallest, resolved}
 
 -- ---- trailing zeros: the lowest digit that is 1
 
@@ -100,3 +100,18 @@ smallest-at y h = eqb-true (y (first (λ k. eqb (y k) 1) 0 256)) 1 (found-at (λ
 pub smallest-none : (y : ℕ → ℕ) (k : ℕ) → k < smallest y → y k ≢ 1
 unfolding smallest
 smallest-none y k h = eqb-false (y k) 1 (none-found (λ k. eqb (y k) 1) 256 k h)
+
+-- ---- what a resolve delivers
+
+pub resolved-first : (y : ℕ → ℕ) (k : ℕ) → k < 256 → y k ≡ 1 → ((j : ℕ) → j < k → y j ≢ 1) → resolved y ≡ 1 ∷ k ∷ replicate 30 0
+unfolding resolved smallest
+resolved-first y k h one before =
+    let e : k ≡ smallest y = found (λ j. eqb (y j) 1) 256 k h (λ j q. ne-eqb (y j) 1 (before j q)) (eq-eqb (y k) 1 one) in
+    ap (λ (i : ℕ). cond (ltb i 256) (1 ∷ i ∷ replicate 30 0) (replicate 32 0)) (sym e)
+    ∙ ap (λ (t : Bool). cond t (1 ∷ k ∷ replicate 30 0) (replicate 32 0)) (lt-ltb k 256 h)
+
+pub resolved-none : (y : ℕ → ℕ) → ((k : ℕ) → k < 256 → y k ≢ 1) → resolved y ≡ replicate 32 0
+unfolding resolved smallest
+resolved-none y none =
+    let e : 256 ≡ smallest y = found-none (λ j. eqb (y j) 1) 256 (λ j q. ne-eqb (y j) 1 (none j q)) in
+    ap (λ (i : ℕ). cond (ltb i 256) (1 ∷ i ∷ replicate 30 0) (replicate 32 0)) (sym e)
