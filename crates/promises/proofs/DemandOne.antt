@@ -1,5 +1,6 @@
 -- Demand 1, on a page: "Every public entry takes arbitrary bytes and lengths, and ends. A list is judged whole before its first instruction acts. A refusal gives the number and place that document 01 fixes, exactly when it says, and no lent byte has changed."
--- A record states each table of document 01, row by row in its order; `DemandOne`, below them, has a field for each public entry. What is lent is any list of bytes, and a kind or a start any number: no contract of an entry has a `requires`, so no field has a condition on them; that an entry ends is part of every check. A name with ′ is what a lent buffer holds afterwards; the equations before a field's last arrow are the clauses of the entry's contract, as they stand in its source. `After earlier row` says that none of the earlier rows holds and this one does. The names are those of specs/; the proofs at the end cite the laws. Assumes nothing.
+-- A record states each table of document 01, row by row in its order; `DemandOne`, below them, has a field for each public entry. `After earlier row` says that none of the earlier rows holds and this one does. The names are those of specs/, and seven short ones that stand here above their first use; the proofs at the end cite the laws. Assumes nothing.
+-- What is lent is any list of bytes, and a kind, a start or a width any number: no contract of an entry has a `requires`, so no field has a condition on them. That an entry ends is part of every check. A name with ′ is what a buffer lent for writing holds afterwards; one lent for reading cannot change. The equations before a field's last arrow are the clauses of the entry's contract, as they stand in its source.
 use mathlib.Core.Path.{_≡_, refl, sym, ap, subst, _∙_}
 use mathlib.Core.Bool.{Bool, true, false, _||_}
 use mathlib.Core.List.{List, [], _∷_}
