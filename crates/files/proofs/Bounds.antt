@@ -1,5 +1,5 @@
 -- How large the numbers in an answer can be, for whoever hands them on in fewer bits. Assumes nothing.
-use mathlib.Core.Path.{_≡_}
+use mathlib.Core.Path.{_≡_, refl}
 use mathlib.Core.Bool.{Bool, true, _&&_}
 use mathlib.Core.List.{List}
 use Prim.Native.Nat.{ℕ, _/_, _%_, _≤_}
@@ -41,6 +41,16 @@ read-bounds kind bytes fits = go (readAnswer kind bytes fits) (read kind bytes f
     go a (no-target k l g s f) = record { number = omega arith; place = omega arith; bytes = omega arith }
     go a (all-read k l g s f) =
         record { number = omega arith; place = omega arith; bytes = omega (arith, size-le kind (length (contentOf bytes)) s) }
+
+-- "Place is the block for 21 to 24, else 0": in writing it is 0
+pub write-place : (kind : ℕ) (fits : Bool) (size room : ℕ) → writeAnswer kind fits size room .place ≡ 0
+write-place kind fits size room = go (writeAnswer kind fits size room) (written kind fits size room)
+  where
+    go : (a : Answer) → Written kind fits size room a → a .place ≡ 0
+    go a (no-kind k) = refl
+    go a (no-size k f) = refl
+    go a (no-room k f h) = refl
+    go a (all-written k f h) = refl
 
 -- of a content that is at most 32,768 bytes where it fits
 pub write-bounds : (kind : ℕ) (fits : Bool) (size room : ℕ) → (fits ≡ true → size ≤ 32768) → Bounded (writeAnswer kind fits size room)

@@ -315,3 +315,15 @@ module _ (mem : ℕ) (instruction : List ℕ) (items out : ℕ) where
         λ g. (sym (g .1) ∙ ap (λ (a : Answer). a .place) (step-not-eight e u), (ap not (eq-eqb mem 8192 e), u)),
         λ f. (ap (λ (a : Answer). a .number) (step-not-eight e u), ap (λ (a : Answer). a .place) (step-not-eight e u) ∙ sym (f .0)),
       )
+
+  pub step-refusal : (judgedStep mem instruction items out .number ≡ 0 → ⊥)
+      → judgedStep mem instruction items out ≡ refusal (judgedStep mem instruction items out .number) (judgedStep mem instruction items out .place)
+  step-refusal = go (ℕ-discrete mem 8192) (ℕ-discrete (length instruction) 8)
+    where
+      Counts : Answer → Type 0
+      Counts a = (a .number ≡ 0 → ⊥) → a ≡ refusal (a .number) (a .place)
+
+      go : Dec (mem ≡ 8192) → Dec (length instruction ≡ 8) → Counts (judgedStep mem instruction items out)
+      go (no u) d = subst Counts (sym (step-wrong u)) (refusal-counts mem 96 instruction items out)
+      go (yes e) (yes h) = subst Counts (sym (step-eight h)) (refusal-counts mem 96 instruction items out)
+      go (yes e) (no u) = subst Counts (sym (step-not-eight e u)) (λ v. refl)

@@ -1,5 +1,5 @@
 -- What a builder's numbers say: the table of refusals both ways, the fields that have none, and what is left in each case. Assumes nothing.
-use mathlib.Core.Path.{_≡_, refl, sym, ap, ap₂, _∙_}
+use mathlib.Core.Path.{_≡_, refl, sym, ap, ap₂, subst, _∙_}
 use mathlib.Core.Bool.{Bool, true, false, cond, not, _&&_, _||_, true≢false}
 use mathlib.Core.Logic.{inl, inr, _↔_}
 use mathlib.Core.List.{List, _++_}
@@ -115,3 +115,29 @@ pub built-done : (fault : ℕ) (bytes buffer : List ℕ) (number count : ℕ) (l
 built-done fault bytes buffer number count l e z c h =
     ap₂ (λ (x : ℕ) (y : List ℕ). record { answer = record { number = 0; count = x }; list = y }) (sym c) h
     ∙ sym (simp (eq-eqb fault 0 (sym e ∙ z)))
+
+-- ---- a builder's answer, both ways
+
+module _ (lead a b s n : ℕ) (bytes buffer : List ℕ) where
+  abbrev fault : ℕ
+  fault = fieldsFault lead a b s n (length buffer)
+
+  pub built-row : (j : ℕ) → j < 4 → (builtWith fault bytes buffer .answer .number ≡ 30 + j) ↔ FirstRow (fieldRows lead a b s n (length buffer)) j
+  built-row j h =
+      subst (λ (x : ℕ). (x ≡ 30 + j) ↔ FirstRow (fieldRows lead a b s n (length buffer)) j) (sym (built-number fault bytes buffer)) (refused lead a b s n (length buffer) j h)
+
+  pub built-0 : (builtWith fault bytes buffer .answer .number ≡ 0) ↔ Fields a b s n × (listLength lead n ≤ length buffer)
+  built-0 = (
+    sound lead a b s n (length buffer) _ (built-number fault bytes buffer),
+    λ r. built-number fault bytes buffer ∙ no-fault lead a b s n (length buffer) (r .0) (r .1),
+  )
+
+  pub built-count : builtWith fault bytes buffer .answer .number ≡ 0 → builtWith fault bytes buffer .answer .count ≡ length bytes
+  built-count z =
+      let e = sym (built-number fault bytes buffer) ∙ z in
+      sym (ap (λ (l : Left). l .answer .count) (built-done fault bytes buffer fault (length bytes) (bytes ++ drop (length bytes) buffer) refl e refl refl))
+
+  -- refused: the buffer as it was, and the count 0
+  pub built-unwritten : (builtWith fault bytes buffer .answer .number ≡ 0 → ⊥)
+      → builtWith fault bytes buffer ≡ record { answer = record { number = fault; count = 0 }; list = buffer }
+  built-unwritten u = sym (built-refused fault bytes buffer fault refl (λ z. u (built-number fault bytes buffer ∙ z)))

@@ -1,4 +1,5 @@
--- The large statements, each on a page of its own.
+-- The pages: what is promised, each in a file of its own.
+pub mod DemandOne
 pub mod DemandTwo
 pub mod DemandThree
 pub mod Examples

@@ -1,1 +1,1 @@
-// What the crates below promise together, on a page each: the demands, the starred examples, and that each contract leaves one outcome. Theory alone: proofs/ states it.
+// The three demands, each stated on a page of its own in names that specs/ defines, with proofs that cite the laws; the starred examples as one table; and that each contract leaves one outcome: theory alone.
