@@ -23,7 +23,18 @@ use Rattle.files.proofs.read_content as read_content
 use Rattle.files.proofs.write_content as write_content
 use Rattle.disk.proofs.read_picture as read_picture
 use Rattle.disk.proofs.write_picture as write_picture
-use Rattle.promises.proofs.Uniqueness.{Run, Step, Pass, SumList, DifferenceList, ReadContent-answer, ReadContent-target, WriteContent-answer, WriteContent-out, ReadPicture-answer, ReadPicture-memory, ReadPicture-registers, WritePicture-answer, WritePicture-out}
+use Rattle.staran.specs.Left.{sumLeft, differenceLeft, readLeft, writeLeft, writePictureLeft}
+use Rattle.staran.proofs.staran_run as staran_run
+use Rattle.staran.proofs.staran_step as staran_step
+use Rattle.staran.proofs.staran_pass as staran_pass
+use Rattle.staran.proofs.staran_wired_pass as staran_wired_pass
+use Rattle.staran.proofs.staran_sum_list as staran_sum_list
+use Rattle.staran.proofs.staran_difference_list as staran_difference_list
+use Rattle.staran.proofs.staran_read_content as staran_read_content
+use Rattle.staran.proofs.staran_write_content as staran_write_content
+use Rattle.staran.proofs.staran_read_picture as staran_read_picture
+use Rattle.staran.proofs.staran_write_picture as staran_write_picture
+use Rattle.promises.proofs.Uniqueness.{Run, Step, Pass, SumList, DifferenceList, ReadContent-answer, ReadContent-target, WriteContent-answer, WriteContent-out, ReadPicture-answer, ReadPicture-memory, ReadPicture-registers, WritePicture-answer, WritePicture-out, LibraryRun, LibraryStep, LibraryPass, LibraryBuffer, LibraryReadPicture}
 
 module _ {M : Type 1} (𝓤 : URA M) (H : Heap 𝓤) (A : Atoms 𝓤) (memory : Memory → SProp 𝓤) (runs : Routine → Fun 𝓤) where
   open Connectives (connectives 𝓤) using (⌜_⌝, _∗_, ⊤ₛ)
@@ -81,3 +92,45 @@ module _ {M : Type 1} (𝓤 : URA M) (H : Heap 𝓤) (A : Atoms 𝓤) (memory : 
       ⌜ WritePicture-answer (a .0) (now (a .1 .0)) (now (a .1 .1 .0)) (now (a .1 .1 .1 .0)) r ⌝
       ∗ ⌜ WritePicture-out (a .0) (now (a .1 .0)) (now (a .1 .1 .0)) (now (a .1 .1 .1 .0)) (now (e .1 .1 .1 .0)) r ⌝)
   write-picture-clauses κs a g r e = (refl, refl)
+
+  -- ---- the library for C
+
+  pub library-run-clauses : Says staran_run.ended (staran_run.clauses 𝓤 H A memory runs) (λ κs a r e.
+      ⌜ LibraryRun (now (a .0)) (now (a .1 .0)) (now (a .1 .1 .0)) (now (a .1 .1 .1 .0)) (now (a .1 .1 .1 .1 .0)) (now (e .0)) (now (e .1 .0)) (now (e .1 .1 .1 .1 .0)) (now (e .1 .1 .1 .1 .1 .0)) ⌝)
+  library-run-clauses κs a g r e = (refl, refl)
+
+  pub library-step-clauses : Says staran_step.ended (staran_step.clauses 𝓤 H A memory runs) (λ κs a r e.
+      ⌜ LibraryStep (now (a .0)) (now (a .1 .0)) (now (a .1 .1 .0)) (now (a .1 .1 .1 .0)) (now (a .1 .1 .1 .1 .0)) (now (e .0)) (now (e .1 .0)) (now (e .1 .1 .1 .0)) (now (e .1 .1 .1 .1 .1 .0)) ⌝)
+  library-step-clauses κs a g r e = (refl, refl)
+
+  pub library-pass-clauses : Says staran_pass.ended (staran_pass.clauses 𝓤 H A memory runs) (λ κs a r e.
+      ⌜ LibraryPass (now (a .0)) (a .1 .0) (a .1 .1 .0) (now (e .1 .1 .1 .0)) (now (e .1 .1 .1 .1 .0)) ⌝)
+  library-pass-clauses κs a g r e = (refl, refl)
+
+  pub library-wired-pass-clauses : Says staran_wired_pass.ended (staran_wired_pass.clauses 𝓤 H A memory runs) (λ κs a r e.
+      ⌜ LibraryPass (now (a .0)) (a .1 .0) (a .1 .1 .0) (now (e .1 .1 .1 .0)) (now (e .1 .1 .1 .1 .0)) ⌝)
+  library-wired-pass-clauses κs a g r e = (refl, refl)
+
+  pub library-sum-list-clauses : Says staran_sum_list.ended (staran_sum_list.clauses 𝓤 H A memory runs) (λ κs a r e.
+      ⌜ LibraryBuffer (sumLeft (a .0) (a .1 .0) (a .1 .1 .0) (a .1 .1 .1 .0) (now (a .1 .1 .1 .1 .0))) (now (e .1 .1 .1 .1 .0)) (now (e .1 .1 .1 .1 .1 .0)) ⌝)
+  library-sum-list-clauses κs a g r e = (refl, refl)
+
+  pub library-difference-list-clauses : Says staran_difference_list.ended (staran_difference_list.clauses 𝓤 H A memory runs) (λ κs a r e.
+      ⌜ LibraryBuffer (differenceLeft (a .0) (a .1 .0) (a .1 .1 .0) (a .1 .1 .1 .0) (now (a .1 .1 .1 .1 .0))) (now (e .1 .1 .1 .1 .0)) (now (e .1 .1 .1 .1 .1 .0)) ⌝)
+  library-difference-list-clauses κs a g r e = (refl, refl)
+
+  pub library-read-content-clauses : Says staran_read_content.ended (staran_read_content.clauses 𝓤 H A memory runs) (λ κs a r e.
+      ⌜ LibraryBuffer (readLeft (a .0) (now (a .1 .0)) (now (a .1 .1 .0))) (now (e .1 .1 .0)) (now (e .1 .1 .1 .0)) ⌝)
+  library-read-content-clauses κs a g r e = (refl, refl)
+
+  pub library-write-content-clauses : Says staran_write_content.ended (staran_write_content.clauses 𝓤 H A memory runs) (λ κs a r e.
+      ⌜ LibraryBuffer (writeLeft (a .0) (now (a .1 .0)) (now (a .1 .1 .0))) (now (e .1 .1 .0)) (now (e .1 .1 .1 .0)) ⌝)
+  library-write-content-clauses κs a g r e = (refl, refl)
+
+  pub library-read-picture-clauses : Says staran_read_picture.ended (staran_read_picture.clauses 𝓤 H A memory runs) (λ κs a r e.
+      ⌜ LibraryReadPicture (a .0) (now (a .1 .0)) (now (a .1 .1 .0)) (now (a .1 .1 .1 .0)) (now (e .1 .1 .0)) (now (e .1 .1 .1 .0)) (now (e .1 .1 .1 .1 .0)) ⌝)
+  library-read-picture-clauses κs a g r e = (refl, refl)
+
+  pub library-write-picture-clauses : Says staran_write_picture.ended (staran_write_picture.clauses 𝓤 H A memory runs) (λ κs a r e.
+      ⌜ LibraryBuffer (writePictureLeft (a .0) (now (a .1 .0)) (now (a .1 .1 .0)) (now (a .1 .1 .1 .0))) (now (e .1 .1 .1 .0)) (now (e .1 .1 .1 .1 .0)) ⌝)
+  library-write-picture-clauses κs a g r e = (refl, refl)

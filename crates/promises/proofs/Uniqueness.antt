@@ -17,6 +17,7 @@ use Rattle.files.specs.declared.Answer.{Answer as Moved}
 use Rattle.files.specs.File.{contentOf, blocksOf}
 use Rattle.files.specs.Content.{readAnswer, writeAnswer, changed, over, targetFits, contentFits}
 use Rattle.disk.specs.Picture.{pictureOf, scrambled, pictureFits}
+use Rattle.staran.specs.Left.{RunLeft, runLeft, StepLeft, stepLeft, PassLeft, passLeft, BufferLeft, sumLeft, differenceLeft, readLeft, writeLeft, PictureLeft, readPictureLeft, writePictureLeft}
 
 -- what is the same as one thing is the same
 one : {A : Type 0} {x y : A} (z : A) → x ≡ z → y ≡ z → x ≡ y
@@ -153,3 +154,82 @@ pub write-picture-one : (kind : ℕ) (memory registers out out₁ out₂ : List 
 write-picture-one kind memory registers out out₁ out₂ r₁ r₂ p p′ q q′ =
     let e = one (writeAnswer kind (pictureFits kind (length memory) (length registers)) 8288 (length out)) p q in
     (e, target-one (over (blocksOf kind (pictureOf memory registers)) out) out r₁ r₂ out₁ out₂ e p′ q′)
+
+-- ---- the library for C: each contract is one equation of all that a function leaves, its answer's numbers included
+
+-- `staran_run`
+abbrev pub LibraryRun : (memory registers list items out memory′ registers′ out′ answer′ : List ℕ) → Type 0
+LibraryRun memory registers list items out memory′ registers′ out′ answer′ =
+    _≡_ {A = RunLeft} (record { memory = memory′; registers = registers′; out = out′; answer = answer′ }) (runLeft memory registers list items out)
+
+pub library-run-one : (memory registers list items out memory₁ registers₁ out₁ answer₁ memory₂ registers₂ out₂ answer₂ : List ℕ)
+    → LibraryRun memory registers list items out memory₁ registers₁ out₁ answer₁ → LibraryRun memory registers list items out memory₂ registers₂ out₂ answer₂
+    → (answer₁ ≡ answer₂) × (memory₁ ≡ memory₂) × (registers₁ ≡ registers₂) × (out₁ ≡ out₂)
+library-run-one memory registers list items out memory₁ registers₁ out₁ answer₁ memory₂ registers₂ out₂ answer₂ p q =
+    let e = one (runLeft memory registers list items out) p q in
+    (ap (λ (x : RunLeft). x .answer) e, ap (λ (x : RunLeft). x .memory) e, ap (λ (x : RunLeft). x .registers) e, ap (λ (x : RunLeft). x .out) e)
+
+-- `staran_step`
+abbrev pub LibraryStep : (memory : List ℕ) → Registers → (items out instruction memory′ : List ℕ) → Registers → (out′ answer′ : List ℕ) → Type 0
+LibraryStep memory r items out instruction memory′ r′ out′ answer′ =
+    _≡_ {A = StepLeft} (record { memory = memory′; registers = r′; out = out′; answer = answer′ }) (stepLeft memory r items out instruction)
+
+pub library-step-one : (memory : List ℕ) (r : Registers) (items out instruction memory₁ out₁ answer₁ memory₂ out₂ answer₂ : List ℕ) (r₁ r₂ : Registers)
+    → LibraryStep memory r items out instruction memory₁ r₁ out₁ answer₁ → LibraryStep memory r items out instruction memory₂ r₂ out₂ answer₂
+    → (answer₁ ≡ answer₂) × (memory₁ ≡ memory₂) × (r₁ ≡ r₂) × (out₁ ≡ out₂)
+library-step-one memory r items out instruction memory₁ out₁ answer₁ memory₂ out₂ answer₂ r₁ r₂ p q =
+    let e = one (stepLeft memory r items out instruction) p q in
+    (ap (λ (x : StepLeft). x .answer) e, ap (λ (x : StepLeft). x .memory) e, ap (λ (x : StepLeft). x .registers) e, ap (λ (x : StepLeft). x .out) e)
+
+-- `staran_pass` and `staran_wired_pass`
+abbrev pub LibraryPass : (item : List ℕ) (flip code : ℕ) (passed′ answer′ : List ℕ) → Type 0
+LibraryPass item flip code passed′ answer′ = _≡_ {A = PassLeft} (record { passed = passed′; answer = answer′ }) (passLeft item flip code)
+
+pub library-pass-one : (item : List ℕ) (flip code : ℕ) (passed₁ answer₁ passed₂ answer₂ : List ℕ)
+    → LibraryPass item flip code passed₁ answer₁ → LibraryPass item flip code passed₂ answer₂ → (answer₁ ≡ answer₂) × (passed₁ ≡ passed₂)
+library-pass-one item flip code passed₁ answer₁ passed₂ answer₂ p q =
+    let e = one (passLeft item flip code) p q in
+    (ap (λ (x : PassLeft). x .answer) e, ap (λ (x : PassLeft). x .passed) e)
+
+-- the five that write one buffer: a promise is what is left
+abbrev pub LibraryBuffer : BufferLeft → (buffer′ answer′ : List ℕ) → Type 0
+LibraryBuffer l buffer′ answer′ = _≡_ {A = BufferLeft} (record { buffer = buffer′; answer = answer′ }) l
+
+library-buffer-one : (l : BufferLeft) (buffer₁ answer₁ buffer₂ answer₂ : List ℕ) → LibraryBuffer l buffer₁ answer₁ → LibraryBuffer l buffer₂ answer₂
+    → (answer₁ ≡ answer₂) × (buffer₁ ≡ buffer₂)
+library-buffer-one l buffer₁ answer₁ buffer₂ answer₂ p q = let e = one l p q in (ap (λ (x : BufferLeft). x .answer) e, ap (λ (x : BufferLeft). x .buffer) e)
+
+module _ (buffer₁ answer₁ buffer₂ answer₂ : List ℕ) where
+  -- `staran_sum_list` and `staran_difference_list`
+  module _ (a b s n : ℕ) (list : List ℕ) where
+    pub library-sum-list-one : LibraryBuffer (sumLeft a b s n list) buffer₁ answer₁ → LibraryBuffer (sumLeft a b s n list) buffer₂ answer₂ → (answer₁ ≡ answer₂) × (buffer₁ ≡ buffer₂)
+    library-sum-list-one = library-buffer-one (sumLeft a b s n list) buffer₁ answer₁ buffer₂ answer₂
+
+    pub library-difference-list-one : LibraryBuffer (differenceLeft a b s n list) buffer₁ answer₁ → LibraryBuffer (differenceLeft a b s n list) buffer₂ answer₂ → (answer₁ ≡ answer₂) × (buffer₁ ≡ buffer₂)
+    library-difference-list-one = library-buffer-one (differenceLeft a b s n list) buffer₁ answer₁ buffer₂ answer₂
+
+  -- `staran_read_content` and `staran_write_content`
+  module _ (kind : ℕ) (from to : List ℕ) where
+    pub library-read-content-one : LibraryBuffer (readLeft kind from to) buffer₁ answer₁ → LibraryBuffer (readLeft kind from to) buffer₂ answer₂ → (answer₁ ≡ answer₂) × (buffer₁ ≡ buffer₂)
+    library-read-content-one = library-buffer-one (readLeft kind from to) buffer₁ answer₁ buffer₂ answer₂
+
+    pub library-write-content-one : LibraryBuffer (writeLeft kind from to) buffer₁ answer₁ → LibraryBuffer (writeLeft kind from to) buffer₂ answer₂ → (answer₁ ≡ answer₂) × (buffer₁ ≡ buffer₂)
+    library-write-content-one = library-buffer-one (writeLeft kind from to) buffer₁ answer₁ buffer₂ answer₂
+
+  -- `staran_write_picture`
+  pub library-write-picture-one : (kind : ℕ) (memory registers out : List ℕ)
+      → LibraryBuffer (writePictureLeft kind memory registers out) buffer₁ answer₁ → LibraryBuffer (writePictureLeft kind memory registers out) buffer₂ answer₂
+      → (answer₁ ≡ answer₂) × (buffer₁ ≡ buffer₂)
+  library-write-picture-one kind memory registers out = library-buffer-one (writePictureLeft kind memory registers out) buffer₁ answer₁ buffer₂ answer₂
+
+-- `staran_read_picture`
+abbrev pub LibraryReadPicture : (kind : ℕ) (bytes memory registers memory′ registers′ answer′ : List ℕ) → Type 0
+LibraryReadPicture kind bytes memory registers memory′ registers′ answer′ =
+    _≡_ {A = PictureLeft} (record { memory = memory′; registers = registers′; answer = answer′ }) (readPictureLeft kind bytes memory registers)
+
+pub library-read-picture-one : (kind : ℕ) (bytes memory registers memory₁ registers₁ answer₁ memory₂ registers₂ answer₂ : List ℕ)
+    → LibraryReadPicture kind bytes memory registers memory₁ registers₁ answer₁ → LibraryReadPicture kind bytes memory registers memory₂ registers₂ answer₂
+    → (answer₁ ≡ answer₂) × (memory₁ ≡ memory₂) × (registers₁ ≡ registers₂)
+library-read-picture-one kind bytes memory registers memory₁ registers₁ answer₁ memory₂ registers₂ answer₂ p q =
+    let e = one (readPictureLeft kind bytes memory registers) p q in
+    (ap (λ (x : PictureLeft). x .answer) e, ap (λ (x : PictureLeft). x .memory) e, ap (λ (x : PictureLeft). x .registers) e)
