@@ -11,6 +11,7 @@
 
 int main(int count, char **words)
 {
+    setvbuf(stdout, NULL, _IOLBF, 0); /* what was said before a call broke off is not lost */
     make_rooms();
     if (count == 2 && strcmp(words[1], "cases") == 0)
         return replay();
