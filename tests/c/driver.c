@@ -1,0 +1,22 @@
+/* Holds the library for C to its header:
+ *     driver cases     replays the outside cases on standard input, and writes their answers
+ *     driver lengths   calls every function with good and bad lengths, and counts
+ * The exit status is 0 where nothing failed. tests/c/run builds and runs it. */
+#include "lengths.h"
+#include "lent.h"
+#include "replay.h"
+
+#include <stdio.h>
+#include <string.h>
+
+int main(int count, char **words)
+{
+    setvbuf(stdout, NULL, _IOLBF, 0); /* what was said before a call broke off is not lost */
+    make_rooms();
+    if (count == 2 && strcmp(words[1], "cases") == 0)
+        return replay();
+    if (count == 2 && strcmp(words[1], "lengths") == 0)
+        return lengths();
+    fputs("usage: driver cases | driver lengths\n", stderr);
+    return 2;
+}

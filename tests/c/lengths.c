@@ -1,0 +1,639 @@
+/* Calls every function of the library with good and bad lengths, kinds and codes. Each check is one call: its numbers, every byte of every buffer
+ * afterwards, and the bytes around each buffer are held to what the header says. */
+#define _DEFAULT_SOURCE
+#include "lengths.h"
+
+#include "lent.h"
+#include "model.h"
+#include "staran.h"
+
+#include <stdarg.h>
+#include <stdio.h>
+#include <string.h>
+#include <sys/mman.h>
+
+#define COUNT(array) (sizeof(array) / sizeof *(array))
+#define WHOLE(k) buffers[k].bytes, buffers[k].length
+
+static unsigned long passed, failed, passed_before, failed_before;
+static int right;
+
+/* Names the check that follows; where the call breaks off, this name is said. */
+static void check(const char *format, ...)
+{
+    va_list words;
+    va_start(words, format);
+    vsnprintf(calling, sizeof calling, format, words);
+    va_end(words);
+    right = 1;
+}
+
+static void wrong(const char *what)
+{
+    printf("FAIL %s: %s\n", calling, what);
+    right = 0;
+}
+
+static void count(void)
+{
+    if (right)
+        passed++;
+    else
+        failed++;
+}
+
+/* The answer must be these numbers. */
+static void answered(const uint32_t *answer, size_t n, const uint32_t *expected)
+{
+    char said[200];
+    int at = snprintf(said, sizeof said, "answers");
+    if (memcmp(answer, expected, 4 * n) == 0)
+        return;
+    for (size_t i = 0; i < n; i++)
+        at += snprintf(said + at, sizeof said - (size_t)at, " %u", (unsigned)answer[i]);
+    at += snprintf(said + at, sizeof said - (size_t)at, ", not");
+    for (size_t i = 0; i < n; i++)
+        at += snprintf(said + at, sizeof said - (size_t)at, " %u", (unsigned)expected[i]);
+    wrong(said);
+}
+
+/* Closes a check: the answer, every buffer, and the bytes around each. */
+static void settle(const uint32_t *answer, size_t n, const uint32_t *expected)
+{
+    char said[100];
+    answered(answer, n, expected);
+    memcpy(buffers[ANSWER].expected, answer, 4 * n);
+    for (int k = 0; k < BUFFERS; k++) {
+        snprintf(said, sizeof said, "%s of %zu bytes", buffers[k].name, buffers[k].length);
+        if (!as_expected(k))
+            strcat(said, " is not as it must be"), wrong(said);
+        else if (!guarded(k))
+            strcat(said, ": a byte beside it was written"), wrong(said);
+    }
+    count();
+}
+
+/* Prints what one function passed and failed. */
+static void function(const char *name)
+{
+    printf("%-16s %6lu passed, %lu failed\n", name, passed - passed_before, failed - failed_before);
+    passed_before = passed;
+    failed_before = failed;
+}
+
+static void nothing_lent(int end)
+{
+    for (int k = 0; k < BUFFERS; k++)
+        lend(k, 0, end);
+}
+
+/* ---- run and step: every instruction delivers an item from outside, so that the lengths alone decide */
+
+static const size_t memories[] = {0, 1, 8191, 8192, 8193, 8224, 65536};
+static const size_t registers_lengths[] = {0, 1, 95, 96, 97, 128, 65536};
+static const size_t list_lengths[] = {0, 1, 7, 8, 9, 16, 32760, 32767, 32768, 32769, 32776, 65536};
+static const size_t item_lengths[] = {0, 1, 31, 32, 33, 64, 32767, 32768, 32769, 32800, 65536};
+static const size_t out_lengths[] = {0, 1, 31, 32, 33, 63, 64, 32767, 32768, 65536};
+
+static void fill_with(int k, const uint8_t instruction[8])
+{
+    for (size_t i = 0; i < buffers[k].length; i++)
+        buffers[k].bytes[i] = buffers[k].expected[i] = instruction[i % 8];
+}
+
+static const uint8_t deliver_outside[8] = {4, 4, 0, 0, 0, 0, 0, 0};
+
+/* What the lengths make of a run (`step` 0) or a step (1). The out buffer's bytes are put to what is expected. */
+static void expect_run(int step, uint32_t expected[5])
+{
+    size_t list = buffers[LIST].length, items = buffers[ITEMS].length, n = list / 8;
+    memset(expected, 0, 20);
+    if (buffers[MEMORY].length != 8192)
+        expected[0] = 1;
+    else if (!step && buffers[REGISTERS].length != 96)
+        expected[0] = 2;
+    else if (step ? list != 8 : list % 8 != 0 || list > 32768)
+        expected[0] = 3;
+    else if (items % 32 != 0 || items > 32768)
+        expected[0] = 4;
+    else if (items / 32 < n)
+        expected[0] = 12, expected[1] = (uint32_t)(items / 32);
+    else if (buffers[OUT].length / 32 < n)
+        expected[0] = 13, expected[1] = (uint32_t)(buffers[OUT].length / 32);
+    else {
+        expected[2] = expected[3] = expected[4] = (uint32_t)n;
+        memcpy(buffers[OUT].expected, buffers[ITEMS].bytes, 32 * n);
+    }
+}
+
+static void run_once(size_t memory, size_t registers, size_t list, size_t items, size_t out, int end)
+{
+    uint32_t expected[5], *answer;
+    check("run: memory %zu, registers %zu, list %zu, items %zu, out %zu", memory, registers, list, items, out);
+    nothing_lent(end);
+    lend(MEMORY, memory, end);
+    lend(REGISTERS, registers, end);
+    lend(LIST, list, end);
+    lend(ITEMS, items, end);
+    lend(OUT, out, end);
+    fill_with(LIST, deliver_outside);
+    expect_run(0, expected);
+    answer = lend_answer(5, end);
+    staran_run(WHOLE(MEMORY), WHOLE(REGISTERS), WHOLE(LIST), WHOLE(ITEMS), WHOLE(OUT), answer);
+    settle(answer, 5, expected);
+}
+
+static void step_once(size_t memory, size_t instruction, size_t items, size_t out, int end)
+{
+    uint32_t expected[5], *answer;
+    check("step: memory %zu, instruction %zu, items %zu, out %zu", memory, instruction, items, out);
+    nothing_lent(end);
+    lend(MEMORY, memory, end);
+    lend(REGISTERS, 96, end);
+    lend(LIST, instruction, end);
+    lend(ITEMS, items, end);
+    lend(OUT, out, end);
+    fill_with(LIST, deliver_outside);
+    expect_run(1, expected);
+    answer = lend_answer(5, end);
+    staran_step(WHOLE(MEMORY), (staran_registers *)(void *)buffers[REGISTERS].bytes, WHOLE(ITEMS), WHOLE(OUT), WHOLE(LIST), answer);
+    settle(answer, 5, expected);
+}
+
+/* Every pair of a bad memory and bad registers; then every list, items and out with good ones, and with one of them bad. */
+static void run_lengths(void)
+{
+    for (int end = 0; end < ENDS; end++) {
+        for (size_t m = 0; m < COUNT(memories); m++)
+            for (size_t r = 0; r < COUNT(registers_lengths); r++)
+                for (size_t l = 0; l < COUNT(list_lengths); l++)
+                    run_once(memories[m], registers_lengths[r], list_lengths[l], 33, 32, end);
+        for (size_t l = 0; l < COUNT(list_lengths); l++)
+            for (size_t i = 0; i < COUNT(item_lengths); i++)
+                for (size_t o = 0; o < COUNT(out_lengths); o++) {
+                    run_once(8192, 96, list_lengths[l], item_lengths[i], out_lengths[o], end);
+                    run_once(8191, 96, list_lengths[l], item_lengths[i], out_lengths[o], end);
+                    run_once(8192, 97, list_lengths[l], item_lengths[i], out_lengths[o], end);
+                }
+    }
+    function("run");
+}
+
+static void step_lengths(void)
+{
+    for (int end = 0; end < ENDS; end++)
+        for (size_t m = 0; m < COUNT(memories); m++)
+            for (size_t l = 0; l < COUNT(list_lengths); l++)
+                for (size_t i = 0; i < COUNT(item_lengths); i++)
+                    step_once(memories[m], list_lengths[l], item_lengths[i], out_lengths[(m + l + i) % COUNT(out_lengths)], end);
+    for (int end = 0; end < ENDS; end++)
+        for (size_t i = 0; i < COUNT(item_lengths); i++)
+            for (size_t o = 0; o < COUNT(out_lengths); o++)
+                step_once(8192, 8, item_lengths[i], out_lengths[o], end);
+    function("step");
+}
+
+/* Instructions that are refused, each behind a good one that must not have acted; and the same as a step, at place 0. */
+static void refused_instructions(int step)
+{
+    static const struct {
+        uint32_t number;
+        uint8_t bytes[8];
+    } bad[] = {
+        {5, {6, 0, 0, 0, 0, 0, 0, 0}},     {5, {255, 9, 9, 9, 9, 9, 9, 9}},   {6, {0, 5, 0, 0, 0, 0, 0, 0}},   {6, {2, 0, 1, 0, 0, 0, 0, 0}},
+        {6, {3, 0, 0, 0, 0, 0, 0, 0}},     {6, {5, 1, 0, 0, 0, 0, 0, 0}},     {7, {2, 3, 0, 255, 0, 0, 0, 0}}, {7, {0, 0, 0, 0, 0, 0, 0, 0}},
+        {7, {3, 1, 0, 0, 0, 0, 16, 1}},    {8, {2, 3, 2, 0, 0, 0, 0, 0}},     {8, {4, 0, 255, 0, 0, 0, 0, 0}}, {9, {0, 2, 1, 0, 0, 0, 0, 0}},
+        {9, {1, 1, 0, 1, 0, 0, 0, 0}},     {9, {5, 0, 0, 0, 1, 0, 0, 0}},     {10, {0, 2, 0, 0, 0, 0, 136, 0}}, {10, {4, 1, 0, 0, 0, 0, 1, 0}},
+        {10, {2, 3, 1, 0, 0, 0, 48, 0}},   {10, {5, 0, 0, 0, 0, 1, 0, 0}},    {10, {5, 0, 0, 0, 0, 0, 16, 0}}, {11, {0, 2, 0, 0, 0, 0, 0, 80}},
+        {11, {1, 2, 0, 0, 0, 0, 0, 1}},    {11, {2, 3, 1, 0, 0, 0, 0, 255}},  {11, {5, 0, 0, 0, 0, 0, 0, 16}},
+    };
+    static const uint8_t store_word_13[8] = {2, 4, 1, 255, 13, 0, 0, 0};
+    for (size_t i = 0; i < 2 * COUNT(bad); i++) {
+        int end = (int)(i % 2);
+        size_t before = step ? 0 : i % 3, at = 8 * before;
+        uint32_t expected[5] = {bad[i / 2].number, (uint32_t)before, 0, 0, 0}, *answer;
+        uint8_t list[24];
+        check("%s: instruction %zu is refused with %u", step ? "step" : "run", i / 2, (unsigned)bad[i / 2].number);
+        for (size_t k = 0; k < before; k++)
+            memcpy(list + 8 * k, store_word_13, 8);
+        memcpy(list + at, bad[i / 2].bytes, 8);
+        nothing_lent(end);
+        lend(MEMORY, 8192, end);
+        lend(REGISTERS, 96, end);
+        lend_bytes(LIST, list, at + 8, end);
+        lend(ITEMS, 96, end);
+        lend(OUT, 96, end);
+        answer = lend_answer(5, end);
+        if (step)
+            staran_step(WHOLE(MEMORY), (staran_registers *)(void *)buffers[REGISTERS].bytes, WHOLE(ITEMS), WHOLE(OUT), WHOLE(LIST), answer);
+        else
+            staran_run(WHOLE(MEMORY), WHOLE(REGISTERS), WHOLE(LIST), WHOLE(ITEMS), WHOLE(OUT), answer);
+        settle(answer, 5, expected);
+    }
+    function(step ? "step, refused" : "run, refused");
+}
+
+/* The record of a step is M, X, Y in this order: each is delivered, and each is set. */
+static void record_order(void)
+{
+    for (int i = 0; i < 2 * ENDS * 3; i++) {
+        int end = i % 2, row = i / 2 % 3, set = i >= 2 * 3;
+        const uint8_t deliver[8] = {4, (uint8_t)(1 + row), 0, 0, 0, 0, 0, 0};
+        const uint8_t put[3][8] = {{1, 4, 0, 0, 0, 0, 0, 0}, {0, 4, 0, 0, 0, 0, 0, 0x0A}, {0, 4, 0, 0, 0, 0, 0, 0x1A}};
+        uint32_t expected[5] = {0, 0, 1, (uint32_t)set, (uint32_t)!set}, *answer;
+        check("step: register %c is %s", "MXY"[row], set ? "set" : "delivered");
+        nothing_lent(end);
+        lend(MEMORY, 8192, end);
+        lend(REGISTERS, 96, end);
+        lend_bytes(LIST, set ? put[row] : deliver, 8, end);
+        lend(ITEMS, 32, end);
+        lend(OUT, 40, end);
+        if (set)
+            memcpy(buffers[REGISTERS].expected + 32 * row, buffers[ITEMS].bytes, 32);
+        else
+            memcpy(buffers[OUT].expected, buffers[REGISTERS].bytes + 32 * row, 32);
+        staran_registers *record = (staran_registers *)(void *)buffers[REGISTERS].bytes;
+        if ((uint8_t *)record->m != buffers[REGISTERS].bytes || record->x != record->m + 32 || record->y != record->m + 64 || sizeof *record != 96)
+            wrong("the record is not 96 bytes, M, X, Y");
+        answer = lend_answer(5, end);
+        staran_step(WHOLE(MEMORY), record, WHOLE(ITEMS), WHOLE(OUT), WHOLE(LIST), answer);
+        settle(answer, 5, expected);
+    }
+    function("step, record");
+}
+
+/* ---- passes: every code, with some flips */
+
+static void pass_codes(const char *name, void (*pass)(const uint8_t *, uint8_t, uint8_t, uint8_t *, uint32_t *))
+{
+    static const uint8_t flips[] = {0, 1, 128, 255};
+    for (unsigned i = 0; i < 256 * COUNT(flips) * ENDS; i++) {
+        uint8_t code = (uint8_t)(i / ENDS / COUNT(flips)), flip = flips[i / ENDS % COUNT(flips)];
+        int end = (int)(i % ENDS);
+        uint32_t expected[1], *answer;
+        check("%s: flip %u, code %u", name, (unsigned)flip, (unsigned)code);
+        nothing_lent(end);
+        lend(ITEMS, 32, end);
+        lend(OUT, 32, end);
+        expected[0] = model_pass(buffers[ITEMS].bytes, flip, code, buffers[OUT].expected) ? 0 : 10;
+        answer = lend_answer(1, end);
+        pass(buffers[ITEMS].bytes, flip, code, buffers[OUT].bytes, answer);
+        settle(answer, 1, expected);
+    }
+    function(name);
+}
+
+/* ---- builders: widths, starts and lengths around every edge */
+
+typedef void builder(uint32_t, uint32_t, uint32_t, uint32_t, uint8_t *, size_t, uint32_t *);
+
+static void build_once(const char *name, builder *build, int lead, const uint32_t p[4], size_t length, int end)
+{
+    uint32_t expected[2], *answer;
+    check("%s: A %u, B %u, S %u, width %u, list %zu", name, (unsigned)p[0], (unsigned)p[1], (unsigned)p[2], (unsigned)p[3], length);
+    nothing_lent(end);
+    lend(LIST, length, end);
+    expected[0] = model_list(lead, p[0], p[1], p[2], p[3], buffers[LIST].expected, length);
+    expected[1] = expected[0] == 0 ? 8 * ((uint32_t)lead + 5 * p[3]) : 0;
+    answer = lend_answer(2, end);
+    build(p[0], p[1], p[2], p[3], WHOLE(LIST), answer);
+    settle(answer, 2, expected);
+}
+
+static void builder_lengths(const char *name, builder *build, int lead)
+{
+    static const uint32_t widths[] = {0, 1, 2, 63, 64, 65, 256, 0x80000000u, 0xFFFFFFFFu};
+    static const uint32_t starts[] = {0, 1, 64, 192, 193, 0xFFFFFFC0u, 0xFFFFFFFFu};
+    const size_t n = COUNT(starts);
+    for (size_t w = 0; w < COUNT(widths); w++)
+        for (size_t i = 0; i < n * n * n; i++) {
+            const uint32_t p[4] = {starts[i % n], starts[i / n % n], starts[i / n / n], widths[w]};
+            size_t need = widths[w] <= 256 ? 8 * ((size_t)lead + 5 * widths[w]) : 2576;
+            const size_t tried[] = {0, 1, need - 1, need, need + 1, 65536};
+            for (size_t t = 0; t < COUNT(tried); t++)
+                build_once(name, build, lead, p, tried[t], (int)(i % 2));
+        }
+    function(name);
+}
+
+/* ---- disk: kinds, file lengths, targets, damaged blocks */
+
+static const size_t kinds[] = {0, 1, 2, 3, 4, 258, 65537, 65538, 65539, (size_t)1 << 32, ((size_t)1 << 32) + 1, ((size_t)1 << 32) + 2, ((size_t)1 << 32) + 3, SIZE_MAX};
+static const size_t sizes[] = {0, 1, 7, 8, 9, 31, 32, 33, 488, 496, 504, 992, 1024, 8288, 32736, 32767, 32768, 32769, 32776, 32800, 65536};
+static uint8_t content[LONGEST], file[LONGEST];
+
+/* Reads what stands in `file` as a list or items. */
+static void read_once(size_t kind, size_t length, size_t target, int end)
+{
+    uint32_t expected[3] = {0, 0, 0}, *answer;
+    size_t place, size;
+    check("read_content: kind %zu, file %zu, target %zu", kind, length, target);
+    nothing_lent(end);
+    lend_bytes(FILE_BYTES, file, length, end);
+    lend(LIST, target, end);
+    expected[0] = model_file(kind, file, length, &place, content, &size);
+    expected[1] = (uint32_t)place;
+    if (expected[0] == 0 && (kind == 1 || target < size))
+        expected[0] = 26;
+    if (expected[0] == 0) {
+        expected[2] = (uint32_t)size;
+        memcpy(buffers[LIST].expected, content, size);
+    }
+    answer = lend_answer(3, end);
+    staran_read_content(kind, WHOLE(FILE_BYTES), WHOLE(LIST), answer);
+    settle(answer, 3, expected);
+}
+
+/* Reads what stands in `file` as a picture. */
+static void read_picture_once(size_t kind, size_t length, size_t memory, size_t registers, int end)
+{
+    uint32_t expected[3] = {0, 0, 0}, *answer;
+    size_t place, size;
+    check("read_picture: kind %zu, file %zu, memory %zu, registers %zu", kind, length, memory, registers);
+    nothing_lent(end);
+    lend_bytes(FILE_BYTES, file, length, end);
+    lend(MEMORY, memory, end);
+    lend(REGISTERS, registers, end);
+    expected[0] = model_file(kind, file, length, &place, content, &size);
+    expected[1] = (uint32_t)place;
+    if (expected[0] == 0 && !(kind == 1 && memory == 8192 && registers == 96))
+        expected[0] = 26;
+    if (expected[0] == 0) {
+        expected[2] = 8288;
+        model_memory(content, buffers[MEMORY].expected);
+        memcpy(buffers[REGISTERS].expected, content + 8192, 96);
+    }
+    answer = lend_answer(3, end);
+    staran_read_picture(kind, WHOLE(FILE_BYTES), WHOLE(MEMORY), WHOLE(REGISTERS), answer);
+    settle(answer, 3, expected);
+}
+
+/* A file of this kind and size, whatever they are, in `file`; its length. The bytes behind it are another file's. */
+static size_t make_file(size_t kind, size_t size)
+{
+    lend(ITEMS, size, FIRST);
+    memset(file, 0x5A, sizeof file);
+    return model_blocks(kind, buffers[ITEMS].bytes, size, file);
+}
+
+/* Lengths around the file's own, and far from it. */
+static size_t near(size_t length, size_t i)
+{
+    const size_t tried[] = {length, 0, 1, 511, 512, 513, length - 1, length - 512, length + 1, length + 512, 34304, 34305, 34816, 65536};
+    return i < COUNT(tried) ? tried[i] : SIZE_MAX;
+}
+
+static void read_lengths(void)
+{
+    for (size_t kind = 1; kind <= 3; kind++)
+        for (size_t s = 0; s < COUNT(sizes); s++) {
+            size_t size = sizes[s] <= 34000 ? sizes[s] : 33000, length = make_file(kind, size);
+            const size_t targets[] = {size, 0, 1, size - (size > 0), size + 1, 65536};
+            for (size_t i = 0; i < 2 * COUNT(kinds); i++)
+                read_once(kinds[i / 2], length, 65536, (int)(i % 2));
+            for (size_t i = 0; near(length, i / 2) != SIZE_MAX; i++)
+                read_once(kind, near(length, i / 2), 65536, (int)(i % 2));
+            for (size_t i = 0; i < 2 * COUNT(targets); i++)
+                read_once(kind, length, targets[i / 2], (int)(i % 2));
+        }
+    function("read_content");
+}
+
+static void read_picture_lengths(void)
+{
+    for (size_t kind = 1; kind <= 3; kind++) {
+        size_t length = make_file(kind, kind == 1 ? 8288 : 8192);
+        for (size_t i = 0; i < 2 * COUNT(kinds); i++)
+            read_picture_once(kinds[i / 2], length, 8192, 96, (int)(i % 2));
+        for (size_t i = 0; near(length, i / 2) != SIZE_MAX; i++)
+            read_picture_once(kind, near(length, i / 2), 8192, 96, (int)(i % 2));
+        for (size_t m = 0; m < COUNT(memories); m++)
+            for (size_t r = 0; r < 2 * COUNT(registers_lengths); r++)
+                read_picture_once(kind, length, memories[m], registers_lengths[r / 2], (int)(r % 2));
+    }
+    for (size_t size = 8280; size <= 8296; size++)
+        read_picture_once(1, make_file(1, size), 8192, 96, (int)(size % 2));
+    function("read_picture");
+}
+
+/* One byte altered in each part of each block, with the sums left wrong and with the sums put right: 21 to 24 at each place. */
+static void damaged_blocks(void)
+{
+    static const size_t parts[] = {0, 1, 2, 3, 4, 5, 6, 7, 8, 11, 12, 255, 507, 508, 510, 511};
+    for (size_t i = 0; i < 17 * COUNT(parts) * 2; i++) {
+        size_t block = i / 2 / COUNT(parts), part = parts[i / 2 % COUNT(parts)], length = make_file(STARAN_PICTURE, 8288);
+        file[512 * block + part] ^= 1;
+        if (i % 2 == 1)
+            model_seal(file + 512 * block);
+        read_picture_once(STARAN_PICTURE, length, 8192, 96, (int)(block % 2));
+        length = make_file(STARAN_LIST, 8288);
+        file[512 * block + part] ^= 1;
+        if (i % 2 == 1)
+            model_seal(file + 512 * block);
+        read_once(STARAN_LIST, length, 65536, (int)(block % 2));
+    }
+    function("damaged blocks");
+}
+
+static void write_once(size_t kind, size_t size, size_t out, int end)
+{
+    uint32_t expected[3] = {0, 0, 0}, *answer;
+    size_t need = STARAN_FILE_BYTES(size);
+    check("write_content: kind %zu, content %zu, out %zu", kind, size, out);
+    nothing_lent(end);
+    lend(LIST, size, end);
+    lend(FILE_BYTES, out, end);
+    if (kind < 1 || kind > 3)
+        expected[0] = 22;
+    else if (kind == 1 || !model_fits(kind, size))
+        expected[0] = 26;
+    else if (out < need)
+        expected[0] = 27;
+    else
+        expected[2] = (uint32_t)model_blocks(kind, buffers[LIST].bytes, size, buffers[FILE_BYTES].expected);
+    answer = lend_answer(3, end);
+    staran_write_content(kind, WHOLE(LIST), WHOLE(FILE_BYTES), answer);
+    settle(answer, 3, expected);
+}
+
+static void write_lengths(void)
+{
+    for (size_t k = 0; k < COUNT(kinds); k++)
+        for (size_t s = 0; s < COUNT(sizes); s++) {
+            size_t need = STARAN_FILE_BYTES(sizes[s]);
+            const size_t outs[] = {0, 1, 511, need - 1, need, need + 1, 66000};
+            for (size_t i = 0; i < 2 * COUNT(outs); i++)
+                write_once(kinds[k], sizes[s], outs[i / 2], (int)(i % 2));
+        }
+    function("write_content");
+}
+
+static void write_picture_once(size_t kind, size_t memory, size_t registers, size_t out, int end)
+{
+    uint32_t expected[3] = {0, 0, 0}, *answer;
+    check("write_picture: kind %zu, memory %zu, registers %zu, out %zu", kind, memory, registers, out);
+    nothing_lent(end);
+    lend(MEMORY, memory, end);
+    lend(REGISTERS, registers, end);
+    lend(FILE_BYTES, out, end);
+    if (kind < 1 || kind > 3)
+        expected[0] = 22;
+    else if (kind != 1 || memory != 8192 || registers != 96)
+        expected[0] = 26;
+    else if (out < STARAN_PICTURE_FILE_BYTES)
+        expected[0] = 27;
+    else {
+        model_picture(buffers[MEMORY].bytes, buffers[REGISTERS].bytes, content);
+        expected[2] = (uint32_t)model_blocks(kind, content, 8288, buffers[FILE_BYTES].expected);
+    }
+    answer = lend_answer(3, end);
+    staran_write_picture(kind, WHOLE(MEMORY), WHOLE(REGISTERS), WHOLE(FILE_BYTES), answer);
+    settle(answer, 3, expected);
+}
+
+static void write_picture_lengths(void)
+{
+    static const size_t outs[] = {0, 1, 8191, 8192, 8288, 8703, 8704, 8705, 65536};
+    for (int end = 0; end < ENDS; end++) {
+        for (size_t k = 0; k < COUNT(kinds); k++)
+            for (size_t o = 0; o < COUNT(outs); o++)
+                write_picture_once(kinds[k], 8192, 96, outs[o], end);
+        for (size_t m = 0; m < COUNT(memories); m++)
+            for (size_t r = 0; r < COUNT(registers_lengths); r++)
+                for (size_t o = 0; o < COUNT(outs); o++)
+                    if (memories[m] != 8192 || registers_lengths[r] != 96)
+                        write_picture_once(STARAN_PICTURE, memories[m], registers_lengths[r], outs[o], end);
+    }
+    function("write_picture");
+}
+
+/* ---- lengths over 2^32, whose low 32 bits are good: bytes that can be read and not written, none of which a refusal writes */
+
+static uint8_t *reserve(size_t length, int writable)
+{
+    uint8_t *all = mmap(NULL, length, writable ? PROT_READ | PROT_WRITE : PROT_READ, MAP_PRIVATE | MAP_ANONYMOUS | MAP_NORESERVE, -1, 0);
+    return all == MAP_FAILED ? NULL : all;
+}
+
+/* A check whose long buffer is no room of ours: the other buffers and the answer are settled as ever. The numbers expected follow the call. */
+#define LONG_CALL(call, n, ...)                                                                                                            \
+    do {                                                                                                                                   \
+        uint32_t expected[5] = {__VA_ARGS__}, *answer;                                                                                     \
+        check("a length over 2^32: %s", #call);                                                                                            \
+        answer = lend_answer(n, FIRST);                                                                                                    \
+        staran_##call;                                                                                                                     \
+        settle(answer, n, expected);                                                                                                       \
+    } while (0)
+
+static void refused_long(uint8_t *far, size_t long_by)
+{
+    nothing_lent(LAST);
+    lend(MEMORY, 8192, LAST);
+    lend(REGISTERS, 96, LAST);
+    lend(OUT, 32, LAST);
+    staran_registers *record = (staran_registers *)(void *)buffers[REGISTERS].bytes;
+    LONG_CALL(run(far, long_by + 8192, WHOLE(REGISTERS), WHOLE(LIST), WHOLE(ITEMS), WHOLE(OUT), answer), 5, 1);
+    LONG_CALL(run(WHOLE(MEMORY), far, long_by + 96, WHOLE(LIST), WHOLE(ITEMS), WHOLE(OUT), answer), 5, 2);
+    LONG_CALL(run(WHOLE(MEMORY), WHOLE(REGISTERS), far, long_by + 8, WHOLE(ITEMS), WHOLE(OUT), answer), 5, 3);
+    LONG_CALL(run(WHOLE(MEMORY), WHOLE(REGISTERS), WHOLE(LIST), far, long_by + 32, WHOLE(OUT), answer), 5, 4);
+    LONG_CALL(step(far, long_by + 8192, record, WHOLE(ITEMS), WHOLE(OUT), WHOLE(LIST), answer), 5, 1);
+    LONG_CALL(step(WHOLE(MEMORY), record, WHOLE(ITEMS), WHOLE(OUT), far, long_by + 8, answer), 5, 3);
+    lend_bytes(LIST, deliver_outside, 8, LAST);
+    LONG_CALL(step(WHOLE(MEMORY), record, far, long_by + 32, WHOLE(OUT), WHOLE(LIST), answer), 5, 4);
+    LONG_CALL(read_content(STARAN_LIST, far, long_by + 512, WHOLE(OUT), answer), 3, 20);
+    LONG_CALL(read_picture(STARAN_PICTURE, far, long_by + 8704, WHOLE(MEMORY), WHOLE(REGISTERS), answer), 3, 20);
+    LONG_CALL(write_content(STARAN_LIST, far, long_by + 8, WHOLE(OUT), answer), 3, 26);
+    LONG_CALL(write_picture(STARAN_PICTURE, far, long_by + 8192, WHOLE(REGISTERS), WHOLE(OUT), answer), 3, 26);
+    LONG_CALL(write_picture(STARAN_PICTURE, WHOLE(MEMORY), far, long_by + 96, WHOLE(OUT), answer), 3, 26);
+    lend_bytes(FILE_BYTES, file, make_file(STARAN_PICTURE, 8288), LAST);
+    LONG_CALL(read_picture(STARAN_PICTURE, WHOLE(FILE_BYTES), far, long_by + 8192, WHOLE(REGISTERS), answer), 3, 26);
+    LONG_CALL(read_picture(STARAN_PICTURE, WHOLE(FILE_BYTES), WHOLE(MEMORY), far, long_by + 96, answer), 3, 26);
+}
+
+/* Is what was written there these bytes, and is what stands behind them, and 2^32 further on, still 0? They are 0 again afterwards. */
+static void written_long(uint8_t *far, size_t long_by, const uint8_t *expected, size_t length)
+{
+    int same = memcmp(far, expected, length) == 0;
+    for (size_t i = length; i < 65536; i++)
+        same &= far[i] == 0;
+    for (size_t i = 0; i < 65536; i++)
+        same &= far[long_by + i] == 0;
+    check("a length over 2^32: what the call before this wrote");
+    if (!same)
+        wrong("the long buffer is not as it must be");
+    count();
+    memset(far, 0, 65536);
+}
+
+/* Where any length will do, a long one is no refusal. */
+static void done_long(uint8_t *far, size_t long_by)
+{
+    static uint8_t made[65536];
+    size_t length = make_file(STARAN_LIST, 1024);
+    memcpy(made, buffers[ITEMS].bytes, 1024);
+    nothing_lent(LAST);
+    lend_bytes(FILE_BYTES, file, length, LAST);
+    LONG_CALL(read_content(STARAN_LIST, WHOLE(FILE_BYTES), far, long_by + 8, answer), 3, 0, 0, 1024);
+    written_long(far, long_by, made, 1024);
+    lend(LIST, 1024, LAST);
+    model_blocks(STARAN_LIST, buffers[LIST].bytes, 1024, made);
+    LONG_CALL(write_content(STARAN_LIST, WHOLE(LIST), far, long_by, answer), 3, 0, 0, 1536);
+    written_long(far, long_by, made, 1536);
+    lend(MEMORY, 8192, LAST);
+    lend(REGISTERS, 96, LAST);
+    model_picture(buffers[MEMORY].bytes, buffers[REGISTERS].bytes, content);
+    model_blocks(STARAN_PICTURE, content, 8288, made);
+    LONG_CALL(write_picture(STARAN_PICTURE, WHOLE(MEMORY), WHOLE(REGISTERS), far, long_by, answer), 3, 0, 0, 8704);
+    written_long(far, long_by, made, 8704);
+    lend(ITEMS, 32, LAST);
+    lend_bytes(LIST, deliver_outside, 8, LAST);
+    LONG_CALL(run(WHOLE(MEMORY), WHOLE(REGISTERS), WHOLE(LIST), WHOLE(ITEMS), far, long_by + 31, answer), 5, 0, 0, 1, 1, 1);
+    written_long(far, long_by, buffers[ITEMS].bytes, 32);
+    staran_registers *record = (staran_registers *)(void *)buffers[REGISTERS].bytes;
+    LONG_CALL(step(WHOLE(MEMORY), record, WHOLE(ITEMS), far, long_by, WHOLE(LIST), answer), 5, 0, 0, 1, 1, 1);
+    written_long(far, long_by, buffers[ITEMS].bytes, 32);
+    model_list(1, 0, 64, 128, 64, made, 2568);
+    LONG_CALL(sum_list(0, 64, 128, 64, far, long_by, answer), 2, 0, 2568);
+    written_long(far, long_by, made, 2568);
+    model_list(2, 0, 64, 128, 64, made, 2576);
+    LONG_CALL(difference_list(0, 64, 128, 64, far, long_by + 2575, answer), 2, 0, 2576);
+    written_long(far, long_by, made, 2576);
+}
+
+static void long_lengths(void)
+{
+    const size_t long_by = (size_t)1 << 32;
+    uint8_t *closed = reserve(long_by + 65536, 0), *open = reserve(long_by + 65536, 1);
+    check("lengths over 2^32");
+    if (closed == NULL || open == NULL) {
+        wrong("the system has no room to reserve");
+        count();
+    } else {
+        refused_long(closed, long_by);
+        done_long(open, long_by);
+        munmap(closed, long_by + 65536);
+        munmap(open, long_by + 65536);
+    }
+    function("over 2^32");
+}
+
+int lengths(void)
+{
+    run_lengths();
+    refused_instructions(0);
+    step_lengths();
+    refused_instructions(1);
+    record_order();
+    pass_codes("pass", staran_pass);
+    pass_codes("wired_pass", staran_wired_pass);
+    builder_lengths("sum_list", staran_sum_list, 1);
+    builder_lengths("difference_list", staran_difference_list, 2);
+    read_lengths();
+    read_picture_lengths();
+    damaged_blocks();
+    write_lengths();
+    write_picture_lengths();
+    long_lengths();
+    printf("%lu passed, %lu failed\n", passed, failed);
+    return failed != 0;
+}

@@ -1,0 +1,166 @@
+/* What include/staran.h promises, worked out by the plainest means: one bit, one instruction, one block at a time. */
+#include "model.h"
+
+#include <string.h>
+
+static int bit(const uint8_t *bytes, size_t k) { return bytes[k / 8] >> k % 8 & 1; }
+
+static void set(uint8_t *bytes, size_t k, int value)
+{
+    bytes[k / 8] = (uint8_t)((bytes[k / 8] & ~(1u << k % 8)) | (unsigned)value << k % 8);
+}
+
+int model_pass(const uint8_t item[32], uint8_t flip, uint8_t code, uint8_t passed[32])
+{
+    unsigned p = code / 16, m = code % 16;
+    memset(passed, 0, 32);
+    if (code != 0 && !(m < p && p <= 8))
+        return 0;
+    for (unsigned line = 0; line < 256; line++) {
+        unsigned to = line ^ flip;
+        if (code != 0)
+            to = (to >> p << p) + (to % (1u << p) + (1u << m)) % (1u << p);
+        set(passed, to, bit(item, line));
+    }
+    return 1;
+}
+
+static int crosses(uint64_t s, uint64_t a, uint64_t n) { return s != a && s < a + n && a < s + n; }
+
+static size_t put(uint8_t *list, size_t at, uint8_t kind, uint8_t source, int slice, uint8_t byte7)
+{
+    uint8_t made[8] = {kind, source, slice >= 0, 0, slice >= 0 ? (uint8_t)slice : 0, 0, 0, byte7};
+    memcpy(list + at, made, 8);
+    return at + 8;
+}
+
+unsigned model_list(int lead, uint32_t a, uint32_t b, uint32_t s, uint32_t n, uint8_t *list, size_t list_length)
+{
+    uint64_t wide = n;
+    size_t at = 0;
+    if (n < 1 || n > 64)
+        return 30;
+    if (a + wide > 256 || b + wide > 256 || s + wide > 256)
+        return 31;
+    if (crosses(s, a, n) || crosses(s, b, n))
+        return 32;
+    if (list_length < 8 * ((size_t)lead + 5 * n))
+        return 33;
+    at = put(list, at, 0, 2, -1, 0x20);
+    if (lead == 2)
+        at = put(list, at, 0, 2, -1, 0x1F);
+    for (uint32_t k = 0; k < n; k++) {
+        at = put(list, at, 0, 0, (int)(a + k), 0x46);
+        at = put(list, at, 0, 0, (int)(b + k), lead == 2 ? 0x49 : 0x46);
+        at = put(list, at, 2, 3, (int)(s + k), 0);
+        at = put(list, at, 0, 2, -1, 0x33);
+        at = put(list, at, 0, 2, -1, 0x26);
+    }
+    return 0;
+}
+
+static uint32_t two(const uint8_t *b) { return b[0] + 256u * b[1]; }
+
+static void put_two(uint8_t *b, size_t n)
+{
+    b[0] = (uint8_t)n;
+    b[1] = (uint8_t)(n >> 8);
+}
+
+static void sums(const uint8_t *block, uint32_t *s1, uint32_t *s2)
+{
+    *s1 = *s2 = 0;
+    for (uint32_t i = 0; i < 508; i++) {
+        *s1 += block[i];
+        *s2 += (508 - i) * block[i];
+    }
+    *s1 %= 65535;
+    *s2 %= 65535;
+}
+
+void model_seal(uint8_t *block)
+{
+    uint32_t s1, s2;
+    sums(block, &s1, &s2);
+    put_two(block + 508, s1);
+    put_two(block + 510, s2);
+}
+
+size_t model_blocks(size_t kind, const uint8_t *content, size_t content_length, uint8_t *file)
+{
+    size_t count = content_length == 0 ? 1 : (content_length + 495) / 496;
+    for (size_t i = 0; i < count; i++) {
+        uint8_t *block = file + 512 * i;
+        size_t used = content_length - 496 * i < 496 ? content_length - 496 * i : 496;
+        memset(block, 0, 512);
+        put_two(block, kind);
+        put_two(block + 2, i);
+        put_two(block + 4, count);
+        put_two(block + 6, used);
+        memcpy(block + 12, content + 496 * i, used);
+        model_seal(block);
+    }
+    return 512 * count;
+}
+
+static unsigned block_fault(size_t kind, const uint8_t *block, size_t place, size_t count)
+{
+    uint32_t s1, s2, used = two(block + 6);
+    sums(block, &s1, &s2);
+    if (two(block + 508) != s1 || two(block + 510) != s2)
+        return 21;
+    if (two(block) != kind)
+        return 22;
+    if (two(block + 2) != place || two(block + 4) != count)
+        return 23;
+    if (used > 496 || (place + 1 < count && used != 496) || (count > 1 && used == 0))
+        return 24;
+    for (size_t i = 8; i < 508; i++)
+        if ((i < 12 || i >= 12 + used) && block[i] != 0)
+            return 24;
+    return 0;
+}
+
+int model_fits(size_t kind, size_t size)
+{
+    return kind == 1 ? size == 8288 : size % (kind == 2 ? 8 : 32) == 0 && size <= 32768;
+}
+
+unsigned model_file(size_t kind, const uint8_t *file, size_t length, size_t *place, uint8_t *content, size_t *size)
+{
+    *place = 0;
+    *size = 0;
+    if (kind < 1 || kind > 3)
+        return 22;
+    if (length == 0 || length % 512 != 0 || length > 34304)
+        return 20;
+    for (size_t i = 0; i < length / 512; i++) {
+        const uint8_t *block = file + 512 * i;
+        unsigned number = block_fault(kind, block, i, length / 512);
+        if (number != 0) {
+            *place = i;
+            return number;
+        }
+        memcpy(content + *size, block + 12, two(block + 6));
+        *size += two(block + 6);
+    }
+    return model_fits(kind, *size) ? 0 : 25;
+}
+
+/* Bit b of word w is location b of chip b xor w. */
+static size_t cell(size_t w, size_t b) { return 256 * (b ^ w) + b; }
+
+void model_picture(const uint8_t *memory, const uint8_t *registers, uint8_t *content)
+{
+    for (size_t w = 0; w < 256; w++)
+        for (size_t b = 0; b < 256; b++)
+            set(content, 256 * w + b, bit(memory, cell(w, b)));
+    memcpy(content + 8192, registers, 96);
+}
+
+void model_memory(const uint8_t *content, uint8_t *memory)
+{
+    for (size_t w = 0; w < 256; w++)
+        for (size_t b = 0; b < 256; b++)
+            set(memory, cell(w, b), bit(content, 256 * w + b));
+}

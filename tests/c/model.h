@@ -1,0 +1,30 @@
+/* What include/staran.h promises, worked out by the plainest means, for the checks of lengths.c to hold the library to. */
+#ifndef MODEL_H
+#define MODEL_H
+
+#include <stddef.h>
+#include <stdint.h>
+
+/* The item passed, bit by bit; 0 where the code is none of the 37, and then zeros. */
+int model_pass(const uint8_t item[32], uint8_t flip, uint8_t code, uint8_t passed[32]);
+
+/* The number of a list's refusal, or 0 and the list: `lead` is 1 for a sum, 2 for a difference. */
+unsigned model_list(int lead, uint32_t a, uint32_t b, uint32_t s, uint32_t n, uint8_t *list, size_t list_length);
+
+/* The blocks of a content, and their length. */
+size_t model_blocks(size_t kind, const uint8_t *content, size_t content_length, uint8_t *file);
+
+/* Puts the sums of a block right. */
+void model_seal(uint8_t *block);
+
+/* The number and place of a file's refusal, before its target is looked at; or 0, the content and its size. */
+unsigned model_file(size_t kind, const uint8_t *file, size_t length, size_t *place, uint8_t *content, size_t *size);
+
+/* Does a content of this size fit its kind? */
+int model_fits(size_t kind, size_t size);
+
+/* A picture's content from memory and registers, and the memory from a content. */
+void model_picture(const uint8_t *memory, const uint8_t *registers, uint8_t *content);
+void model_memory(const uint8_t *content, uint8_t *memory);
+
+#endif

@@ -1,0 +1,293 @@
+/* Replays outside cases through the library: tests/outside/cases/PROTOCOL.md has the form of the cases and of the answers. */
+#include "replay.h"
+
+#include "lent.h"
+#include "staran.h"
+
+#include <stdio.h>
+#include <stdlib.h>
+#include <string.h>
+
+enum { RECORD = 800, WORDS = 11 };
+
+/* A case, taken apart. */
+typedef struct {
+    uint8_t record[RECORD];
+    size_t length;
+    uint32_t p[4];
+} outside_case;
+
+static uint32_t two(const uint8_t *b) { return b[0] + 256u * b[1]; }
+
+static uint32_t four(const uint8_t *b) { return two(b) + 65536u * two(b + 2); }
+
+static void put_two(uint8_t *b, uint32_t n)
+{
+    b[0] = (uint8_t)n;
+    b[1] = (uint8_t)(n >> 8);
+}
+
+/* Fill: one generator runs on through all six buffers. */
+static void fill(const outside_case *c, int end)
+{
+    static uint8_t bytes[65536];
+    uint32_t x = four(c->record + 4);
+    for (int k = 0; k < 6; k++) {
+        size_t length = two(c->record + 8 + 2 * k);
+        for (size_t i = 0; i < length; i++) {
+            bytes[i] = 0;
+            if (c->record[2] >> k & 1)
+                continue;
+            x ^= x << 13;
+            x ^= x >> 17;
+            x ^= x << 5;
+            bytes[i] = (uint8_t)x;
+        }
+        lend_bytes(k, bytes, length, end);
+    }
+}
+
+/* Shape: one instruction made good. */
+static void shape_one(uint8_t *r, int shape)
+{
+    uint8_t b[8] = {0};
+    b[0] = shape == 1 ? r[0] % 6 : r[2] < 248 ? r[0] % 4 : 4 + r[0] % 2;
+    int stores = b[0] == 2 || b[0] == 3, resolves = b[0] == 5;
+    b[1] = resolves ? 0 : stores ? 1 + r[1] % 4 : r[1] % 5;
+    if (stores || (!resolves && b[1] == 0)) {
+        b[2] = 1;
+        b[3] = r[3];
+        b[4] = r[4];
+    }
+    b[5] = resolves ? 0 : r[5];
+    if (!stores && !resolves) {
+        int q = r[6] % 9;
+        b[6] = q == 0 ? 0 : (uint8_t)(16 * q + r[6] / 16 % q);
+    }
+    if (b[0] == 0)
+        b[7] = (uint8_t)(16 * (r[7] / 16 % 5) + r[7] % 16);
+    memcpy(r, b, 8);
+}
+
+static void seal(uint8_t *block)
+{
+    uint32_t s1 = 0, s2 = 0;
+    for (uint32_t i = 0; i < 508; i++) {
+        s1 = (s1 + block[i]) % 65535;
+        s2 = (s2 + (508 - i) * block[i]) % 65535;
+    }
+    put_two(block + 508, s1);
+    put_two(block + 510, s2);
+}
+
+/* Format: every whole block of the file made good. */
+static void format(const outside_case *c)
+{
+    size_t count = buffers[FILE_BYTES].length / 512;
+    for (size_t n = 0; n < count; n++) {
+        uint8_t *block = buffers[FILE_BYTES].bytes + 512 * n;
+        uint32_t used = n + 1 == count ? c->p[2] : 496;
+        put_two(block, c->p[1]);
+        put_two(block + 2, (uint32_t)n);
+        put_two(block + 4, (uint32_t)count);
+        put_two(block + 6, used);
+        memset(block + 8, 0, 4);
+        for (uint32_t i = used; i < 496; i++)
+            block[12 + i] = 0;
+        seal(block);
+    }
+}
+
+/* Patches, in order. Answers 0 where one does not fit: the case is then no case of the protocol. */
+static int patch(const outside_case *c)
+{
+    size_t at = 36;
+    for (int i = 0; i < c->record[3]; i++) {
+        if (at + 4 > c->length)
+            return 0;
+        const uint8_t *p = c->record + at;
+        size_t offset = two(p + 1), n = p[3];
+        at += 4 + n;
+        if (at > c->length || p[0] > 6)
+            return 0;
+        if (p[0] == 6) {
+            if (512 * offset + 512 > buffers[FILE_BYTES].length)
+                return 0;
+            seal(buffers[FILE_BYTES].bytes + 512 * offset);
+        } else {
+            if (offset + n > buffers[p[0]].length)
+                return 0;
+            memcpy(buffers[p[0]].bytes + offset, p + 4, n);
+        }
+    }
+    return at == c->length;
+}
+
+static int make_buffers(const outside_case *c, int end)
+{
+    fill(c, end);
+    if (c->record[1] != 0)
+        for (size_t i = 0; i + 8 <= buffers[LIST].length; i += 8)
+            shape_one(buffers[LIST].bytes + i, c->record[1]);
+    if ((c->record[0] == 6 || c->record[0] == 7) && c->p[3] == 1)
+        format(c);
+    if (!patch(c))
+        return 0;
+    for (int k = 0; k < 6; k++)
+        memcpy(buffers[k].expected, buffers[k].bytes, buffers[k].length);
+    return 1;
+}
+
+/* A buffer and its length, as two arguments. */
+#define WHOLE(k) buffers[k].bytes, buffers[k].length
+
+/* The entry that the case names. Its answer is put to words 0 to 4, and bit k of what is given back is set where buffer k was lent for writing. */
+static unsigned call(const outside_case *c, int end, uint32_t words[WORDS])
+{
+    const uint32_t *p = c->p;
+    uint32_t *a;
+    int kind = c->record[0];
+    switch (kind) {
+    case 0:
+        a = lend_answer(5, end);
+        staran_run(WHOLE(MEMORY), WHOLE(REGISTERS), WHOLE(LIST), WHOLE(ITEMS), WHOLE(OUT), a);
+        memcpy(words, a, 20);
+        return 1u << MEMORY | 1u << REGISTERS | 1u << OUT;
+    case 1:
+        a = lend_answer(5, end);
+        staran_step(WHOLE(MEMORY), (staran_registers *)(void *)buffers[REGISTERS].bytes, WHOLE(ITEMS), WHOLE(OUT), WHOLE(LIST), a);
+        memcpy(words, a, 20);
+        return 1u << MEMORY | 1u << REGISTERS | 1u << OUT;
+    case 2:
+    case 3:
+        a = lend_answer(1, end);
+        (kind == 2 ? staran_pass : staran_wired_pass)(buffers[ITEMS].bytes, (uint8_t)p[0], (uint8_t)p[1], buffers[OUT].bytes, a);
+        words[0] = a[0];
+        return 1u << OUT;
+    case 4:
+    case 5:
+    case 10:
+    case 11:
+        a = lend_answer(2, end);
+        (kind % 2 == 0 ? staran_sum_list : staran_difference_list)(p[0], p[1], p[2], p[3], WHOLE(LIST), a);
+        words[0] = a[0];
+        words[2] = a[1];
+        return 1u << LIST;
+    case 6:
+        a = lend_answer(3, end);
+        staran_read_content(p[0], WHOLE(FILE_BYTES), WHOLE(LIST), a);
+        memcpy(words, a, 12);
+        return 1u << LIST;
+    case 7:
+        a = lend_answer(3, end);
+        staran_read_picture(STARAN_PICTURE, WHOLE(FILE_BYTES), WHOLE(MEMORY), WHOLE(REGISTERS), a);
+        memcpy(words, a, 12);
+        return 1u << MEMORY | 1u << REGISTERS;
+    case 8:
+        a = lend_answer(3, end);
+        staran_write_content(p[0], WHOLE(LIST), WHOLE(FILE_BYTES), a);
+        memcpy(words, a, 12);
+        return 1u << FILE_BYTES;
+    default:
+        a = lend_answer(3, end);
+        staran_write_picture(STARAN_PICTURE, WHOLE(MEMORY), WHOLE(REGISTERS), WHOLE(FILE_BYTES), a);
+        memcpy(words, a, 12);
+        return 1u << FILE_BYTES;
+    }
+}
+
+/* The name of a buffer that the call should have left alone and did not, or around which it wrote; NULL where there is none. */
+static const char *disturbed(unsigned lent_for_writing)
+{
+    for (int k = 0; k < BUFFERS; k++) {
+        int written = k == ANSWER || (lent_for_writing >> k & 1);
+        if (!guarded(k) || (!written && !as_expected(k)))
+            return buffers[k].name;
+    }
+    return NULL;
+}
+
+/* A list that was built is run: the bytes that were counted. */
+static const char *run_built(int end, uint32_t words[WORDS])
+{
+    size_t count = words[2];
+    if (count > buffers[LIST].length)
+        return "count";
+    memcpy(buffers[LIST].expected, buffers[LIST].bytes, buffers[LIST].length);
+    uint32_t *a = lend_answer(5, end);
+    staran_run(WHOLE(MEMORY), WHOLE(REGISTERS), buffers[LIST].bytes, count, WHOLE(ITEMS), WHOLE(OUT), a);
+    memcpy(words, a, 20);
+    return disturbed(1u << MEMORY | 1u << REGISTERS | 1u << OUT);
+}
+
+static uint32_t digest(const lent *b)
+{
+    uint32_t d1 = 1, d2 = 1;
+    for (size_t i = 0; i < b->length; i++) {
+        d1 = (d1 * 251 + b->bytes[i]) % 65521;
+        d2 = (d2 * 263 + b->bytes[i]) % 65519;
+    }
+    return 65536 * d1 + d2;
+}
+
+/* The case with its buffers at one end of their rooms. Answers NULL, or what went wrong beside the answer. */
+static const char *run_case(const outside_case *c, int end, uint32_t words[WORDS])
+{
+    memset(words, 0, 4 * WORDS);
+    if (!make_buffers(c, end))
+        return "the case is not one of the protocol";
+    const char *wrong = disturbed(call(c, end, words));
+    if (wrong == NULL && c->record[0] >= 10) {
+        if (words[0] == 0)
+            wrong = run_built(end, words);
+        else
+            words[2] = 0;
+    }
+    for (int k = 0; k < 6; k++)
+        words[5 + k] = digest(&buffers[k]);
+    return wrong;
+}
+
+static int digit(int c) { return c >= '0' && c <= '9' ? c - '0' : c >= 'a' && c <= 'f' ? c - 'a' + 10 : -1; }
+
+/* The next case; 0 at the end of the input. */
+static int read_case(outside_case *c)
+{
+    char line[2 * RECORD + 2];
+    memset(c, 0, sizeof *c);
+    if (fgets(line, sizeof line, stdin) == NULL)
+        return 0;
+    for (; digit(line[2 * c->length]) >= 0 && digit(line[2 * c->length + 1]) >= 0; c->length++)
+        c->record[c->length] = (uint8_t)(16 * digit(line[2 * c->length]) + digit(line[2 * c->length + 1]));
+    if (line[2 * c->length] != '\n' || c->length < 36 || c->record[0] > 11) {
+        fputs("driver: a line that is no case\n", stderr);
+        exit(2);
+    }
+    for (int i = 0; i < 4; i++)
+        c->p[i] = four(c->record + 20 + 4 * i);
+    return 1;
+}
+
+int replay(void)
+{
+    outside_case c;
+    int failed = 0;
+    for (unsigned long number = 1; read_case(&c); number++) {
+        uint32_t words[ENDS][WORDS];
+        const char *wrong = NULL;
+        snprintf(calling, sizeof calling, "case %lu, of kind %d", number, c.record[0]);
+        for (int end = 0; end < ENDS && wrong == NULL; end++)
+            wrong = run_case(&c, end, words[end]);
+        if (wrong == NULL && memcmp(words[FIRST], words[LAST], sizeof words[FIRST]) != 0)
+            wrong = "another answer at another place";
+        if (wrong != NULL) {
+            /* such a line agrees with no stored answer, so that the comparison counts it */
+            printf("FAIL %s: %s\n", calling, wrong);
+            failed = 1;
+            continue;
+        }
+        for (int i = 0; i < WORDS; i++)
+            printf("%08x%c", (unsigned)words[FIRST][i], i + 1 < WORDS ? ' ' : '\n');
+    }
+    return failed;
+}
