@@ -3,9 +3,9 @@ use crate::writing;
 ghost use mathlib.Core.Path.{_≡_};
 ghost use Prim.Native.Nat.{_+_, _*_, _≤_};
 ghost use lib.ListN.{length};
+ghost use Rattle.bits.specs.Steps.{putAt};
 ghost use Rattle.lists.specs.Lists.{encoded};
 ghost use Rattle.lists.specs.Fields.{bitRound, bitRounds, sumList, differenceList, listLength, Fields};
-ghost use Rattle.lists.specs.Steps.{putAt};
 
 // Sources.
 const X: u8 = 2;

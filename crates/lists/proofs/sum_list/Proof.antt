@@ -3,10 +3,10 @@ use mathlib.Core.Path.{sym, _∙_}
 use borrow.Author.Needs.{needs}
 use denote.Ref.{now}
 use lib.ListN.{length}
+use Rattle.bits.proofs.Puts.{put-front}
 use Rattle.lists.specs.Lists.{encoded}
 use Rattle.lists.specs.Fields.{sumList, fieldsFault, sumBuilt}
 use Rattle.lists.proofs.ListLaws.{sum-length}
-use Rattle.lists.proofs.PutLaws.{put-front}
 use Rattle.lists.proofs.Refusals.{sound, built-refused, built-done}
 use Rattle.lists.proofs.sum_list.Statement.{statement}
 use Rattle.lists.proofs.sum_list.Tie as tie

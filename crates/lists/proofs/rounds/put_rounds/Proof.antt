@@ -6,11 +6,12 @@ use native.Mathlib.Omega.{arith}
 use borrow.Author.Needs.{needs}
 use denote.Ref.{now}
 use lib.ListN.{length}
+use Rattle.bits.specs.Steps.{putAt}
+use Rattle.bits.proofs.Puts.{put-nil}
 use Rattle.lists.specs.Lists.{encoded, rounds}
 use Rattle.lists.specs.Fields.{bitRound, bitRounds}
-use Rattle.lists.specs.Steps.{putAt}
 use Rattle.lists.proofs.ListLaws.{length-bits}
-use Rattle.lists.proofs.PutLaws.{rounds-more, put-nil}
+use Rattle.lists.proofs.PutLaws.{rounds-more}
 use Rattle.lists.proofs.rounds.put_rounds.Statement.{statement}
 use Rattle.lists.proofs.rounds.put_rounds.Tie as tie
 
