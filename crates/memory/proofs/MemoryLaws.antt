@@ -8,17 +8,13 @@ use lib.Bits.{xor-lt}
 use lib.Dec.{T, eqb, eqb→eq}
 use lib.ListN.{length, replicate}
 use Rattle.bits.specs.Bits.{bitOf, byteOf}
-use Rattle.bits.proofs.Binary.{Bit}
+use Rattle.bits.proofs.Binary.{Bit, cond-bit}
 use Rattle.bits.proofs.Items.{length-listed, bitOf-bit, bitOf-pack, pack-ext}
 use Rattle.bits.proofs.Tests.{all, all-at}
 use Rattle.memory.specs.Access.{localOf, lineOf, storedBit}
 use Rattle.memory.specs.Memory.{cell, stored, every}
 
 -- ---- the stored memory, by its bits
-
-cond-bit : (t : Bool) {a b : ℕ} → Bit a → Bit b → Bit (cond t a b)
-cond-bit true p q = p
-cond-bit false p q = q
 
 module _ (mem : List ℕ) (m g : ℕ) (mask f : ℕ → ℕ) where
   pub length-stored : length (stored mem m g mask f) ≡ 8192

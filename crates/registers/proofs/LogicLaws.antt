@@ -9,7 +9,7 @@ use lib.Dec.{T, eqb, eqb→eq}
 use lib.ListN.{getD}
 use Rattle.bits.specs.Bits.{digit, bitOf, byteOf}
 use Rattle.bits.specs.Steps.{mixed}
-use Rattle.bits.proofs.Binary.{Bit, off, on, digit-bit}
+use Rattle.bits.proofs.Binary.{Bit, off, on, digit-bit, cond-bit}
 use Rattle.bits.proofs.Digits.{digit-mod, digit-mixed}
 use Rattle.bits.proofs.Items.{bitOf-bit, bitOf-at, bitOf-pack, byteOf-is}
 use Rattle.bits.proofs.Tests.{all, all-at}
@@ -100,10 +100,6 @@ module _ (t : ℕ) (x y l : List ℕ) (i v : ℕ) (byte : v < 256) where
       (λ j h. e j h ∙ sym (ap₂ (λ (p q : ℕ). newY t p q) (bitOf-at y i j h) (bitOf-at l i j h)))
 
 -- ---- what a logic instruction makes of each line
-
-cond-bit : (b : Bool) {p q : ℕ} → Bit p → Bit q → Bit (cond b p q)
-cond-bit true hp hq = hp
-cond-bit false hp hq = hq
 
 pub newX-bit : (t x y f : ℕ) → Bit x → Bit (newX t x y f)
 unfolding newX
