@@ -3,7 +3,7 @@ pub mod rows;
 pub mod searches;
 
 ghost use mathlib.Core.Path.{_≡_};
-ghost use Prim.Native.Nat.{_+_, _*_, _/_, _<_, _≤_};
+ghost use Prim.Native.Nat.{_+_, _*_, _<_, _≤_};
 ghost use lib.ListN.{length};
 ghost use Rattle.judge.specs.Judge.{instructionAt, unfit, lengthFault, refusal, judgedList, judged, judgedStep};
 
