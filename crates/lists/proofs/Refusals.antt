@@ -2,13 +2,15 @@
 use mathlib.Core.Path.{_≡_, refl, sym, ap, ap₂, _∙_}
 use mathlib.Core.Bool.{Bool, true, false, not, _&&_, _||_, true≢false}
 use mathlib.Core.Logic.{inl, inr, _↔_}
-use mathlib.Core.List.{List, _++_}
+use mathlib.Core.List.{List}
 use Prim.Native.Nat.{ℕ, _+_, _<_, _≤_}
 use native.Mathlib.Decide.{decLe, ℕ-discrete}
 use native.Mathlib.Omega.{arith}
 use lib.Dec.{eqb, ltb}
-use lib.ListN.{length, drop}
+use lib.ListN.{length}
 use borrow.Author.Tests.{eq-eqb, ne-eqb, ltb-false, lt-ltb, le-ltb}
+use Rattle.bits.specs.Steps.{putAt}
+use Rattle.bits.proofs.Puts.{put-front}
 use Rattle.judge.proofs.RowLaws.{FirstRow, none-numbered, numbered-none, numbered-first, first-numbered, or-none}
 use Rattle.lists.specs.Fields.{beyond, crosses, Clear, Fields, listLength, fieldRows, fieldsFault, Left, builtWith}
 
@@ -91,17 +93,17 @@ module _ (lead a b s n have : ℕ) where
         ),
       )
 
--- ---- what is left
+-- ---- what is left: by the number, for a list of so many leading instructions
 
-pub built-refused : (fault : ℕ) (bytes buffer : List ℕ) (number : ℕ) → number ≡ fault → (number ≡ 0 → ⊥)
-    → _≡_ {A = Left} (record { answer = record { number = number; count = 0 }; list = buffer }) (builtWith fault bytes buffer)
-built-refused fault bytes buffer number e h =
-    ap (λ (x : ℕ). record { answer = record { number = x; count = 0 }; list = buffer }) e
-    ∙ sym (simp (ne-eqb fault 0 (λ z. h (e ∙ z))))
+module _ (lead a b s n : ℕ) (bytes buffer : List ℕ) (number : ℕ) (e : number ≡ fieldsFault lead a b s n (length buffer)) where
+  pub built-refused : (number ≡ 0 → ⊥)
+      → _≡_ {A = Left} (record { answer = record { number = number; count = 0 }; list = buffer }) (builtWith (fieldsFault lead a b s n (length buffer)) bytes buffer)
+  built-refused h =
+      ap (λ (x : ℕ). record { answer = record { number = x; count = 0 }; list = buffer }) e
+      ∙ sym (simp (ne-eqb (fieldsFault lead a b s n (length buffer)) 0 (λ z. h (e ∙ z))))
 
-pub built-done : (fault : ℕ) (bytes buffer : List ℕ) (number count : ℕ) (l : List ℕ) → number ≡ fault → number ≡ 0 → length bytes ≡ count
-    → l ≡ bytes ++ drop (length bytes) buffer
-    → _≡_ {A = Left} (record { answer = record { number = 0; count = count }; list = l }) (builtWith fault bytes buffer)
-built-done fault bytes buffer number count l e z c h =
-    ap₂ (λ (x : ℕ) (y : List ℕ). record { answer = record { number = 0; count = x }; list = y }) (sym c) h
-    ∙ sym (simp (eq-eqb fault 0 (sym e ∙ z)))
+  pub built-done : (count : ℕ) (l : List ℕ) → number ≡ 0 → length bytes ≡ listLength lead n → count ≡ listLength lead n → l ≡ putAt 0 bytes buffer
+      → _≡_ {A = Left} (record { answer = record { number = 0; count = count }; list = l }) (builtWith (fieldsFault lead a b s n (length buffer)) bytes buffer)
+  built-done count l z h c p =
+      ap₂ (λ (x : ℕ) (y : List ℕ). record { answer = record { number = 0; count = x }; list = y }) (c ∙ sym h) (p ∙ put-front bytes buffer)
+      ∙ sym (simp (eq-eqb (fieldsFault lead a b s n (length buffer)) 0 (sym e ∙ z)))

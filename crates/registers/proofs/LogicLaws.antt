@@ -34,6 +34,11 @@ mixed-of a b m v j p q s e ha hb hm =
     ∙ ap (λ (x : ℕ). cond (eqb x 1) (digit b j) (digit a j)) hm
     ∙ ap₂ (λ (x y : ℕ). cond (eqb s 1) x y) hb ha
 
+-- byte v, mixed of two digits that were spread over their bytes: digit k of t where m has a 0, digit l of u where it has a 1
+pub mixed-spread : (t k u l : ℕ) {a b v : ℕ} (m j : ℕ) → v ≡ mixed a b m → a ≡ 255 * digit t k → b ≡ 255 * digit u l → j < 8
+    → digit v j ≡ cond (eqb (digit m j) 1) (digit u l) (digit t k)
+mixed-spread t k u l {a} {b} {v} m j e ha hb h = mixed-of a b m v j _ _ _ e (spread-at a t k j ha h) (spread-at b u l j hb h) refl
+
 -- ---- the function's four digits, picked by the old bit and the passed one
 
 pub function-picked : (t : ℕ) {r f : ℕ} → Bit r → Bit f
