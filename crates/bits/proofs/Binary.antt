@@ -1,5 +1,6 @@
 -- A number that is 0 or 1, by its two cases. Assumes nothing.
 use mathlib.Core.Path.{_≡_, refl}
+use mathlib.Core.Bool.{Bool, true, false, cond}
 use Prim.Native.Nat.{ℕ, zero, suc, _-_, _/_, _%_, _^_, _<_, min}
 use native.Mathlib.Omega.{arith}
 use lib.Bits.{differ}
@@ -23,6 +24,11 @@ low-bit x = bit (x % 2) (omega arith)
 
 pub digit-bit : (x j : ℕ) → Bit (x / 2 ^ j % 2)
 digit-bit x j = low-bit (x / 2 ^ j)
+
+-- one of two bits
+pub cond-bit : (t : Bool) {x y : ℕ} → Bit x → Bit y → Bit (cond t x y)
+cond-bit true p q = p
+cond-bit false p q = q
 
 pub differ-bit : {x y : ℕ} → Bit x → Bit y → Bit (differ x y)
 differ-bit off off = off

@@ -4,6 +4,7 @@ pub mod Xor
 pub mod Digits
 pub mod Items
 pub mod Writes
+pub mod Puts
 pub mod Tests
 pub mod FlipLaws
 pub mod Search

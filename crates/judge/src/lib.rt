@@ -1,9 +1,9 @@
 // The judge: the number that a run gives back, with its place and its counts, from the lengths and the list alone. Document 01, Numbers given back.
-pub mod lists;
 pub mod rows;
+pub mod searches;
 
 ghost use mathlib.Core.Path.{_≡_};
-ghost use Prim.Native.Nat.{_+_, _*_, _/_, _<_, _≤_};
+ghost use Prim.Native.Nat.{_+_, _*_, _<_, _≤_};
 ghost use lib.ListN.{length};
 ghost use Rattle.judge.specs.Judge.{instructionAt, unfit, lengthFault, refusal, judgedList, judged, judgedStep};
 
@@ -88,15 +88,15 @@ fn judge_list(list: &[u8], items: usize, out: usize) -> Answer
     ensures { λ r. ⌜ r ≡ judgedList (now (list .entry)) items out ⌝ }
 {
     let n = list.len() / 8;
-    let bad = lists::first_fault(list);
+    let bad = searches::first_fault(list);
     if bad < n {
         return refused(rows::fault(decode(list, bad)), bad);
     }
-    let item = lists::shortage(false, list, items);
+    let item = searches::shortage(false, list, items);
     if item.place < n {
         return refused(12, item.place);
     }
-    let room = lists::shortage(true, list, out);
+    let room = searches::shortage(true, list, out);
     if room.place < n {
         return refused(13, room.place);
     }

@@ -1,6 +1,6 @@
 -- What the sum and the difference list leave on the one-word machine: one invariant serves both, with B's bits turned for a difference. Assumes nothing.
 use mathlib.Core.Path.{_≡_, refl, sym, ap, ap₂, subst, _∙_}
-use mathlib.Core.Bool.{Bool, true, false, cond}
+use mathlib.Core.Bool.{Bool, cond}
 use mathlib.Core.Logic.{inl, inr}
 use Prim.Native.Nat.{ℕ, suc, _+_, _-_, _*_, _%_, _^_, _<_, _≤_}
 use native.Mathlib.Nat.{pow-suc, zero-div}
@@ -8,7 +8,7 @@ use native.Mathlib.Omega.{arith}
 use lib.Dec.{T, eqb, eqb→eq}
 use borrow.Author.Tests.{eq-eqb, ne-eqb}
 use Rattle.bits.specs.Bits.{digitsOf}
-use Rattle.bits.proofs.Binary.{Bit, off, on, bit-lt}
+use Rattle.bits.proofs.Binary.{Bit, off, on, bit-lt, cond-bit}
 use Rattle.bits.proofs.Digits.{digitsOf-ext}
 use Rattle.bits.proofs.Tests.{all, all-at}
 use Rattle.registers.specs.Logic.{functionBit, newX, newY}
@@ -105,13 +105,6 @@ put-same w g u b e = ap (λ (t : Bool). cond t u (w b)) (eq-eqb b g e)
 put-other : (w : ℕ → ℕ) (g u b : ℕ) → (b ≡ g → ⊥) → putBit w g u b ≡ w b
 put-other w g u b n = ap (λ (t : Bool). cond t u (w b)) (ne-eqb b g n)
 
-put-bit : (w : ℕ → ℕ) (g u : ℕ) → Bit u → ((i : ℕ) → Bit (w i)) → (b : ℕ) → Bit (putBit w g u b)
-put-bit w g u h low b = go (eqb b g)
-  where
-    go : (t : Bool) → Bit (cond t u (w b))
-    go true = h
-    go false = low b
-
 module _ (t : ℕ) (u : ℕ → ℕ) (adds : (y a b : ℕ) → Bit y → Bit a → Bit b → Adds t u y a b) (a b s n c : ℕ) (v₀ : Word)
     (clearA : Clear s a n) (clearB : Clear s b n) where
   -- a bit not yet reached of a field that S does not cross is still the old one
@@ -129,7 +122,7 @@ module _ (t : ℕ) (u : ℕ → ℕ) (adds : (y a b : ℕ) → Bit y → Bit a �
         keepsM = i .keepsM;
         zeroX = hx;
         bitY = hy;
-        low = put-bit (v .bits) (s + k) g hg (i .low);
+        low = λ j. cond-bit (eqb j (s + k)) hg (i .low j);
         other = λ j w. put-other (v .bits) (s + k) g j (λ q. w (omega arith) (omega arith)) ∙ i .other j (λ p q. w p (omega arith));
         total =
             let p : 2 ^ suc k ≡ 2 ^ k * 2 = pow-suc 2 k in

@@ -9,6 +9,8 @@ use native.Mathlib.Omega.{arith}
 use lib.Dec.{eqb, ltb}
 use lib.ListN.{length, drop}
 use borrow.Author.Tests.{eqb-true, eq-eqb, ne-eqb, ltb-false, lt-ltb, le-ltb}
+use Rattle.bits.specs.Steps.{putAt}
+use Rattle.bits.proofs.Puts.{put-front}
 use Rattle.judge.proofs.RowLaws.{FirstRow, none-numbered, numbered-none, numbered-first, first-numbered, or-none}
 use Rattle.lists.specs.Fields.{beyond, crosses, Clear, Fields, listLength, fieldRows, fieldsFault, Left, builtWith}
 
@@ -91,7 +93,7 @@ module _ (lead a b s n have : ℕ) where
         ),
       )
 
--- ---- what is left
+-- ---- what is left: by the number, for a list of so many leading instructions
 
 -- the number is that of the fields
 pub built-number : (fault : ℕ) (bytes buffer : List ℕ) → builtWith fault bytes buffer .answer .number ≡ fault
@@ -103,18 +105,18 @@ built-number fault bytes buffer = go (eqb fault 0) refl
     go true e = sym (eqb-true fault 0 e)
     go false e = refl
 
-pub built-refused : (fault : ℕ) (bytes buffer : List ℕ) (number : ℕ) → number ≡ fault → (number ≡ 0 → ⊥)
-    → _≡_ {A = Left} (record { answer = record { number = number; count = 0 }; list = buffer }) (builtWith fault bytes buffer)
-built-refused fault bytes buffer number e h =
-    ap (λ (x : ℕ). record { answer = record { number = x; count = 0 }; list = buffer }) e
-    ∙ sym (simp (ne-eqb fault 0 (λ z. h (e ∙ z))))
+module _ (lead a b s n : ℕ) (bytes buffer : List ℕ) (number : ℕ) (e : number ≡ fieldsFault lead a b s n (length buffer)) where
+  pub built-refused : (number ≡ 0 → ⊥)
+      → _≡_ {A = Left} (record { answer = record { number = number; count = 0 }; list = buffer }) (builtWith (fieldsFault lead a b s n (length buffer)) bytes buffer)
+  built-refused h =
+      ap (λ (x : ℕ). record { answer = record { number = x; count = 0 }; list = buffer }) e
+      ∙ sym (simp (ne-eqb (fieldsFault lead a b s n (length buffer)) 0 (λ z. h (e ∙ z))))
 
-pub built-done : (fault : ℕ) (bytes buffer : List ℕ) (number count : ℕ) (l : List ℕ) → number ≡ fault → number ≡ 0 → length bytes ≡ count
-    → l ≡ bytes ++ drop (length bytes) buffer
-    → _≡_ {A = Left} (record { answer = record { number = 0; count = count }; list = l }) (builtWith fault bytes buffer)
-built-done fault bytes buffer number count l e z c h =
-    ap₂ (λ (x : ℕ) (y : List ℕ). record { answer = record { number = 0; count = x }; list = y }) (sym c) h
-    ∙ sym (simp (eq-eqb fault 0 (sym e ∙ z)))
+  pub built-done : (count : ℕ) (l : List ℕ) → number ≡ 0 → length bytes ≡ listLength lead n → count ≡ listLength lead n → l ≡ putAt 0 bytes buffer
+      → _≡_ {A = Left} (record { answer = record { number = 0; count = count }; list = l }) (builtWith (fieldsFault lead a b s n (length buffer)) bytes buffer)
+  built-done count l z h c p =
+      ap₂ (λ (x : ℕ) (y : List ℕ). record { answer = record { number = 0; count = x }; list = y }) (c ∙ sym h) (p ∙ put-front bytes buffer)
+      ∙ sym (simp (eq-eqb (fieldsFault lead a b s n (length buffer)) 0 (sym e ∙ z)))
 
 -- ---- a builder's answer, both ways
 
@@ -135,9 +137,9 @@ module _ (lead a b s n : ℕ) (bytes buffer : List ℕ) where
   pub built-count : builtWith fault bytes buffer .answer .number ≡ 0 → builtWith fault bytes buffer .answer .count ≡ length bytes
   built-count z =
       let e = sym (built-number fault bytes buffer) ∙ z in
-      sym (ap (λ (l : Left). l .answer .count) (built-done fault bytes buffer fault (length bytes) (bytes ++ drop (length bytes) buffer) refl e refl refl))
+      simp (eq-eqb fault 0 e)
 
   -- refused: the buffer as it was, and the count 0
   pub built-unwritten : (builtWith fault bytes buffer .answer .number ≡ 0 → ⊥)
       → builtWith fault bytes buffer ≡ record { answer = record { number = fault; count = 0 }; list = buffer }
-  built-unwritten u = sym (built-refused fault bytes buffer fault refl (λ z. u (built-number fault bytes buffer ∙ z)))
+  built-unwritten u = sym (built-refused lead a b s n bytes buffer fault refl (λ z. u (built-number fault bytes buffer ∙ z)))

@@ -2,4 +2,3 @@
 pub mod Lists
 pub mod Fields
 pub mod Word
-pub mod Steps

@@ -4,9 +4,7 @@ pub mod writing;
 
 use judge::rows::number_or;
 ghost use mathlib.Core.Path.{_≡_};
-ghost use mathlib.Core.Bool.{_||_, _&&_, not};
-ghost use Prim.Native.Nat.{_+_, _*_, _<_, _≤_};
-ghost use lib.ListN.{length};
+ghost use Prim.Native.Nat.{_<_};
 ghost use Rattle.lists.specs.Fields.{beyond, crosses, listLength, fieldsFault, sumBuilt, differenceBuilt};
 
 // What a builder gives back: 0 and the count of the bytes written, or the number of a refusal and 0.

@@ -3,9 +3,9 @@ use crate::writing;
 ghost use mathlib.Core.Path.{_≡_};
 ghost use Prim.Native.Nat.{_+_, _*_, _≤_};
 ghost use lib.ListN.{length};
+ghost use Rattle.bits.specs.Steps.{putAt};
 ghost use Rattle.lists.specs.Lists.{encoded};
 ghost use Rattle.lists.specs.Fields.{bitRound, bitRounds, sumList, differenceList, listLength, Fields};
-ghost use Rattle.lists.specs.Steps.{putAt};
 
 // Sources.
 const X: u8 = 2;
@@ -37,21 +37,15 @@ fn put_round(list: &mut [u8], at: usize, byte7: u8, a: u8, b: u8, s: u8)
     writing::put_logic_from(list, at + 4, X, MOVE);
 }
 
-fn wide(x: u8) -> usize
-    ensures { λ r. ⌜ r ≡ x ⌝ }
-{
-    x as usize
-}
-
 // Those of all bits, lowest first.
-fn put_rounds(list: &mut [u8], at: usize, byte7: u8, a: u8, b: u8, s: u8, n: u8)
+fn put_rounds(list: &mut [u8], at: usize, byte7: u8, a: u32, b: u32, s: u32, n: u32)
     requires { ⌜ (8 * (at + 5 * n) ≤ length (now list)) × (a + n ≤ 256) × (b + n ≤ 256) × (s + n ≤ 256) ⌝ }
     ensures { λ r. ⌜ now (list .exit) ≡ putAt (8 * at) (encoded (bitRounds byte7 a b s n)) (now (list .entry)) ⌝ }
 {
-    let mut k: u8 = 0;
+    let mut k: u32 = 0;
     while k < n {
-        let i = at + 5 * wide(k);
-        put_round(list, i, byte7, a + k, b + k, s + k);
+        let i = at + 5 * k as usize;
+        put_round(list, i, byte7, (a + k) as u8, (b + k) as u8, (s + k) as u8);
         k += 1;
     }
 }
@@ -62,7 +56,7 @@ pub fn put_sum(list: &mut [u8], a: u32, b: u32, s: u32, n: u32)
     ensures { λ r. ⌜ now (list .exit) ≡ putAt 0 (encoded (sumList a b s n)) (now (list .entry)) ⌝ }
 {
     writing::put_logic_from(list, 0, X, CLEAR);
-    put_rounds(list, 1, READ, a as u8, b as u8, s as u8, n as u8);
+    put_rounds(list, 1, READ, a, b, s, n);
 }
 
 // The whole difference list.
@@ -72,5 +66,5 @@ pub fn put_difference(list: &mut [u8], a: u32, b: u32, s: u32, n: u32)
 {
     writing::put_logic_from(list, 0, X, CLEAR);
     writing::put_logic_from(list, 1, X, SET_Y);
-    put_rounds(list, 2, READ_TURNED, a as u8, b as u8, s as u8, n as u8);
+    put_rounds(list, 2, READ_TURNED, a, b, s, n);
 }

@@ -4,8 +4,8 @@ ghost use mathlib.Core.Path.{_≡_};
 ghost use mathlib.Core.List.{[], _∷_};
 ghost use Prim.Native.Nat.{_+_, _*_, _≤_};
 ghost use lib.ListN.{length};
+ghost use Rattle.bits.specs.Steps.{putAt};
 ghost use Rattle.lists.specs.Lists.{encoded, logicFrom, logicAt, storeAt};
-ghost use Rattle.lists.specs.Steps.{putAt};
 
 fn write_eight(part: &mut [u8], bytes: &[u8; 8])
     requires { ⌜ (length (now part) ≡ 8) × (length (now bytes) ≡ 8) ⌝ }

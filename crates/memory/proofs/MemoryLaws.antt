@@ -1,6 +1,6 @@
 -- Laws of a stored memory: its bits, its bytes, and that writing chip by chip makes it. Assumes nothing.
 use mathlib.Core.Path.{_≡_, ap₂, _∙_}
-use mathlib.Core.Bool.{Bool, true, false, _&&_, cond}
+use mathlib.Core.Bool.{Bool, _&&_, cond}
 use mathlib.Core.List.{List}
 use Prim.Native.Nat.{ℕ, _+_, _*_, _/_, _%_, _<_}
 use native.Mathlib.Omega.{arith}
@@ -8,17 +8,13 @@ use lib.Bits.{xor-lt}
 use lib.Dec.{T, eqb, eqb→eq}
 use lib.ListN.{length, replicate}
 use Rattle.bits.specs.Bits.{bitOf, byteOf}
-use Rattle.bits.proofs.Binary.{Bit}
+use Rattle.bits.proofs.Binary.{Bit, cond-bit}
 use Rattle.bits.proofs.Items.{length-listed, bitOf-bit, bitOf-pack, pack-ext}
 use Rattle.bits.proofs.Tests.{all, all-at}
 use Rattle.memory.specs.Access.{localOf, lineOf, storedBit}
 use Rattle.memory.specs.Memory.{cell, stored, every}
 
 -- ---- the stored memory, by its bits
-
-cond-bit : (t : Bool) {a b : ℕ} → Bit a → Bit b → Bit (cond t a b)
-cond-bit true p q = p
-cond-bit false p q = q
 
 module _ (mem : List ℕ) (m g : ℕ) (mask f : ℕ → ℕ) where
   pub length-stored : length (stored mem m g mask f) ≡ 8192

@@ -128,8 +128,8 @@ pub fn act(
     let t = turn(i, r, &f);
     let takes = judge::rows::takes(i);
     let gives = judge::rows::gives(i);
-    let used = taken + judge::lists::one_if(takes);
-    let put = given + judge::lists::one_if(gives);
+    let used = taken + judge::searches::one_if(takes);
+    let put = given + judge::searches::one_if(gives);
     Acted {
         regs: t,
         taken: used,

@@ -1,6 +1,6 @@
 // The wired form of a pass. A level swaps lines, or not, as signals say; an item goes through one level after the other.
 ghost use mathlib.Core.Path.{_≡_};
-ghost use Prim.Native.Nat.{_+_, _%_, _^_, _<_, _≤_};
+ghost use Prim.Native.Nat.{_%_, _^_, _<_, _≤_};
 ghost use Rattle.bits.specs.Bits.{bitOf, byteOf};
 ghost use Rattle.network.specs.Shifts.{signal, signals, pOf, mOf};
 ghost use Rattle.network.specs.Wired.{significant, level, levelled, wiredItem};

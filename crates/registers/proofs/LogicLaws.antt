@@ -9,7 +9,7 @@ use lib.Dec.{T, eqb, eqb→eq}
 use lib.ListN.{getD}
 use Rattle.bits.specs.Bits.{digit, bitOf, byteOf}
 use Rattle.bits.specs.Steps.{mixed}
-use Rattle.bits.proofs.Binary.{Bit, off, on, digit-bit}
+use Rattle.bits.proofs.Binary.{Bit, off, on, digit-bit, cond-bit}
 use Rattle.bits.proofs.Digits.{digit-mod, digit-mixed}
 use Rattle.bits.proofs.Items.{bitOf-bit, bitOf-at, bitOf-pack, byteOf-is}
 use Rattle.bits.proofs.Tests.{all, all-at}
@@ -33,6 +33,11 @@ mixed-of a b m v j p q s e ha hb hm =
     ∙ digit-mixed a b m j
     ∙ ap (λ (x : ℕ). cond (eqb x 1) (digit b j) (digit a j)) hm
     ∙ ap₂ (λ (x y : ℕ). cond (eqb s 1) x y) hb ha
+
+-- byte v, mixed of two digits that were spread over their bytes: digit k of t where m has a 0, digit l of u where it has a 1
+pub mixed-spread : (t k u l : ℕ) {a b v : ℕ} (m j : ℕ) → v ≡ mixed a b m → a ≡ 255 * digit t k → b ≡ 255 * digit u l → j < 8
+    → digit v j ≡ cond (eqb (digit m j) 1) (digit u l) (digit t k)
+mixed-spread t k u l {a} {b} {v} m j e ha hb h = mixed-of a b m v j _ _ _ e (spread-at a t k j ha h) (spread-at b u l j hb h) refl
 
 -- ---- the function's four digits, picked by the old bit and the passed one
 
@@ -100,10 +105,6 @@ module _ (t : ℕ) (x y l : List ℕ) (i v : ℕ) (byte : v < 256) where
       (λ j h. e j h ∙ sym (ap₂ (λ (p q : ℕ). newY t p q) (bitOf-at y i j h) (bitOf-at l i j h)))
 
 -- ---- what a logic instruction makes of each line
-
-cond-bit : (b : Bool) {p q : ℕ} → Bit p → Bit q → Bit (cond b p q)
-cond-bit true hp hq = hp
-cond-bit false hp hq = hq
 
 pub newX-bit : (t x y f : ℕ) → Bit x → Bit (newX t x y f)
 unfolding newX

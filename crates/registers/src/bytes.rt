@@ -1,7 +1,7 @@
 // The logic instruction on a byte, eight lines at once.
 use bits::mix;
 ghost use mathlib.Core.Path.{_≡_};
-ghost use Prim.Native.Nat.{ℕ, _*_, _/_, _%_, _<_};
+ghost use Prim.Native.Nat.{ℕ, _*_, _%_, _<_};
 ghost use Rattle.bits.specs.Bits.{digit};
 ghost use Rattle.registers.specs.Logic.{functionBit, newX, newY};
 

@@ -1,2 +1,3 @@
 -- What the program prints: what the contracts of this crate cite.
 pub mod Report
+pub mod Steps

@@ -1,16 +1,17 @@
 // The program's printed lines, put into a buffer byte by byte. Document 01, The program.
 //
-// Each function puts its text from index `at` of the buffer on, and answers the index after it: what stands before `at` stays.
+// Each function puts its text from index `at` of the buffer on, and answers the index after it: every other byte stays.
 ghost use mathlib.Core.Path.{_≡_};
 ghost use mathlib.Core.List.{[], _∷_, _++_};
 ghost use Prim.Native.Nat.{_+_, _*_, _≤_, _<_};
-ghost use lib.ListN.{length, take};
+ghost use lib.ListN.{length, drop};
 ghost use Rattle.report.specs.Report.{decimal, spaced, line, hexDigit, hexed, itemLines, printed};
+ghost use Rattle.report.specs.Steps.{Put};
 
 // One character.
 fn put(text: &mut [u8], at: usize, c: u8) -> usize
     requires { ⌜ at < length (now text) ⌝ }
-    ensures { λ r. ⌜ (r ≡ at + 1) × (take r (now (text .exit)) ≡ take at (now (text .entry)) ++ (c ∷ [])) ⌝ }
+    ensures { λ r. ⌜ Put at (c ∷ []) (now (text .entry)) r (now (text .exit)) ⌝ }
 {
     text[at] = c;
     at + 1
@@ -19,7 +20,7 @@ fn put(text: &mut [u8], at: usize, c: u8) -> usize
 // A number in decimal: the digits of its tenth first, where that is not 0, and then its last digit.
 fn put_decimal(text: &mut [u8], at: usize, n: u32) -> usize
     requires { ⌜ at + length (decimal n) ≤ length (now text) ⌝ }
-    ensures { λ r. ⌜ (r ≡ at + length (decimal n)) × (take r (now (text .exit)) ≡ take at (now (text .entry)) ++ decimal n) ⌝ }
+    ensures { λ r. ⌜ Put at (decimal n) (now (text .entry)) r (now (text .exit)) ⌝ }
 {
     if n < 10 {
         return put(text, at, 48 + (n as u8));
@@ -31,7 +32,7 @@ fn put_decimal(text: &mut [u8], at: usize, n: u32) -> usize
 // A space and a number: at most eleven characters.
 fn put_spaced(text: &mut [u8], at: usize, n: u32) -> usize
     requires { ⌜ at + 11 ≤ length (now text) ⌝ }
-    ensures { λ r. ⌜ (r ≤ at + 11) × (take r (now (text .exit)) ≡ take at (now (text .entry)) ++ spaced n) ⌝ }
+    ensures { λ r. ⌜ (r ≤ at + 11) × Put at (spaced n) (now (text .entry)) r (now (text .exit)) ⌝ }
 {
     let next = put(text, at, 32);
     put_decimal(text, next, n)
@@ -48,7 +49,7 @@ fn put_line(
     given: u32,
 ) -> usize
     requires { ⌜ 57 ≤ length (now text) ⌝ }
-    ensures { λ r. ⌜ (r ≤ 57) × (take r (now (text .exit)) ≡ line letter number place steps taken given) ⌝ }
+    ensures { λ r. ⌜ (r ≤ 57) × Put 0 (line letter number place steps taken given) (now (text .entry)) r (now (text .exit)) ⌝ }
 {
     let start = put(text, 0, letter);
     let first = put_spaced(text, start, number);
@@ -70,7 +71,7 @@ fn hex_digit(d: u8) -> u8
 // A byte as two hex digits.
 fn put_byte(text: &mut [u8], at: usize, x: u8) -> usize
     requires { ⌜ at + 2 ≤ length (now text) ⌝ }
-    ensures { λ r. ⌜ (r ≡ at + 2) × (take r (now (text .exit)) ≡ take at (now (text .entry)) ++ hexed (x ∷ [])) ⌝ }
+    ensures { λ r. ⌜ (r ≡ at + 2) × Put at (hexed (x ∷ [])) (now (text .entry)) r (now (text .exit)) ⌝ }
 {
     let next = put(text, at, hex_digit(x / 16));
     put(text, next, hex_digit(x % 16))
@@ -79,7 +80,7 @@ fn put_byte(text: &mut [u8], at: usize, x: u8) -> usize
 // An item on a line of its own.
 fn put_item<'a>(text: &mut [u8], at: usize, item: &'a [u8]) -> usize
     requires { ⌜ (length (now item) ≡ 32) × (at + 65 ≤ length (now text)) ⌝ }
-    ensures { λ r. ⌜ (r ≡ at + 65) × (take r (now (text .exit)) ≡ take at (now (text .entry)) ++ (hexed (now (item .entry)) ++ (10 ∷ []))) ⌝ }
+    ensures { λ r. ⌜ (r ≡ at + 65) × Put at (hexed (now (item .entry)) ++ (10 ∷ [])) (now (text .entry)) r (now (text .exit)) ⌝ }
 {
     let mut next = at;
     let mut j: usize = 0;
@@ -93,7 +94,7 @@ fn put_item<'a>(text: &mut [u8], at: usize, item: &'a [u8]) -> usize
 // The first items of the out buffer, each on a line.
 fn put_items<'a>(text: &mut [u8], at: usize, out: &'a [u8], given: usize) -> usize
     requires { ⌜ (32 * given ≤ length (now out)) × (at + 65 * given ≤ length (now text)) ⌝ }
-    ensures { λ r. ⌜ (r ≡ at + 65 * given) × (take r (now (text .exit)) ≡ take at (now (text .entry)) ++ itemLines (now (out .entry)) given) ⌝ }
+    ensures { λ r. ⌜ (r ≡ at + 65 * given) × Put at (itemLines (now (out .entry)) given) (now (text .entry)) r (now (text .exit)) ⌝ }
 {
     let mut next = at;
     let mut k: usize = 0;
@@ -104,7 +105,7 @@ fn put_items<'a>(text: &mut [u8], at: usize, out: &'a [u8], given: usize) -> usi
     next
 }
 
-// All that the program prints, at the start of `text`, and how many characters that is.
+// All that the program prints, at the start of `text`, and how many characters that is; what stands behind them stays.
 pub fn report<'a>(
     letter: u8,
     number: u32,
@@ -116,7 +117,9 @@ pub fn report<'a>(
     text: &mut [u8],
 ) -> usize
     requires { ⌜ (32 * given ≤ length (now out)) × (57 + 65 * given ≤ length (now text)) ⌝ }
-    ensures { λ r. ⌜ (r ≤ length (now (text .exit))) × (take r (now (text .exit)) ≡ printed letter number place steps taken given (now (out .entry))) ⌝ }
+    ensures room { λ r. ⌜ r ≤ length (now (text .exit)) ⌝ }
+    ensures count { λ r. ⌜ r ≡ length (printed letter number place steps taken given (now (out .entry))) ⌝ }
+    ensures text { λ r. ⌜ now (text .exit) ≡ printed letter number place steps taken given (now (out .entry)) ++ drop r (now (text .entry)) ⌝ }
 {
     let next = put_line(text, letter, number, place, steps, taken, given);
     put_items(text, next, out, given as usize)

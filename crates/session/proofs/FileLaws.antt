@@ -17,7 +17,9 @@ use Rattle.disk.specs.Picture.{scrambled, pictureFits}
 use Rattle.files.proofs.FileLaws.{Stands, judge-stands}
 use Rattle.files.proofs.OneForm.{size-is, count-is}
 use Rattle.files.proofs.AnswerLaws.{read-refused, read-done, changed-not, changed-done, refused-not}
-use Rattle.session.specs.Session.{File, absent, failed, bytes, read, fileAnswer, pictureAnswer, contentAnswer, contentIn}
+use Rattle.session.specs.declared.Found.{Found}
+use Rattle.session.specs.declared.Found.the-variants.{Bytes}
+use Rattle.session.specs.Session.{File, absent, failed, bytes, fileOf, read, fileAnswer, pictureAnswer, contentAnswer, contentIn}
 
 -- ---- a reader whose targets fit answers as the judge
 
@@ -28,13 +30,21 @@ read-fits kind b fits f =
 
 -- ---- by length
 
-pub read-long : (limit kind : ℕ) (b : List ℕ) → limit < length b → refused 20 0 ≡ read limit kind b
+read-long : (limit kind : ℕ) (b : List ℕ) → limit < length b → refused 20 0 ≡ read limit kind b
 unfolding read
 read-long limit kind b h = simp (lt-ltb limit (length b) h)
 
 pub read-short : (limit kind : ℕ) (b : List ℕ) → length b ≤ limit → judge kind b ≡ read limit kind b
 unfolding read
 read-short limit kind b h = simp (le-ltb limit (length b) h)
+
+-- what was found, where x are its bytes at the start of buffer b
+pub found-bytes : {f : Found} {n : ℕ} {x : List ℕ} (b : List ℕ) → f ≡ Bytes n → x ≡ take n b → bytes x ≡ fileOf f b
+found-bytes b g e = ap bytes e ∙ sym (ap (λ (f : Found). fileOf f b) g)
+
+pub found-long : {f : Found} {n : ℕ} {x : List ℕ} (none : Answer) (limit kind : ℕ) (b : List ℕ) → f ≡ Bytes n → x ≡ take n b → limit < length x
+    → refused 20 0 ≡ fileAnswer none limit kind (fileOf f b)
+found-long {x = x} none limit kind b g e h = read-long limit kind x h ∙ ap (fileAnswer none limit kind) (found-bytes b g e)
 
 -- 16 blocks hold no more than 8,192 bytes
 pub content-fits : (kind : ℕ) (b : List ℕ) → Stands kind b → length b ≤ 8192 → length (contentOf b) ≤ 8192

@@ -3,13 +3,14 @@ use mathlib.Core.Path.{_≡_, refl, sym, ap, _∙_}
 use mathlib.Core.List.{List, []}
 use Prim.Native.Nat.{ℕ, _*_}
 use native.Mathlib.Omega.{arith}
-use lib.ListN.{length, take}
-use lib.Seq.{length-take-le}
+use lib.ListN.{length}
 use Rattle.files.specs.File.{done, refused, blockCount, blocksOf}
+use Rattle.files.specs.Content.{over}
 use Rattle.disk.specs.Picture.{pictureOf}
 use Rattle.files.proofs.RoundTrip.{all-length}
 use Rattle.disk.proofs.PictureLaws.{length-picture}
 use Rattle.module.specs.Run.{Left}
+use Rattle.report.proofs.ReportLaws.{report-unique}
 use Rattle.session.specs.declared.Counts.{Counts}
 use Rattle.session.specs.Session.{File, absent, failed, Outcome, contentAnswer, refusal, finished, outcome}
 use Rattle.session.specs.Shown.{Shown}
@@ -44,15 +45,15 @@ pub done-size : (s : Left) → s .answer .number ≡ 0 → length (s .regs) ≡ 
 done-size s z l =
     ap length (done-run s z) ∙ all-length 1 (pictureOf (s .mem) (s .regs)) ∙ ap (λ (k : ℕ). 512 * blockCount k) (length-picture (s .mem) (s .regs) l)
 
--- ---- one answer only
+-- where none is written its buffer stays
+pub no-picture : (o : Outcome) (before : List ℕ) → o .after ≡ [] → over (o .after) before ≡ before
+no-picture o before e = ap (λ (x : List ℕ). over x before) e
 
-module _ (o : Outcome) (r r′ : Counts) (text text′ : List ℕ) (s : Shown o r text) (s′ : Shown o r′ text′) where
-  -- as many characters as the text has
-  size : (x : Counts) (t : List ℕ) → Shown o x t → x .text ≡ length (o .text)
-  size x t h = sym (length-take-le (x .text) t (h .room)) ∙ ap length (h .printed)
+-- ---- one answer only, every byte of both buffers included
 
-  pub same-counts : r ≡ r′
-  same-counts = λ j. record { text = (size r text s ∙ sym (size r′ text′ s′)) j; after = (s .written ∙ sym (s′ .written)) j }
-
-  pub same-text : take (r .text) text ≡ take (r′ .text) text′
-  same-text = s .printed ∙ sym (s′ .printed)
+pub session-unique : (o : Outcome) (r r′ : Counts) (old text text′ before after after′ : List ℕ)
+    → Shown o r old text → after ≡ over (o .after) before → Shown o r′ old text′ → after′ ≡ over (o .after) before
+    → (r ≡ r′) × (text ≡ text′) × (after ≡ after′)
+session-unique o r r′ old text text′ before after after′ s k s′ k′ =
+    let u = report-unique (o .text) old text text′ (r .text) (r′ .text) (s .count) (s .printed) (s′ .count) (s′ .printed) in
+    (λ j. record { text = u .0 j; after = (s .written ∙ sym (s′ .written)) j }, u .1, k ∙ sym k′)

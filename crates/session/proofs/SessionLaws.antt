@@ -1,11 +1,11 @@
 -- The numbers of a run are small and its items are there; the outcome by the first refused file. Assumes nothing.
 use mathlib.Core.Path.{_≡_, refl, sym, ap, ap₂, subst, _∙_}
 use mathlib.Core.Bool.{Bool, true, false, cond, not, _&&_}
-use mathlib.Core.List.{List, []}
+use mathlib.Core.List.{List, [], _++_}
 use Prim.Native.Nat.{ℕ, _*_, _/_, _≤_}
 use native.Mathlib.Omega.{arith}
 use lib.Dec.{eqb}
-use lib.ListN.{length, take, drop}
+use lib.ListN.{length, drop}
 use borrow.Author.Tests.{eq-eqb, ne-eqb}
 use Rattle.bits.proofs.Search.{count-le}
 use Rattle.judge.specs.declared.Answer.{Answer}
@@ -112,25 +112,26 @@ module _ (p l i : File) where
 -- ---- what stands in the buffers
 
 -- a refusal leaves after.pic's buffer as it was
-pub refusal-shown : (o : Outcome) (letter : ℕ) (a : disk.Answer) (r : Counts) (text after : List ℕ) → o ≡ refusal letter a → Shown (refusal letter a) r text
-    → Shown o r text × (after ≡ over (o .after) after)
-refusal-shown o letter a r text after e s = (subst (λ (x : Outcome). Shown x r text) (sym e) s, sym (ap (λ (x : Outcome). over (x .after) after) e))
+pub refusal-shown : (o : Outcome) (letter : ℕ) (a : disk.Answer) (r : Counts) (old text after : List ℕ) → o ≡ refusal letter a → Shown (refusal letter a) r old text
+    → Shown o r old text × (after ≡ over (o .after) after)
+refusal-shown o letter a r old text after e s = (subst (λ (x : Outcome). Shown x r old text) (sym e) s, sym (ap (λ (x : Outcome). over (x .after) after) e))
 
 -- the same outcome stands there under another name
-pub finished-as : (o o′ : Outcome) (r : Counts) (text after after′ : List ℕ) → o ≡ o′ → Shown o′ r text → after′ ≡ over (o′ .after) after
-    → Shown o r text × (after′ ≡ over (o .after) after)
-finished-as o o′ r text after after′ e s k = subst (λ (x : Outcome). Shown x r text × (after′ ≡ over (x .after) after)) (sym e) (s, k)
+pub finished-as : (o o′ : Outcome) (r : Counts) (old text after after′ : List ℕ) → o ≡ o′ → Shown o′ r old text → after′ ≡ over (o′ .after) after
+    → Shown o r old text × (after′ ≡ over (o .after) after)
+finished-as o o′ r old text after after′ e s k = subst (λ (x : Outcome). Shown x r old text × (after′ ≡ over (x .after) after)) (sym e) (s, k)
 
 -- a run's lines and its picture
-pub finished-shown : (o : Outcome) (s : Left) (m g out : List ℕ) (a : Answer) (n w : ℕ) (text after after′ : List ℕ)
+pub finished-shown : (o : Outcome) (s : Left) (m g out : List ℕ) (a : Answer) (n w : ℕ) (old text after after′ : List ℕ)
     → o ≡ finished s → _≡_ {A = Left} (record { mem = m; regs = g; out = out; answer = a }) s
-    → n ≤ length text → take n text ≡ printed 114 (a .number) (a .place) (a .steps) (a .taken) (a .given) out
+    → n ≤ length text → n ≡ length (printed 114 (a .number) (a .place) (a .steps) (a .taken) (a .given) out)
+    → text ≡ printed 114 (a .number) (a .place) (a .steps) (a .taken) (a .given) out ++ drop n old
     → w ≤ 8704 → w ≡ length (afterOf (a .number) m g) → after′ ≡ over (afterOf (a .number) m g) after
-    → Shown o (record { text = n; after = w }) text × (after′ ≡ over (o .after) after)
+    → Shown o (record { text = n; after = w }) old text × (after′ ≡ over (o .after) after)
 unfolding finished
-finished-shown o s m g out a n w text after after′ e q h t most c k =
-    subst (λ (x : Outcome). Shown x (record { text = n; after = w }) text × (after′ ≡ over (x .after) after)) (sym (e ∙ ap finished (sym q)))
-    (record { room = h; printed = t; written = c; most = most }, k)
+finished-shown o s m g out a n w old text after after′ e q h l t most c k =
+    subst (λ (x : Outcome). Shown x (record { text = n; after = w }) old text × (after′ ≡ over (x .after) after)) (sym (e ∙ ap finished (sym q)))
+    (record { room = h; count = l; printed = t; written = c; most = most }, k)
 
 -- ---- after.pic
 

@@ -1,6 +1,7 @@
 // All of the program but the system's calls: what it prints and writes, from what was found of its three files. Document 01, The program.
 use files::Answer;
 ghost use mathlib.Core.Path.{_≡_};
+ghost use mathlib.Core.List.{_++_};
 ghost use Prim.Native.Nat.{_<_, _≤_};
 ghost use lib.ListN.{length, take, drop};
 ghost use Rattle.files.specs.File.{refused};
@@ -99,7 +100,7 @@ fn take_content(found: Found, kind: usize, buffer: &[u8], target: &mut [u8]) -> 
 // The line of a refused file.
 fn refuse(letter: u8, a: Answer, text: &mut [u8]) -> Counts
     requires { ⌜ (a .place ≤ 17) × (57 ≤ length (now text)) ⌝ }
-    ensures { λ r. ⌜ Shown (refusal letter a) r (now (text .exit)) ⌝ }
+    ensures { λ r. ⌜ Shown (refusal letter a) r (now (text .entry)) (now (text .exit)) ⌝ }
 {
     let none = [0u8; 1];
     let n = report::report(
@@ -118,7 +119,9 @@ fn refuse(letter: u8, a: Answer, text: &mut [u8]) -> Counts
 // The lines of a run: its numbers, and the items that it has given.
 fn print_run(a: judge::Answer, out: &[u8], text: &mut [u8]) -> usize
     requires { ⌜ Small a (length (now out)) × (length (now out) ≡ 8192) × (16697 ≤ length (now text)) ⌝ }
-    ensures { λ r. ⌜ (r ≤ length (now (text .exit))) × (take r (now (text .exit)) ≡ printed 114 (a .number) (a .place) (a .steps) (a .taken) (a .given) (now (out .entry))) ⌝ }
+    ensures room { λ r. ⌜ r ≤ length (now (text .exit)) ⌝ }
+    ensures count { λ r. ⌜ r ≡ length (printed 114 (a .number) (a .place) (a .steps) (a .taken) (a .given) (now (out .entry))) ⌝ }
+    ensures text { λ r. ⌜ now (text .exit) ≡ printed 114 (a .number) (a .place) (a .steps) (a .taken) (a .given) (now (out .entry)) ++ drop r (now (text .entry)) ⌝ }
 {
     report::report(
         b'r',
@@ -155,7 +158,7 @@ fn finish(
     text: &mut [u8],
 ) -> Counts
     requires { ⌜ (length (now memory) ≡ 8192) × (length (now registers) ≡ 96) × (length (now out) ≡ 8192) × (length (now after) ≡ 8704) × (16697 ≤ length (now text)) ⌝ }
-    ensures text { λ r. ⌜ Shown (finished (ran (now (memory .entry)) (now (registers .entry)) (now (list .entry)) (now (items .entry)) (now (out .entry)))) r (now (text .exit)) ⌝ }
+    ensures text { λ r. ⌜ Shown (finished (ran (now (memory .entry)) (now (registers .entry)) (now (list .entry)) (now (items .entry)) (now (out .entry)))) r (now (text .entry)) (now (text .exit)) ⌝ }
     ensures after { λ r. ⌜ now (after .exit) ≡ over (finished (ran (now (memory .entry)) (now (registers .entry)) (now (list .entry)) (now (items .entry)) (now (out .entry))) .after) (now (after .entry)) ⌝ }
 {
     let a = module::run(memory, registers, list, items, out);
@@ -164,7 +167,7 @@ fn finish(
     Counts { text: n, after: w }
 }
 
-// The program, from what was found of before.pic, run.lst and in.itm and the buffers that they were read into: the text to print, and the bytes of after.pic, which stay as they were where it is not to be written.
+// The program, from what was found of before.pic, run.lst and in.itm and the buffers that they were read into: the text to print, and the bytes of after.pic. What stands behind either stays, and all of after.pic's buffer where it is not to be written.
 pub fn session(
     p: Found,
     l: Found,
@@ -176,7 +179,7 @@ pub fn session(
     text: &mut [u8],
 ) -> Counts
     requires { ⌜ (length (now after) ≡ 8704) × (16697 ≤ length (now text)) ⌝ }
-    ensures text { λ r. ⌜ Shown (outcome (fileOf p (now (picture .entry))) (fileOf l (now (list .entry))) (fileOf i (now (items .entry)))) r (now (text .exit)) ⌝ }
+    ensures text { λ r. ⌜ Shown (outcome (fileOf p (now (picture .entry))) (fileOf l (now (list .entry))) (fileOf i (now (items .entry)))) r (now (text .entry)) (now (text .exit)) ⌝ }
     ensures after { λ r. ⌜ now (after .exit) ≡ over (outcome (fileOf p (now (picture .entry))) (fileOf l (now (list .entry))) (fileOf i (now (items .entry))) .after) (now (after .entry)) ⌝ }
 {
     let mut memory = blank();

@@ -10,7 +10,7 @@ use borrow.Author.Needs.{needs}
 use denote.Ref.{now}
 use Rattle.blocks.specs.Block.{twoAt}
 use Rattle.blocks.proofs.BlockLaws.{used-le, fault-good}
-use Rattle.files.specs.File.{blockAt, contentOf, judge}
+use Rattle.files.specs.File.{blockAt, contentOf}
 use Rattle.files.proofs.FileLaws.{judge-stands, judged-each}
 use Rattle.files.specs.Content.{targetFits}
 use Rattle.files.proofs.AnswerLaws.{read-refused, read-26, read-done, changed-not, changed-done, refused-not}

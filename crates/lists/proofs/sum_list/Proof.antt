@@ -1,12 +1,9 @@
 -- `lists::sum_list`: a refusal, or the whole list; `sound` says that fields with no number are sound. Assumes nothing.
-use mathlib.Core.Path.{sym, _∙_}
 use borrow.Author.Needs.{needs}
 use denote.Ref.{now}
-use lib.ListN.{length}
 use Rattle.lists.specs.Lists.{encoded}
-use Rattle.lists.specs.Fields.{sumList, fieldsFault, sumBuilt}
+use Rattle.lists.specs.Fields.{sumList, sumBuilt}
 use Rattle.lists.proofs.ListLaws.{sum-length}
-use Rattle.lists.proofs.PutLaws.{put-front}
 use Rattle.lists.proofs.Refusals.{sound, built-refused, built-done}
 use Rattle.lists.proofs.sum_list.Statement.{statement}
 use Rattle.lists.proofs.sum_list.Tie as tie
@@ -18,15 +15,12 @@ returns : tie.Need-returns
 unfolding sumBuilt
 returns c =
     let a = c .before .before .before .args in
-    let r = c .before .fields-fault in
-    built-refused (fieldsFault 1 (a .a) (a .b) (a .s) (a .n) (length (now (a .list)))) (encoded (sumList (a .a) (a .b) (a .s) (a .n))) (now (a .list)) (r .result) (r .ensures) (c .if1 .taken)
+    built-refused 1 (a .a) (a .b) (a .s) (a .n) (encoded (sumList (a .a) (a .b) (a .s) (a .n))) (now (a .list)) _ (c .before .fields-fault .ensures) (c .if1 .taken)
 
 put-sum-requires : tie.Need-put-sum-requires
 put-sum-requires c κs =
-    let e = c .before in
-    let a = e .before .before .before .args in
-    let r = e .before .fields-fault in
-    sound 1 (a .a) (a .b) (a .s) (a .n) (length (now (a .list))) (r .result) (r .ensures) (e .if1 .left)
+    let a = c .before .before .before .before .args in
+    sound 1 (a .a) (a .b) (a .s) (a .n) _ _ (c .before .before .fields-fault .ensures) (c .before .if1 .left)
 
 list-length-requires : tie.Need-list-length-requires
 list-length-requires c κs = search needs
@@ -39,11 +33,8 @@ unfolding sumBuilt
 returns-2 c =
     let e = c .before .before .before .before .before in
     let a = e .before .before .before .args in
-    let r = e .before .fields-fault in
-    let q = c .before .before .before .put-sum in
-    let bytes = encoded (sumList (a .a) (a .b) (a .s) (a .n)) in
-    built-done (fieldsFault 1 (a .a) (a .b) (a .s) (a .n) (length (now (a .list)))) bytes (now (a .list)) (r .result) (c .list-length .result) (q .last .0) (r .ensures) (e .if1 .left)
-    (sum-length (a .a) (a .b) (a .s) (a .n) ∙ sym (c .list-length .ensures)) (q .ensures ∙ put-front bytes (now (a .list)))
+    built-done 1 (a .a) (a .b) (a .s) (a .n) (encoded (sumList (a .a) (a .b) (a .s) (a .n))) (now (a .list)) _ (e .before .fields-fault .ensures)
+    _ _ (e .if1 .left) (sum-length (a .a) (a .b) (a .s) (a .n)) (c .list-length .ensures) (c .before .before .before .put-sum .ensures)
 
 pub sum-list-spec : {M : Type 1} → statement M
 sum-list-spec = tie.close (tie.spec fields-fault-requires returns put-sum-requires list-length-requires same-length returns-2)

@@ -1,11 +1,12 @@
 -- `put_decimal`: the tenth is smaller; its digits and then the last digit are the number.
-use mathlib.Core.Path.{sym, ap, _∙_}
-use mathlib.Core.List.{List, [], _∷_, _++_}
+use mathlib.Core.Path.{sym, ap, subst, _∙_}
+use mathlib.Core.List.{List, [], _∷_}
 use Prim.Native.Nat.{_+_, _%_, _/_}
 use denote.Ref.{now}
-use lib.ListN.{length, take, length-append}
+use lib.ListN.{length, length-append}
 use Rattle.report.specs.Report.{decimal}
-use Rattle.report.proofs.ReportLaws.{decimal-small, decimal-more, then-text}
+use Rattle.report.specs.Steps.{Put}
+use Rattle.report.proofs.ReportLaws.{decimal-small, decimal-more, then-put}
 use native.Mathlib.Omega.{arith}
 use Prim.Native.Nat.{ℕ, _<_}
 use borrow.Fn.Kinds.{In}
@@ -72,7 +73,7 @@ put-decimal-returns t c =
     let a = c .before .before .before .before .before .before .args in
     let p = c .before .before .put in
     let d = decimal-small (a .n) (omega arith) in
-    (omega (arith, p .ensures .0, ap length d), p .ensures .1 ∙ sym (ap (λ (l : List ℕ). take (a .at) (now (a .text)) ++ l) d))
+    subst (λ (l : List ℕ). Put (a .at) l (now (a .text)) (p .result) (p .last .0)) (sym d) (p .ensures)
 
 put-decimal-put-decimal-requires : (t : ℕ) → put-decimal-lts.Need-put-decimal-requires (
   put-reads.Asked,
@@ -108,7 +109,7 @@ put-decimal-put-requires-2 : (t : ℕ) → put-decimal-lts.Need-put-requires-2 (
 ) (put-decimal-at t) put-decimal.Post
 put-decimal-put-requires-2 t c κs =
     let a = c .before .before .before .before .before .before .before .args in
-    omega (arith, c .before .before .before .put-decimal .ensures .0, ap length (decimal-more (a .n) (omega arith)) ∙ length-append (decimal (a .n / 10)) ((48 + a .n % 10) ∷ []))
+    omega (arith, c .before .before .before .put-decimal .ensures .behind, ap length (decimal-more (a .n) (omega arith)) ∙ length-append (decimal (a .n / 10)) ((48 + a .n % 10) ∷ []))
 
 put-decimal-same-length-2 : (t : ℕ) → put-decimal-lts.Need-same-length-2 (
   put-reads.Asked,
@@ -128,10 +129,7 @@ put-decimal-returns-2 t c =
     let a = c .before .before .before .before .before .before .before .before .before .before .args in
     let d = c .before .before .before .before .before .before .put-decimal in
     let p = c .before .before .put2 in
-    let e = decimal-more (a .n) (omega arith) in (
-      omega (arith, p .ensures .0, d .ensures .0, ap length e ∙ length-append (decimal (a .n / 10)) ((48 + a .n % 10) ∷ [])),
-      then-text (take (a .at) (now (a .text))) (decimal (a .n / 10)) ((48 + a .n % 10) ∷ []) (decimal (a .n)) _ _ (d .ensures .1) (p .ensures .1) (sym e),
-    )
+    then-put (omega arith) (d .ensures) (p .ensures) (sym (decimal-more (a .n) (omega arith)))
 
 pub +put-decimal-spec : {M : Type 1} → statement M
 +put-decimal-spec = close μ-put-decimal λ t. put-decimal-lts.spec (

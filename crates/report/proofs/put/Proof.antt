@@ -1,10 +1,9 @@
--- `put`: one element more of the front.
+-- `put`: one byte.
 use mathlib.Core.Path.{refl}
-use native.Mathlib.Numerals.{add-one}
 use denote.Ref.{now}
-use lib.Seq.{take-suc-set}
 use borrow.Author.Needs.{needs}
 use native.Mathlib.Omega.{arith}
+use Rattle.bits.proofs.Puts.{put-one}
 use Rattle.report.proofs.put.Statement.{statement}
 use Rattle.report.proofs.put.Tie as tie
 
@@ -20,7 +19,7 @@ same-length c = search needs
 returns : tie.Need-returns
 returns c =
     let a = c .args in
-    (refl, rw add-one (take-suc-set (now (a .text)) (a .at) (a .c) (omega arith)))
+    record { behind = refl; left = put-one (a .at) (a .c) (now (a .text)) (omega arith) }
 
 pub put-spec : {M : Type 1} → statement M
 put-spec = tie.close (tie.spec slice-write-text add-result same-length returns)

@@ -1,11 +1,11 @@
 -- `put_byte`: the high digit, and the low one behind it.
-use mathlib.Core.Path.{ap, refl, _∙_}
-use mathlib.Core.List.{[], _∷_, _++_}
-use Prim.Native.Nat.{ℕ, _/_, _%_}
+use mathlib.Core.Path.{subst, refl}
+use mathlib.Core.List.{[], _∷_}
+use Prim.Native.Nat.{ℕ}
 use denote.Ref.{now}
-use lib.ListN.{take}
-use Rattle.report.specs.Report.{hexDigit, hexed}
-use Rattle.report.proofs.ReportLaws.{then-text}
+use Rattle.report.specs.Report.{hexed}
+use Rattle.report.specs.Steps.{Put}
+use Rattle.report.proofs.ReportLaws.{then-put}
 use borrow.Author.Needs.{needs}
 use native.Mathlib.Omega.{arith}
 use Rattle.report.proofs.put_byte.Statement.{statement}
@@ -34,10 +34,10 @@ returns c =
     let p = c .before .before .before .before .before .before .before .put in
     let i = c .before .before .before .hex-digit2 in
     let q = c .before .before .put2 in (
-      omega (arith, p .ensures .0, q .ensures .0),
-      then-text (take (a .at) (now (a .text))) (hexDigit (a .x / 16) ∷ []) (hexDigit (a .x % 16) ∷ []) (hexed (a .x ∷ [])) _ _
-          (p .ensures .1 ∙ ap (λ (z : ℕ). take (a .at) (now (a .text)) ++ (z ∷ [])) (h .ensures))
-          (q .ensures .1 ∙ ap (λ (z : ℕ). take (p .result) (p .last .0) ++ (z ∷ [])) (i .ensures)) refl,
+      omega (arith, p .ensures .behind, q .ensures .behind),
+      then-put (omega arith)
+          (subst (λ (z : ℕ). Put (a .at) (z ∷ []) (now (a .text)) (p .result) (p .last .0)) (h .ensures) (p .ensures))
+          (subst (λ (z : ℕ). Put (p .result) (z ∷ []) (p .last .0) (q .result) (q .last .0)) (i .ensures) (q .ensures)) refl,
     )
 
 pub put-byte-spec : {M : Type 1} → statement M

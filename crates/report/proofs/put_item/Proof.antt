@@ -1,26 +1,27 @@
 -- `put_item`: each turn is one byte more; then the line feed.
-use mathlib.Core.Path.{_≡_, refl, sym, ap, _∙_}
-use mathlib.Core.List.{List, [], _∷_, _++_, append-nil}
+use mathlib.Core.Path.{_≡_, refl, ap, _∙_}
+use mathlib.Core.List.{List, [], _∷_, _++_}
 use Prim.Native.Nat.{ℕ, _≤_, _+_, _-_, _*_}
 use denote.Ref.{now}
-use lib.ListN.{length, getD, take}
+use lib.ListN.{length, take}
 use lib.Seq.{take-all}
 use Rattle.report.specs.Report.{hexed}
-use Rattle.report.proofs.ReportLaws.{hexed-more, then-text}
+use Rattle.report.specs.Steps.{Put}
+use Rattle.report.proofs.ReportLaws.{hexed-more, none-put, then-put}
 use borrow.Author.Needs.{needs}
 use native.Mathlib.Omega.{arith}
 use Rattle.report.proofs.put_item.Statement.{statement}
 use Rattle.report.proofs.put_item.Tie as tie
 
 abbrev Inv-loop : tie.InvT-loop
-Inv-loop text₀ at item next₀ j₀ text next j = (j ≤ 32) × (length text ≡ length text₀) × (next ≡ at + 2 * j) × (take next text ≡ take at text₀ ++ hexed (take j item))
+Inv-loop text₀ at item next₀ j₀ text next j = (j ≤ 32) × (length text ≡ length text₀) × (next ≡ at + 2 * j) × Put at (hexed (take j item)) text₀ next text
 
 abbrev μ-loop : tie.MeasureT-loop
 μ-loop text₀ at item next₀ j₀ text next j = 32 - j
 
 loop-holds : tie.Need-loop-holds Inv-loop μ-loop
 unfolding hexed
-loop-holds c = (omega arith, refl, omega arith, sym (append-nil _))
+loop-holds c = (omega arith, refl, omega arith, none-put _ _)
 
 shared-slice-read-put-byte : tie.Need-shared-slice-read-put-byte Inv-loop μ-loop
 shared-slice-read-put-byte c = search needs
@@ -42,8 +43,7 @@ loop-again c =
       omega arith,
       r .kept .0 ∙ l .inv .1,
       omega (arith, r .ensures .0),
-      then-text (take (a .at) (now (a .text))) (hexed (take (l .j) (now (a .item)))) (hexed (getD (now (a .item)) (l .j) 0 ∷ [])) (hexed (take (l .j + 1) (now (a .item)))) _ _
-          (l .inv .3) (r .ensures .1) (hexed-more (now (a .item)) (l .j) (omega arith)),
+      then-put (omega arith) (l .inv .3) (r .ensures .1) (hexed-more (now (a .item)) (l .j) (omega arith)),
     )
 
 put-requires : tie.Need-put-requires Inv-loop μ-loop
@@ -57,9 +57,9 @@ returns c =
     let a = c .before .before .before .before .before .before .before .before .args in
     let l = c .before .before .before .before .before .loop in
     let p = c .before .before .put in (
-      omega (arith, p .ensures .0),
-      then-text (take (a .at) (now (a .text))) (hexed (take (l .j) (now (a .item)))) (10 ∷ []) (hexed (now (a .item)) ++ (10 ∷ [])) _ _
-          (l .inv .3) (p .ensures .1) (ap (λ (x : List ℕ). hexed x ++ (10 ∷ [])) (take-all (l .j) (now (a .item)) (omega arith))),
+      omega (arith, p .ensures .behind),
+      then-put (omega arith) (l .inv .3) (p .ensures)
+          (ap (λ (x : List ℕ). hexed x ++ (10 ∷ [])) (take-all (l .j) (now (a .item)) (omega arith))),
     )
 
 pub put-item-spec : {M : Type 1} → statement M

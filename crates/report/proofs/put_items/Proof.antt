@@ -1,25 +1,25 @@
 -- `put_items`: each turn is one item more.
-use mathlib.Core.Path.{_≡_, refl, sym, ap, _∙_}
-use mathlib.Core.List.{[], _∷_, _++_, append-nil}
+use mathlib.Core.Path.{_≡_, refl, subst, _∙_}
 use Prim.Native.Nat.{ℕ, _≤_, _+_, _-_, _*_}
 use denote.Ref.{now}
-use lib.ListN.{length, take, drop}
-use Rattle.report.specs.Report.{hexed, itemLines}
-use Rattle.report.proofs.ReportLaws.{then-text, lines-more}
+use lib.ListN.{length}
+use Rattle.report.specs.Report.{itemLines}
+use Rattle.report.specs.Steps.{Put}
+use Rattle.report.proofs.ReportLaws.{none-put, then-put, lines-more}
 use borrow.Author.Needs.{needs}
 use native.Mathlib.Omega.{arith}
 use Rattle.report.proofs.put_items.Statement.{statement}
 use Rattle.report.proofs.put_items.Tie as tie
 
 abbrev Inv-loop : tie.InvT-loop
-Inv-loop text₀ at out given next₀ k₀ text next k = (k ≤ given) × (length text ≡ length text₀) × (next ≡ at + 65 * k) × (take next text ≡ take at text₀ ++ itemLines out k)
+Inv-loop text₀ at out given next₀ k₀ text next k = (k ≤ given) × (length text ≡ length text₀) × (next ≡ at + 65 * k) × Put at (itemLines out k) text₀ next text
 
 abbrev μ-loop : tie.MeasureT-loop
 μ-loop text₀ at out given next₀ k₀ text next k = given - k
 
 loop-holds : tie.Need-loop-holds Inv-loop μ-loop
 unfolding itemLines
-loop-holds c = (omega arith, refl, omega arith, sym (append-nil _))
+loop-holds c = (omega arith, refl, omega arith, none-put _ _)
 
 mul-put-item : tie.Need-mul-put-item Inv-loop μ-loop
 mul-put-item c = search needs
@@ -52,13 +52,11 @@ loop-again : tie.Need-loop-again Inv-loop μ-loop
 loop-again c =
     let a = c .before .before .before .before .before .before .before .before .before .args in
     let l = c .before .before .before .before .before .before .loop in
-    let r = c .before .before .put-item in
-    let part = take (32 * l .k + 32 - 32 * l .k) (drop (32 * l .k) (now (a .out))) in (
+    let r = c .before .before .put-item in (
       omega arith,
       r .kept .0 ∙ l .inv .1,
       omega (arith, r .ensures .0),
-      then-text (take (a .at) (now (a .text))) (itemLines (now (a .out)) (l .k)) (hexed part ++ (10 ∷ [])) (itemLines (now (a .out)) (l .k + 1)) _ _
-          (l .inv .3) (r .ensures .1) (lines-more (now (a .out)) (l .k)),
+      then-put (omega arith) (l .inv .3) (r .ensures .1) (lines-more (now (a .out)) (l .k)),
     )
 
 same-length : tie.Need-same-length Inv-loop μ-loop
@@ -69,7 +67,7 @@ returns c =
     let a = c .before .before .before .before .args in
     let l = c .before .loop in
     let e : l .k ≡ a .given = omega arith in
-    (omega arith, l .inv .3 ∙ ap (λ (n : ℕ). take (a .at) (now (a .text)) ++ itemLines (now (a .out)) n) e)
+    (omega arith, subst (λ (n : ℕ). Put (a .at) (itemLines (now (a .out)) n) (now (a .text)) (l .next) (l .text)) e (l .inv .3))
 
 pub put-items-spec : {M : Type 1} → statement M
 put-items-spec =

@@ -1,10 +1,6 @@
 -- `put_spaced`: the space, and the number behind it; a 32-bit number has at most ten digits.
 use mathlib.Core.Path.{refl}
-use mathlib.Core.List.{[], _∷_}
-use denote.Ref.{now}
-use lib.ListN.{take}
-use Rattle.report.specs.Report.{decimal, spaced}
-use Rattle.report.proofs.ReportLaws.{length-decimal, then-text}
+use Rattle.report.proofs.ReportLaws.{length-decimal, then-put}
 use borrow.Author.Needs.{needs}
 use native.Mathlib.Omega.{arith}
 use Rattle.report.proofs.put_spaced.Statement.{statement}
@@ -16,7 +12,7 @@ put-requires c κs = search needs
 put-decimal-requires : tie.Need-put-decimal-requires
 put-decimal-requires c κs =
     let a = c .before .before .before .before .before .before .args in
-    omega (arith, c .before .before .before .put .ensures .0, length-decimal 9 (a .n) (omega arith))
+    omega (arith, c .before .before .before .put .ensures .behind, length-decimal 9 (a .n) (omega arith))
 
 same-length : tie.Need-same-length
 same-length c = search needs
@@ -26,8 +22,8 @@ returns c =
     let a = c .before .before .before .before .before .before .before .before .before .args in
     let s = c .before .before .before .before .before .before .put in
     let d = c .before .before .put-decimal in (
-      omega (arith, s .ensures .0, d .ensures .0, length-decimal 9 (a .n) (omega arith)),
-      then-text (take (a .at) (now (a .text))) (32 ∷ []) (decimal (a .n)) (spaced (a .n)) _ _ (s .ensures .1) (d .ensures .1) refl,
+      omega (arith, s .ensures .behind, d .ensures .behind, length-decimal 9 (a .n) (omega arith)),
+      then-put (omega arith) (s .ensures) (d .ensures) refl,
     )
 
 pub put-spaced-spec : {M : Type 1} → statement M

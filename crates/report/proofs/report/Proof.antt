@@ -1,9 +1,7 @@
 -- `report`: the line, and the items behind it.
-use mathlib.Core.Path.{ap, _∙_}
-use mathlib.Core.List.{List, _++_}
-use Prim.Native.Nat.{ℕ}
-use denote.Ref.{now}
-use Rattle.report.specs.Report.{itemLines, printed}
+use mathlib.Core.Path.{refl}
+use Rattle.report.specs.Report.{printed}
+use Rattle.report.proofs.ReportLaws.{then-put, put-whole}
 use borrow.Author.Needs.{needs}
 use native.Mathlib.Omega.{arith}
 use Rattle.report.proofs.report.Statement.{statement}
@@ -21,11 +19,10 @@ same-length c = search needs
 returns : tie.Need-returns
 unfolding printed
 returns c =
-    let a = c .before .before .before .before .before .before .before .before .before .before .args in
     let first = c .before .before .before .before .before .before .put-line in
     let rest = c .before .before .put-items in (
       omega (arith, rest .ensures .0, first .ensures .0, rest .kept .0, first .kept .0),
-      rest .ensures .1 ∙ ap (λ (l : List ℕ). l ++ itemLines (now (a .out)) (a .given)) (first .ensures .1),
+      put-whole (then-put (omega arith) (first .ensures .1) (rest .ensures .1) refl),
     )
 
 pub report-spec : {M : Type 1} → statement M

@@ -45,7 +45,7 @@ returns c =
     let s = ran (now (a .memory)) (now (a .registers)) (now (a .list)) (now (a .items)) (now (a .out)) in
     let k = c .before .before .keep in
     let t = p .print-run in
-    finished-shown (finished s) s _ _ _ (q .run .result) (t .result) (k .result) (t .last .1 .1 .0) (now (a .after)) (k .last .1 .1 .1 .0) refl (q .run .ensures) (t .ensures .0) (t .ensures .1) (k .ensures .0) (k .ensures .1) (k .ensures .2)
+    finished-shown (finished s) s _ _ _ (q .run .result) (t .result) (k .result) (now (a .text)) (t .last .1 .1 .0) (now (a .after)) (k .last .1 .1 .1 .0) refl (q .run .ensures) (t .ensures .0) (t .ensures .1 .0) (t .ensures .1 .1) (k .ensures .0) (k .ensures .1) (k .ensures .2)
 
 pub finish-spec : {M : Type 1} → statement M
 finish-spec =

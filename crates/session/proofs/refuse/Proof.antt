@@ -1,6 +1,10 @@
 -- `refuse`: the line, which says nothing of an out buffer.
-use mathlib.Core.Path.{refl, _∙_}
+use mathlib.Core.Path.{refl, ap, _∙_}
+use mathlib.Core.List.{List, _++_}
+use Prim.Native.Nat.{ℕ}
 use native.Mathlib.Omega.{arith}
+use denote.Ref.{now}
+use lib.ListN.{length, drop}
 use Rattle.session.proofs.SessionLaws.{line-alone}
 use borrow.Author.Needs.{needs}
 use Rattle.session.proofs.refuse.Statement.{statement}
@@ -25,7 +29,14 @@ returns : tie.Need-returns
 returns c =
     let a = c .before .before .before .before .before .before .before .before .args in
     let p = c .before .before .report in
-    record { room = p .ensures .0; printed = p .ensures .1 ∙ line-alone (a .letter) (a .a .number) (a .a .place) _; written = refl; most = omega arith }
+    let e = line-alone (a .letter) (a .a .number) (a .a .place) _ in
+    record {
+      room = p .ensures .0;
+      count = p .ensures .1 .0 ∙ ap length e;
+      printed = p .ensures .1 .1 ∙ ap (λ (l : List ℕ). l ++ drop (p .result) (now (a .text))) e;
+      written = refl;
+      most = omega arith;
+    }
 
 pub refuse-spec : {M : Type 1} → statement M
 refuse-spec =

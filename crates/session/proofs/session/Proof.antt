@@ -51,7 +51,7 @@ returns c =
     let a = c .before .before .before .before .before .before .before .before .before .before .before .before .before .before .before .before .before .args in
     let t = c .before .before .before .before .before .before .before .before .take-picture in
     let r = c .before .before .refuse in
-    refusal-shown _ 112 (t .result) (r .result) _ (now (a .after)) (outcome-p _ (fileOf (a .l) (now (a .list))) (fileOf (a .i) (now (a .items))) (t .result) (t .ensures .0) (c .before .before .before .before .if1 .taken)) (r .ensures)
+    refusal-shown _ 112 (t .result) (r .result) (now (a .text)) _ (now (a .after)) (outcome-p _ (fileOf (a .l) (now (a .list))) (fileOf (a .i) (now (a .items))) (t .result) (t .ensures .0) (c .before .before .before .before .if1 .taken)) (r .ensures)
 
 blank-requires-2 : tie.Need-blank-requires-2
 blank-requires-2 c κs = search needs
@@ -77,7 +77,7 @@ returns-2 c =
     let a = c .before .before .before .before .before .before .before .before .before .before .before .before .before .before .before .before .before .before .before .before .before .before .before .args in
     let t = c .before .before .before .before .before .before .before .take-content in
     let r = c .before .before .refuse2 in
-    refusal-shown _ 108 (t .result) (r .result) _ (now (a .after)) (outcome-l (fileOf (a .p) (now (a .picture))) _ (fileOf (a .i) (now (a .items))) (picture-good (c .before .before .before .before .before .before .before .before .before .before)) (t .result) (t .ensures .0) (c .before .before .before .before .if2 .taken)) (r .ensures)
+    refusal-shown _ 108 (t .result) (r .result) (now (a .text)) _ (now (a .after)) (outcome-l (fileOf (a .p) (now (a .picture))) _ (fileOf (a .i) (now (a .items))) (picture-good (c .before .before .before .before .before .before .before .before .before .before)) (t .result) (t .ensures .0) (c .before .before .before .before .if2 .taken)) (r .ensures)
 
 blank-requires-3 : tie.Need-blank-requires-3
 blank-requires-3 c κs = search needs
@@ -103,7 +103,7 @@ returns-3 c =
     let a = c .before .before .before .before .before .before .before .before .before .before .before .before .before .before .before .before .before .before .before .before .before .before .before .before .before .before .before .before .before .args in
     let t = c .before .before .before .before .before .before .before .take-content2 in
     let r = c .before .before .refuse3 in
-    refusal-shown _ 105 (t .result) (r .result) _ (now (a .after)) (outcome-i (fileOf (a .p) (now (a .picture))) (fileOf (a .l) (now (a .list))) _ (picture-good (c .before .before .before .before .before .before .before .before .before .before .before .before .before .before .before .before)) (list-good (c .before .before .before .before .before .before .before .before .before .before)) (t .result) (t .ensures .0) (c .before .before .before .before .if3 .taken)) (r .ensures)
+    refusal-shown _ 105 (t .result) (r .result) (now (a .text)) _ (now (a .after)) (outcome-i (fileOf (a .p) (now (a .picture))) (fileOf (a .l) (now (a .list))) _ (picture-good (c .before .before .before .before .before .before .before .before .before .before .before .before .before .before .before .before)) (list-good (c .before .before .before .before .before .before .before .before .before .before)) (t .result) (t .ensures .0) (c .before .before .before .before .if3 .taken)) (r .ensures)
 
 blank-requires-4 : tie.Need-blank-requires-4
 blank-requires-4 c κs = search needs
@@ -148,7 +148,7 @@ returns-4 c =
     let p = c .before .before .before .before .before .before .before .before .before .before .before .before .before .before .before .before .before .before .before .before .before .before .before .before .before .before .before .before .before .before .before .before .take-picture in
     let l = c .before .before .before .before .before .before .before .before .before .before .before .before .before .before .before .before .before .before .before .before .before .before .before .before .before .take-content in
     let i = c .before .before .before .before .before .before .before .before .before .before .before .before .before .before .before .before .before .before .before .take-content2 in
-    finished-as _ _ (f .result) _ (now (a .after)) _
+    finished-as _ _ (f .result) (now (a .text)) _ (now (a .after)) _
     (outcome-r (fileOf (a .p) (now (a .picture))) (fileOf (a .l) (now (a .list))) (fileOf (a .i) (now (a .items))) (picture-good (c .before .before .before .before .before .before .before .before .before .before .before .before .before .before .before .before .before .before .before .before .before .before .before .before .before .before .before .before)) (list-good (c .before .before .before .before .before .before .before .before .before .before .before .before .before .before .before .before .before .before .before .before .before .before)) (items-good (c .before .before .before .before .before .before .before .before .before .before .before .before .before .before .before .before)) _ _ _ _ _
     (p .ensures .1 .0 ∙ sym (changed-done (p .result) _ _ (c .before .before .before .before .before .before .before .before .before .before .before .before .before .before .before .before .before .before .before .before .before .before .before .before .before .before .before .before .if1 .left)))
     (p .ensures .1 .1 ∙ sym (changed-done (p .result) _ _ (c .before .before .before .before .before .before .before .before .before .before .before .before .before .before .before .before .before .before .before .before .before .before .before .before .before .before .before .before .if1 .left)))

@@ -1,9 +1,10 @@
 -- `take_content`: each arm of the match is a law of FileLaws.
-use mathlib.Core.Path.{_≡_, sym, ap, _∙_}
+use mathlib.Core.Path.{sym, ap}
 use denote.Ref.{now}
+use Rattle.files.specs.File.{done}
 use Rattle.session.specs.declared.Found.{Found}
-use Rattle.session.specs.Session.{bytes, fileOf, contentAnswer}
-use Rattle.session.proofs.FileLaws.{read-long, content-absent, content-refused, content-taken}
+use Rattle.session.specs.Session.{fileOf, contentAnswer}
+use Rattle.session.proofs.FileLaws.{found-bytes, found-long, content-absent, content-refused, content-taken}
 use borrow.Author.Needs.{needs}
 use Rattle.session.proofs.take_content.Statement.{statement}
 use Rattle.session.proofs.take_content.Tie as tie
@@ -31,8 +32,8 @@ returns c =
     let w = c .before .before in
     let a = w .before .before .before .before .before .before .args in
     let b = now (a .buffer) in
-    let e : bytes (now (w .front .result)) ≡ fileOf (a .found) b = ap bytes (w .front .ensures) ∙ sym (ap (λ (f : Found). fileOf f b) (w .before .before .found .given .1)) in
-    content-refused (a .kind) (fileOf (a .found) b) (c .refused2 .result) _ (c .refused2 .ensures) (read-long 8192 (a .kind) (now (w .front .result)) (c .before .if1 .taken) ∙ ap (contentAnswer (a .kind)) e)
+    content-refused (a .kind) (fileOf (a .found) b) (c .refused2 .result) _ (c .refused2 .ensures)
+    (found-long (done 0) 8192 (a .kind) b (w .before .before .found .given .1) (w .front .ensures) (c .before .if1 .taken))
 
 read-content-requires : tie.Need-read-content-requires
 read-content-requires c κs = search needs
@@ -59,7 +60,7 @@ returns-4 c =
     let a = s .args in
     let b = now (a .buffer) in
     let r = c .before .before .read-content in
-    let e : bytes (now (w .front .result)) ≡ fileOf (a .found) b = ap bytes (w .front .ensures) ∙ sym (ap (λ (f : Found). fileOf f b) (w .before .before .found .given .1)) in
+    let e = found-bytes b (w .before .before .found .given .1) (w .front .ensures) in
     content-taken (a .kind) (fileOf (a .found) b) (now (w .front .result)) (now (a .target)) (r .last .1 .1 .0) (r .result) e (s .pre .0) (c .before .before .before .before .if1 .left) (s .pre .1) (r .ensures .0) (r .ensures .1)
 
 pub take-content-spec : {M : Type 1} → statement M

@@ -1,9 +1,10 @@
 -- `take_picture`: each arm of the match is a law of FileLaws.
-use mathlib.Core.Path.{_≡_, sym, ap, _∙_}
+use mathlib.Core.Path.{sym, ap}
 use denote.Ref.{now}
+use Rattle.files.specs.File.{refused}
 use Rattle.session.specs.declared.Found.{Found}
-use Rattle.session.specs.Session.{bytes, fileOf, pictureAnswer}
-use Rattle.session.proofs.FileLaws.{read-long, picture-refused, picture-taken}
+use Rattle.session.specs.Session.{fileOf, pictureAnswer}
+use Rattle.session.proofs.FileLaws.{found-bytes, found-long, picture-refused, picture-taken}
 use borrow.Author.Needs.{needs}
 use Rattle.session.proofs.take_picture.Statement.{statement}
 use Rattle.session.proofs.take_picture.Tie as tie
@@ -34,8 +35,8 @@ returns c =
     let w = c .before .before in
     let a = w .before .before .before .before .before .before .before .args in
     let b = now (a .buffer) in
-    let e : bytes (now (w .front .result)) ≡ fileOf (a .found) b = ap bytes (w .front .ensures) ∙ sym (ap (λ (f : Found). fileOf f b) (w .before .before .found .given .1)) in
-    picture-refused (fileOf (a .found) b) (c .refused3 .result) (now (a .memory)) (now (a .registers)) (c .refused3 .ensures) (read-long 8704 1 (now (w .front .result)) (c .before .if1 .taken) ∙ ap pictureAnswer e)
+    picture-refused (fileOf (a .found) b) (c .refused3 .result) (now (a .memory)) (now (a .registers)) (c .refused3 .ensures)
+    (found-long (refused 20 0) 8704 1 b (w .before .before .found .given .1) (w .front .ensures) (c .before .if1 .taken))
 
 read-picture-requires : tie.Need-read-picture-requires
 read-picture-requires c κs = search needs
@@ -65,7 +66,7 @@ returns-4 c =
     let a = s .args in
     let b = now (a .buffer) in
     let r = c .before .before .before .before .read-picture in
-    let e : bytes (now (w .front .result)) ≡ fileOf (a .found) b = ap bytes (w .front .ensures) ∙ sym (ap (λ (f : Found). fileOf f b) (w .before .before .found .given .1)) in
+    let e = found-bytes b (w .before .before .found .given .1) (w .front .ensures) in
     picture-taken (fileOf (a .found) b) (now (w .front .result)) (now (a .memory)) (now (a .registers)) (r .last .1 .1 .0) (r .last .1 .1 .1 .0) (r .result) e (c .before .before .before .before .before .before .before .if1 .left) (s .pre .0) (s .pre .1) (r .ensures .0) (r .ensures .1 .0) (r .ensures .1 .1)
 
 pub take-picture-spec : {M : Type 1} → statement M

@@ -15,18 +15,6 @@ put-logic-from-requires c κs = search needs
 put-logic-from-requires-2 : tie.Need-put-logic-from-requires-2
 put-logic-from-requires-2 c κs = search needs
 
-cast-put-rounds : tie.Need-cast-put-rounds
-cast-put-rounds c = search needs
-
-cast-put-rounds-2 : tie.Need-cast-put-rounds-2
-cast-put-rounds-2 c = search needs
-
-cast-put-rounds-3 : tie.Need-cast-put-rounds-3
-cast-put-rounds-3 c = search needs
-
-cast-put-rounds-4 : tie.Need-cast-put-rounds-4
-cast-put-rounds-4 c = search needs
-
 put-rounds-requires : tie.Need-put-rounds-requires
 put-rounds-requires c κs = search needs
 
@@ -49,10 +37,6 @@ put-difference-spec =
     (tie.spec
     put-logic-from-requires
     put-logic-from-requires-2
-    cast-put-rounds
-    cast-put-rounds-2
-    cast-put-rounds-3
-    cast-put-rounds-4
     put-rounds-requires
     same-length
     returns)

@@ -6,11 +6,12 @@ use native.Mathlib.Omega.{arith}
 use borrow.Author.Needs.{needs}
 use denote.Ref.{now}
 use lib.ListN.{length}
+use Rattle.bits.specs.Steps.{putAt}
+use Rattle.bits.proofs.Puts.{put-nil}
 use Rattle.lists.specs.Lists.{encoded, rounds}
 use Rattle.lists.specs.Fields.{bitRound, bitRounds}
-use Rattle.lists.specs.Steps.{putAt}
 use Rattle.lists.proofs.ListLaws.{length-bits}
-use Rattle.lists.proofs.PutLaws.{rounds-more, put-nil}
+use Rattle.lists.proofs.PutLaws.{rounds-more}
 use Rattle.lists.proofs.rounds.put_rounds.Statement.{statement}
 use Rattle.lists.proofs.rounds.put_rounds.Tie as tie
 
@@ -23,8 +24,8 @@ abbrev μ-loop : tie.MeasureT-loop
 loop-holds : tie.Need-loop-holds Inv-loop μ-loop
 loop-holds c = (omega arith, refl, unfold rounds encoded in sym (put-nil _ _))
 
-wide-requires : tie.Need-wide-requires Inv-loop μ-loop
-wide-requires c κs = search needs
+cast-i : tie.Need-cast-i Inv-loop μ-loop
+cast-i c = search needs
 
 mul-i : tie.Need-mul-i Inv-loop μ-loop
 mul-i c = omega arith
@@ -35,11 +36,20 @@ add-i c = omega arith
 add-put-round : tie.Need-add-put-round Inv-loop μ-loop
 add-put-round c = omega arith
 
+cast-put-round : tie.Need-cast-put-round Inv-loop μ-loop
+cast-put-round c = omega arith
+
 add-put-round-2 : tie.Need-add-put-round-2 Inv-loop μ-loop
 add-put-round-2 c = omega arith
 
+cast-put-round-2 : tie.Need-cast-put-round-2 Inv-loop μ-loop
+cast-put-round-2 c = omega arith
+
 add-put-round-3 : tie.Need-add-put-round-3 Inv-loop μ-loop
 add-put-round-3 c = omega arith
+
+cast-put-round-3 : tie.Need-cast-put-round-3 Inv-loop μ-loop
+cast-put-round-3 c = omega arith
 
 put-round-requires : tie.Need-put-round-requires Inv-loop μ-loop
 put-round-requires c κs = search needs
@@ -52,15 +62,14 @@ loop-less c = omega arith
 
 loop-again : tie.Need-loop-again Inv-loop μ-loop
 loop-again c =
-    let a = c .before .before .before .before .before .before .before .before .args in
-    let l = c .before .before .before .before .before .before .loop in
-    let w = c .before .before .before .before .wide in
+    let a = c .before .before .before .before .before .before .before .args in
+    let l = c .before .before .before .before .before .loop in
     let o = c .before .before .put-round in
     let g : ℕ → List _ = λ k. bitRound (a .byte7) (a .a + k) (a .b + k) (a .s + k) in (
       omega arith,
       o .kept .0 ∙ l .inv .1,
-      rounds-more g (l .k) (a .at) (a .at + 5 * w .result) (now (a .list)) (l .list) (o .last .0) (omega arith)
-          (omega (arith, length-bits (a .byte7) (a .a) (a .b) (a .s) (l .k), w .ensures))
+      rounds-more g (l .k) (a .at) (a .at + 5 * l .k) (now (a .list)) (l .list) (o .last .0) (omega arith)
+          (omega (arith, length-bits (a .byte7) (a .a) (a .b) (a .s) (l .k)))
           (l .inv .2) (o .ensures),
     )
 
@@ -81,12 +90,15 @@ put-rounds-spec =
     Inv-loop
     μ-loop
     loop-holds
-    wide-requires
+    cast-i
     mul-i
     add-i
     add-put-round
+    cast-put-round
     add-put-round-2
+    cast-put-round-2
     add-put-round-3
+    cast-put-round-3
     put-round-requires
     add-k
     loop-less

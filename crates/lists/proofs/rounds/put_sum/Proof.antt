@@ -12,18 +12,6 @@ use Rattle.lists.proofs.rounds.put_sum.Tie as tie
 put-logic-from-requires : tie.Need-put-logic-from-requires
 put-logic-from-requires c κs = search needs
 
-cast-put-rounds : tie.Need-cast-put-rounds
-cast-put-rounds c = search needs
-
-cast-put-rounds-2 : tie.Need-cast-put-rounds-2
-cast-put-rounds-2 c = search needs
-
-cast-put-rounds-3 : tie.Need-cast-put-rounds-3
-cast-put-rounds-3 c = search needs
-
-cast-put-rounds-4 : tie.Need-cast-put-rounds-4
-cast-put-rounds-4 c = search needs
-
 put-rounds-requires : tie.Need-put-rounds-requires
 put-rounds-requires c κs = search needs
 
@@ -42,10 +30,6 @@ put-sum-spec =
     tie.close
     (tie.spec
     put-logic-from-requires
-    cast-put-rounds
-    cast-put-rounds-2
-    cast-put-rounds-3
-    cast-put-rounds-4
     put-rounds-requires
     same-length
     returns)

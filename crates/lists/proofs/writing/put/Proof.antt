@@ -5,10 +5,10 @@ use Prim.Native.Nat.{ℕ, _-_, _+_, _*_}
 use native.Mathlib.Omega.{arith}
 use denote.Ref.{now}
 use lib.ListN.{length}
+use Rattle.bits.specs.Steps.{putAt}
+use Rattle.bits.proofs.Puts.{part-put}
 use borrow.Author.Needs.{needs}
 use Rattle.lists.specs.Lists.{encoded}
-use Rattle.lists.specs.Steps.{putAt}
-use Rattle.lists.proofs.PutLaws.{part-put}
 use Rattle.lists.proofs.writing.put.Statement.{statement}
 use Rattle.lists.proofs.writing.put.Tie as tie
 

@@ -2,7 +2,7 @@
 use mathlib.Core.Path.{refl, _∙_}
 use Rattle.bits.specs.Bits.{digit}
 use Rattle.bits.proofs.Binary.{digit-bit}
-use Rattle.registers.proofs.LogicLaws.{spread-at, mixed-of, function-picked}
+use Rattle.registers.proofs.LogicLaws.{mixed-of, mixed-spread, function-picked}
 use borrow.Author.Needs.{needs}
 use Rattle.registers.proofs.bytes.function_byte.Statement.{statement}
 use Rattle.registers.proofs.bytes.function_byte.Tie as tie
@@ -30,16 +30,12 @@ mix-requires-3 c κs = search needs
 
 returns : tie.Need-returns
 returns c j h =
-    let c6 = c .before in
-    let c5 = c6 .before in
-    let c4 = c5 .before in
-    let c3 = c4 .before in
-    let c2 = c3 .before in
-    let c1 = c2 .before in
-    let a = c1 .before .args in
+    let two = c .before in
+    let one = two .before .before .before in
+    let a = one .before .before .before .args in
     mixed-of _ _ (a .old) _ j _ _ (digit (a .old) j) (c .mix3 .ensures)
-    (mixed-of _ _ (a .item) _ j _ _ (digit (a .item) j) (c3 .mix .ensures) (spread-at _ (a .byte7) 0 j (c1 .spread .ensures) h) (spread-at _ (a .byte7) 1 j (c2 .spread2 .ensures) h) refl)
-    (mixed-of _ _ (a .item) _ j _ _ (digit (a .item) j) (c6 .mix2 .ensures) (spread-at _ (a .byte7) 2 j (c4 .spread3 .ensures) h) (spread-at _ (a .byte7) 3 j (c5 .spread4 .ensures) h) refl)
+    (mixed-spread (a .byte7) 0 (a .byte7) 1 (a .item) j (one .mix .ensures) (one .before .before .spread .ensures) (one .before .spread2 .ensures) h)
+    (mixed-spread (a .byte7) 2 (a .byte7) 3 (a .item) j (two .mix2 .ensures) (two .before .before .spread3 .ensures) (two .before .spread4 .ensures) h)
     refl
     ∙ function-picked (a .byte7) (digit-bit (a .old) j) (digit-bit (a .item) j)
 

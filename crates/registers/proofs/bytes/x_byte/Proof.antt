@@ -5,7 +5,7 @@ use Prim.Native.Nat.{_/_, _%_}
 use Rattle.bits.specs.Bits.{digit}
 use Rattle.bits.proofs.Binary.{digit-bit}
 use Rattle.registers.specs.Logic.{functionBit, newX}
-use Rattle.registers.proofs.LogicLaws.{spread-at, mixed-of, mask-X}
+use Rattle.registers.proofs.LogicLaws.{mixed-of, mixed-spread, mask-X}
 use borrow.Author.Needs.{needs}
 use native.Mathlib.Omega.{arith}
 use Rattle.registers.proofs.bytes.x_byte.Statement.{statement}
@@ -29,13 +29,10 @@ mix-requires-2 c κs = search needs
 returns : tie.Need-returns
 unfolding newX
 returns c j h =
-    let c4 = c .before in
-    let c3 = c4 .before in
-    let c2 = c3 .before in
-    let c1 = c2 .before in
-    let a = c1 .before .args in
-    mixed-of (a .x) _ _ _ j _ _ _ (c .mix2 .ensures) refl (c4 .function-byte .ensures j h)
-    (mixed-of _ _ (a .y) _ j _ _ _ (c3 .mix .ensures) (spread-at _ 5 (a .byte7 / 16) j (c1 .spread .ensures) h) (spread-at _ 29 (a .byte7 / 16) j (c2 .spread2 .ensures) h) refl)
+    let one = c .before .before in
+    let a = one .before .before .before .args in
+    mixed-of (a .x) _ _ _ j _ _ _ (c .mix2 .ensures) refl (c .before .function-byte .ensures j h)
+    (mixed-spread 5 (a .byte7 / 16) 29 (a .byte7 / 16) (a .y) j (one .mix .ensures) (one .before .before .spread .ensures) (one .before .spread2 .ensures) h)
     ∙ ap (λ (b : Bool). cond b (functionBit (a .byte7 % 16) (digit (a .x) j) (digit (a .item) j)) (digit (a .x) j)) (mask-X (a .byte7 / 16) (digit-bit (a .y) j) (omega arith))
 
 pub x-byte-spec : {M : Type 1} → statement M

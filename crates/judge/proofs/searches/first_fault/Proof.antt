@@ -1,4 +1,4 @@
--- `judge::lists::first_fault`: none of the instructions passed has a number. Assumes nothing.
+-- `judge::searches::first_fault`: none of the instructions passed has a number. Assumes nothing.
 use mathlib.Core.Path.{sym, ap, _∙_}
 use mathlib.Core.Bool.{not}
 use Prim.Native.Nat.{_≤_, _-_, _/_}
@@ -9,8 +9,8 @@ use Rattle.bits.proofs.Search.{NoneBelow, none-start, none-more, found, found-n
 use Rattle.judge.specs.Judge.{faultOf, faulty}
 use borrow.Author.Needs.{needs}
 use native.Mathlib.Omega.{arith}
-use Rattle.judge.proofs.lists.first_fault.Statement.{statement}
-use Rattle.judge.proofs.lists.first_fault.Tie as tie
+use Rattle.judge.proofs.searches.first_fault.Statement.{statement}
+use Rattle.judge.proofs.searches.first_fault.Tie as tie
 
 abbrev Inv-loop : tie.InvT-loop
 Inv-loop list n k₀ k = (k ≤ n) × NoneBelow (faulty list) k

@@ -1,4 +1,4 @@
--- `judge::lists::shortage`: none of the instructions passed lacks what it uses, and those that use some were counted. Assumes nothing.
+-- `judge::searches::shortage`: none of the instructions passed lacks what it uses, and those that use some were counted. Assumes nothing.
 use mathlib.Core.Path.{_≡_, refl, sym, ap, _∙_}
 use Prim.Native.Nat.{_≤_, _-_, _/_}
 use denote.Ref.{now}
@@ -9,8 +9,8 @@ use Rattle.judge.specs.Judge.{instructionAt, lacks, uses}
 use Rattle.judge.proofs.Shortage.{lacks-is, short-is, counted}
 use borrow.Author.Needs.{needs}
 use native.Mathlib.Omega.{arith}
-use Rattle.judge.proofs.lists.shortage.Statement.{statement}
-use Rattle.judge.proofs.lists.shortage.Tie as tie
+use Rattle.judge.proofs.searches.shortage.Statement.{statement}
+use Rattle.judge.proofs.searches.shortage.Tie as tie
 
 abbrev Inv-loop : tie.InvT-loop
 Inv-loop room list have n used₀ k₀ used k =

@@ -1,10 +1,10 @@
--- `judge::lists::uses`: by whether room or an item is meant. Assumes nothing.
+-- `judge::searches::uses`: by whether room or an item is meant. Assumes nothing.
 use mathlib.Core.Path.{sym, ap, _∙_}
 use mathlib.Core.Bool.{Bool}
 use Rattle.judge.specs.Judge.{uses}
 use borrow.Author.Needs.{needs}
-use Rattle.judge.proofs.lists.uses.Statement.{statement}
-use Rattle.judge.proofs.lists.uses.Tie as tie
+use Rattle.judge.proofs.searches.uses.Statement.{statement}
+use Rattle.judge.proofs.searches.uses.Tie as tie
 
 gives-requires : tie.Need-gives-requires
 gives-requires c κs = search needs
