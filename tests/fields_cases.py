@@ -9,25 +9,18 @@ S = A + B or A - B modulo 2^n in each word, Y the carry out (1 = no borrow in a 
 import random
 from pathlib import Path
 
+from plain_array import memory_of, table_of
+
 SUM, DIFFERENCE = 0, 1
 
 
 def word_values(memory):
-    """Each word as a whole number: location B of chip C holds bit B of word B xor C."""
-    words = [0] * 256
-    for chip in range(256):
-        for location in range(256):
-            bit = memory[32 * chip + location // 8] >> (location % 8) & 1
-            words[location ^ chip] |= bit << location
-    return words
+    """Each word as a whole number."""
+    return [sum(bit << k for k, bit in enumerate(word)) for word in table_of(memory)]
 
 
-def memory_of(words):
-    memory = bytearray(8192)
-    for chip in range(256):
-        for location in range(256):
-            memory[32 * chip + location // 8] |= (words[location ^ chip] >> location & 1) << (location % 8)
-    return bytes(memory)
+def memory_with(values):
+    return memory_of([[value >> k & 1 for k in range(256)] for value in values])
 
 
 def number_of(kind, a, b, s, n, have):
@@ -96,7 +89,7 @@ def main():
         bytes([kind]) + b''.join(x.to_bytes(4, 'little') for x in (a, b, s, n)) + have.to_bytes(2, 'little') for kind, a, b, s, n, have in cases)
     trial = Path(__file__).resolve().parent.parent / 'crates' / 'fields_trial'
     (trial / 'stdin').write_bytes(given)
-    (trial / 'stdout').write_bytes(out + memory_of(words) + regs)
+    (trial / 'stdout').write_bytes(out + memory_with(words) + regs)
     print(f'{len(cases)} cases, {done} of them run')
 
 

@@ -5,40 +5,15 @@
     tests/memory_cases.py KIND MODE ADDR N    writes a standard input with N such steps to standard output (for counting)
 
 Only the access rule "line P meets bit ((not M) and G) xor (M and P) of word (M and G) xor ((not M) and P)" moves bits
-here; the storage rule is used once to read the lent bytes and once to write them.
+here; the storage rule is used once to read the lent bytes and once to write them (plain_array.py).
 """
 import random
 import sys
 from pathlib import Path
 
+from plain_array import bits_of, bytes_of, memory_of, met, table_of
+
 LOAD, STORE, MASKED, QUIET = 0, 1, 2, 3
-
-
-def bits_of(item):
-    return [item[k // 8] >> (k % 8) & 1 for k in range(8 * len(item))]
-
-
-def bytes_of(bits):
-    return bytes(sum(bits[8 * i + j] << j for j in range(8)) for i in range(len(bits) // 8))
-
-
-def table_of(memory):
-    """words[w][b]: location B of chip C holds bit B of word B xor C."""
-    words = [[0] * 256 for _ in range(256)]
-    for chip in range(256):
-        for location, bit in enumerate(bits_of(memory[32 * chip:32 * chip + 32])):
-            words[location ^ chip][location] = bit
-    return words
-
-
-def memory_of(words):
-    return b''.join(bytes_of([words[location ^ chip][location] for location in range(256)]) for chip in range(256))
-
-
-def met(mode, addr, line):
-    """The word and the bit that a line meets."""
-    other = 255 - mode
-    return (mode & addr) ^ (other & line), (other & addr) ^ (mode & line)
 
 
 def run(memory, item, mask, steps):

@@ -5,37 +5,16 @@
     tests/module_cases.py K BYTES N      writes a standard input with K runs of N instructions BYTES (16 hex digits) to standard output
     tests/module_cases.py K sum N        the same with the list of an N-bit sum
 
-The memory is a table of words and bits; the network moves one line at a time; the judge tries the table's rows in the order of the document.
+The memory is a table of words and bits (plain_array.py); the network moves one line at a time; the judge tries the table's rows in the order of the document.
 """
 import random
 import sys
 from pathlib import Path
 
+from plain_array import bits_of, bytes_of, memory_of, met, table_of
+
 CODES = [0] + [16 * p + m for p in range(1, 9) for m in range(p)]
 MEMORY, REGISTERS, OUT = 8200, 128, 512
-
-
-def bits_of(item):
-    return [item[k // 8] >> (k % 8) & 1 for k in range(8 * len(item))]
-
-
-def bytes_of(bits):
-    return bytes(sum(bits[8 * i + j] << j for j in range(8)) for i in range(len(bits) // 8))
-
-
-def table_of(memory):
-    """words[w][b]: location B of chip C holds bit B of word B xor C."""
-    words = [[0] * 256 for _ in range(256)]
-    for chip in range(256):
-        for location, bit in enumerate(bits_of(memory[32 * chip:32 * chip + 32])):
-            words[location ^ chip][location] = bit
-    return words
-
-
-def line_of(mode, address, p):
-    """The word and the bit that line P meets."""
-    other = 255 - mode
-    return (mode & address) ^ (other & p), (other & address) ^ (mode & p)
 
 
 def passed(lines, flip, code):
@@ -115,15 +94,12 @@ class Machine:
         return bytes_of(self.m) + bytes_of(self.x) + bytes_of(self.y)
 
     def memory(self):
-        chips = []
-        for chip in range(256):
-            chips += [self.words[location ^ chip][location] for location in range(256)]
-        return bytes_of(chips)
+        return memory_of(self.words)
 
     def item(self, ins, items):
         kind, source, tag, mode, address = ins[:5]
         if source == 0:
-            return [self.words[w][b] for w, b in (line_of(mode, address, p) for p in range(256))]
+            return [self.words[w][b] for w, b in (met(mode, address, p) for p in range(256))]
         return (self.m, self.x, self.y)[source - 1] if source < 4 else bits_of(items)
 
     def logic(self, f, byte7):
@@ -150,7 +126,7 @@ class Machine:
         else:
             for p in range(256):
                 if kind == 2 or self.m[p ^ flip]:
-                    w, b = line_of(mode, address, p)
+                    w, b = met(mode, address, p)
                     self.words[w][b] = f[p]
 
     def run(self, memory, registers, program, items, out):

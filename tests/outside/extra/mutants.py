@@ -3,7 +3,7 @@
     python3 extra/mutants.py [NUMBER ...]
 
 The repository is copied into a temporary directory; there each mistake in turn is put into the copy,
-the copy answers cases/stdin, and the answers are compared with cases/stdout. A mistake that no case
+the copy answers the stored cases (crates/vectors/stdin), and the answers are compared with its stdout. A mistake that no case
 notices is printed as SURVIVED.
 """
 import os
@@ -99,7 +99,7 @@ M=[
 
 def main():
     only = [int(a) for a in sys.argv[1:]]
-    expected = open(os.path.join(HERE, 'cases/stdout'), 'rb').read().split(b'\n')
+    expected = open(os.path.join(HERE, '../../crates/vectors/stdout'), 'rb').read().split(b'\n')
     survived = 0
     with tempfile.TemporaryDirectory() as room:
         copy = os.path.join(room, 'copy')
@@ -113,7 +113,7 @@ def main():
             open(path, 'w').write(source.replace(old, new))
             subprocess.run(['cargo', 'build', '--offline', '--release', '-q', '-p', 'cases'], cwd=copy, check=True,
                            stderr=subprocess.DEVNULL)
-            with open(os.path.join(HERE, 'cases/stdin')) as cases:
+            with open(os.path.join(HERE, '../../crates/vectors/stdin')) as cases:
                 run = subprocess.run([os.path.join(copy, 'target/release/cases'), '--answer'], stdin=cases,
                                      capture_output=True)
             open(path, 'w').write(source)

@@ -1,7 +1,7 @@
 """The making of the buffers and the digest once more, from PROTOCOL.md alone: checks that page and
 the stored files against each other for every buffer that a call leaves as it was.
 
-    python3 extra/protocol.py cases/stdin cases/stdout
+    python3 extra/protocol.py ../../crates/vectors/stdin ../../crates/vectors/stdout
 """
 import sys
 def nxt(x):

@@ -16,7 +16,7 @@ const STORED_SEED: u64 = 1975;
 const STORED_RANDOM: usize = 300;
 
 const USAGE: &str = "\
-cases                               write the stored cases: cases/stdin and cases/stdout
+cases                               write the stored cases: stdin and stdout of crates/vectors
 cases --seed N --count M            write M random cases of seed N instead
       --to DIRECTORY                ... into this directory (for both of the above)
       --open-points                 ... also on points that document 01 leaves open
@@ -32,7 +32,7 @@ fn main() {
     let mut words: Vec<&str> = arguments.iter().map(|s| s.as_str()).collect();
     let mut seed: Option<u64> = None;
     let mut count: Option<usize> = None;
-    let mut directory = "cases".to_string();
+    let mut directory = "../../crates/vectors".to_string();
     let mut open_points = false;
     let mut rest: Vec<&str> = vec![];
     while !words.is_empty() {
