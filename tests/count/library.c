@@ -1,0 +1,87 @@
+/* Makes one call of the library some times, on fixed buffers, so that its executed instructions can be counted:
+ *     library CALL TIMES
+ * tests/count-library runs it. */
+#include "staran.h"
+
+#include <stdio.h>
+#include <stdlib.h>
+#include <string.h>
+
+enum { WIDTH = 32, LIST = 8192 };
+
+static uint8_t memory[STARAN_MEMORY_BYTES], registers[STARAN_REGISTERS_BYTES], out[STARAN_ITEM_BYTES];
+static uint8_t list[STARAN_SUM_LIST_BYTES(WIDTH)], content[LIST], target[LIST], file[STARAN_FILE_BYTES(LIST)], picture[STARAN_PICTURE_FILE_BYTES];
+static staran_registers record;
+static uint8_t item[32], passed[32];
+static uint32_t answer[5];
+
+/* What the calls start from: no two neighbouring bytes are alike, and the files are whole. */
+static void prepare(void)
+{
+    for (size_t i = 0; i < sizeof memory; i++)
+        memory[i] = (uint8_t)(i * 167 + i / 256);
+    for (size_t i = 0; i < sizeof content; i++)
+        content[i] = (uint8_t)(i * 59);
+    memcpy(registers, content, sizeof registers);
+    memcpy(item, content + 7, sizeof item);
+    staran_sum_list(0, 32, 64, WIDTH, list, sizeof list, answer);
+    staran_write_content(STARAN_LIST, content, sizeof content, file, sizeof file, answer);
+    staran_write_picture(STARAN_PICTURE, memory, sizeof memory, registers, sizeof registers, picture, sizeof picture, answer);
+}
+
+static void pass(uint8_t flip, uint8_t code) { staran_pass(item, flip, code, passed, answer); }
+
+static void read_list(size_t length)
+{
+    staran_read_content(STARAN_LIST, file, length, target, sizeof target, answer);
+}
+
+static int call(const char *name)
+{
+    if (strcmp(name, "pass-both") == 0)
+        pass(90, 0x83);
+    else if (strcmp(name, "pass-shift") == 0)
+        pass(0, 0x83);
+    else if (strcmp(name, "pass-flip") == 0)
+        pass(90, 0);
+    else if (strcmp(name, "pass-none") == 0)
+        pass(0, 0);
+    else if (strcmp(name, "wired-pass") == 0)
+        staran_wired_pass(item, 90, 0x83, passed, answer);
+    else if (strcmp(name, "sum-list") == 0)
+        staran_sum_list(0, 32, 64, WIDTH, list, sizeof list, answer);
+    else if (strcmp(name, "run-sum") == 0)
+        staran_run(memory, sizeof memory, registers, sizeof registers, list, sizeof list, item, 0, out, sizeof out, answer);
+    else if (strcmp(name, "step") == 0)
+        staran_step(memory, sizeof memory, &record, item, 0, out, sizeof out, list, STARAN_INSTRUCTION_BYTES, answer);
+    else if (strcmp(name, "read-list") == 0)
+        read_list(sizeof file);
+    else if (strcmp(name, "read-damaged") == 0) {
+        file[20] ^= 1; /* the first block alone, whose sums then differ: what is judged of it is its sums */
+        read_list(STARAN_BLOCK_BYTES);
+        file[20] ^= 1;
+    } else if (strcmp(name, "write-list") == 0)
+        staran_write_content(STARAN_LIST, content, sizeof content, file, sizeof file, answer);
+    else if (strcmp(name, "read-picture") == 0)
+        staran_read_picture(STARAN_PICTURE, picture, sizeof picture, memory, sizeof memory, registers, sizeof registers, answer);
+    else if (strcmp(name, "write-picture") == 0)
+        staran_write_picture(STARAN_PICTURE, memory, sizeof memory, registers, sizeof registers, picture, sizeof picture, answer);
+    else
+        return 0;
+    return 1;
+}
+
+int main(int count, char **words)
+{
+    if (count != 3) {
+        fputs("usage: library CALL TIMES\n", stderr);
+        return 2;
+    }
+    prepare();
+    for (int times = atoi(words[2]); times > 0; times--)
+        if (!call(words[1])) {
+            fputs("no such call\n", stderr);
+            return 2;
+        }
+    return 0;
+}
