@@ -1,7 +1,7 @@
 -- A number that is 0 or 1, by its two cases. Assumes nothing.
 use mathlib.Core.Path.{_≡_, refl}
 use mathlib.Core.Bool.{Bool, true, false, cond}
-use Prim.Native.Nat.{ℕ, zero, suc, _-_, _/_, _%_, _^_, _<_, min}
+use Prim.Native.Nat.{ℕ, zero, suc, _-_, _/_, _%_, _^_, _<_, min, max}
 use native.Mathlib.Omega.{arith}
 use lib.Bits.{differ}
 
@@ -41,6 +41,12 @@ min-bit off off = off
 min-bit off on = off
 min-bit on off = off
 min-bit on on = on
+
+pub max-bit : {x y : ℕ} → Bit x → Bit y → Bit (max x y)
+max-bit off off = off
+max-bit off on = on
+max-bit on off = on
+max-bit on on = on
 
 pub differ-assoc : {x y z : ℕ} → Bit x → Bit y → Bit z → differ (differ x y) z ≡ differ x (differ y z)
 differ-assoc off off off = refl

@@ -6,7 +6,7 @@ use native.Mathlib.Nat.{pow-suc, mod-eq-of-lt, mod-one, div-eq-of-lt, one-mul}
 use native.Mathlib.Numerals.{add-one, one-add}
 use native.Mathlib.Decide.{decLt, ℕ-discrete}
 use native.Mathlib.Omega.{arith}
-use lib.Bits.{bitOr, bitAnd, bitXor, differ, or-shifted-r, and-lt, xor-lt}
+use lib.Bits.{bitOr, bitAnd, bitXor, differ, or-shifted-r}
 use lib.Dec.{eqb}
 use lib.Pow.{pow-pos, pow-add, pow-lt, high, low, field, mod-mod-pow, mod-pow-add, shl-exact, shl-shr}
 use borrow.Author.Tests.{eq-eqb, ne-eqb}
@@ -143,6 +143,3 @@ digit-mixed a b m j =
     digit-xor a (bitAnd (bitXor a b) m) j
     ∙ ap (differ (digit a j)) (digit-and (bitXor a b) m j ∙ ap (λ (x : ℕ). min x (digit m j)) (digit-xor a b j))
     ∙ mixed-bit (digit-bit a j) (digit-bit b j) (digit-bit m j)
-
-pub mixed-lt : (k a b m : ℕ) → a < 2 ^ k → b < 2 ^ k → m < 2 ^ k → mixed a b m < 2 ^ k
-mixed-lt k a b m ha hb hm = xor-lt k a (bitAnd (bitXor a b) m) ha (and-lt k (bitXor a b) m (xor-lt k a b ha hb) hm)

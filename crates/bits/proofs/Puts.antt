@@ -1,14 +1,16 @@
 -- Laws of bytes put into a list: a lent part that came back, one byte, one piece after another. Assumes nothing.
 use mathlib.Core.Path.{_≡_, sym, ap, ap₂, _∙_}
-use mathlib.Core.List.{List, [], _∷_, _++_, append-assoc}
+use mathlib.Core.List.{List, [], _∷_, _++_, append-assoc, append-nil}
 use Prim.Native.Nat.{ℕ, _+_, _-_, _<_, _≤_}
 use native.Mathlib.Nat.{add-zero, zero-add}
 use native.Mathlib.Numerals.{add-one}
 use native.Mathlib.Omega.{arith}
-use lib.ListN.{length, take, drop, set, length-append, take-append-drop}
+use lib.ListN.{length, take, drop, set, length-append, take-append-drop, drop-of-length-le}
 use lib.Seq.{take-at, drop-append-add, drop-drop, length-take-le, set-split}
 use borrow.Rule.Slice.PartMut.{putMid}
+use Rattle.bits.specs.Bits.{listed}
 use Rattle.bits.specs.Steps.{putAt}
+use Rattle.bits.proofs.Items.{length-listed, listed-append}
 
 -- a part that was lent on and came back as ys
 pub part-put : (k e : ℕ) (xs ys : List ℕ) → length ys ≡ e - k → putMid k (e - k) xs ys ≡ putAt k ys xs
@@ -47,3 +49,15 @@ put-put k j ys zs xs h e =
 pub put-front : (ys xs : List ℕ) → putAt 0 ys xs ≡ ys ++ drop (length ys) xs
 unfolding putAt
 put-front ys xs = ap (λ (n : ℕ). ys ++ drop n xs) (zero-add (length ys))
+
+-- over the whole list
+pub put-all : (ys xs : List ℕ) → length ys ≡ length xs → putAt 0 ys xs ≡ ys
+put-all ys xs e = put-front ys xs ∙ ap (λ (z : List ℕ). ys ++ z) (drop-of-length-le xs {i = length ys} (omega arith)) ∙ append-nil ys
+
+-- m elements more, put behind the first n
+pub put-more : (ψ : ℕ → ℕ) (at n m k : ℕ) (xs₀ xs ys : List ℕ) → at ≤ length xs₀ → k ≡ at + n → xs ≡ putAt at (listed ψ n) xs₀ → ys ≡ listed (λ i. ψ (n + i)) m
+    → putAt k ys xs ≡ putAt at (listed ψ (n + m)) xs₀
+put-more ψ at n m k xs₀ xs ys h ek ex ey =
+    ap₂ (λ (y x : List ℕ). putAt k y x) ey ex
+    ∙ put-put at k (listed ψ n) (listed (λ i. ψ (n + i)) m) xs₀ h (ek ∙ ap (λ (x : ℕ). at + x) (sym (length-listed ψ n)))
+    ∙ ap (λ (y : List ℕ). putAt at y xs₀) (listed-append ψ n m)

@@ -1,12 +1,12 @@
--- Laws of xor, of and, and of the complement below 2 ^ n, over the width n. Assumes nothing.
+-- Laws of xor, of and, of or, and of the complement below 2 ^ n, over the width n. Assumes nothing.
 use mathlib.Core.Path.{_≡_, refl, sym, ap, ap₂, _∙_}
-use Prim.Native.Nat.{ℕ, zero, suc, _+_, _-_, _*_, _/_, _%_, _^_, _<_, min}
+use Prim.Native.Nat.{ℕ, zero, suc, _+_, _-_, _*_, _/_, _%_, _^_, _<_, min, max}
 use native.Mathlib.Nat.{pow-suc, mod-lt}
 use native.Mathlib.Omega.{arith}
 use lib.Arith.{bin-ind, digits-div, digits-mod, lt-one}
 use lib.Pow.{pow-pos, split}
-use lib.Bits.{bitAnd, bitXor, differ, and-step, xor-step, xor-zero-r, xor-self, xor-comm, xor-shr, and-shr, xor-block, and-block}
-use Rattle.bits.proofs.Binary.{bit-lt, low-bit, differ-bit, min-bit, differ-assoc, min-differ, differ-min}
+use lib.Bits.{bitAnd, bitOr, bitXor, differ, and-step, or-step, xor-step, xor-zero-r, xor-self, xor-comm, xor-shr, and-shr, or-shr, xor-block, and-block}
+use Rattle.bits.proofs.Binary.{bit-lt, low-bit, differ-bit, min-bit, max-bit, differ-assoc, min-differ, differ-min}
 
 -- ---- the lowest digit and the rest
 
@@ -30,11 +30,19 @@ and-half a b =
     ap (λ (x : ℕ). x / 2) (and-step a b)
     ∙ digits-div (bitAnd (a / 2) (b / 2)) (bit-lt (min-bit (low-bit a) (low-bit b)))
 
+pub or-low : (a b : ℕ) → bitOr a b % 2 ≡ max (a % 2) (b % 2)
+or-low a b =
+    ap (λ (x : ℕ). x % 2) (or-step a b)
+    ∙ digits-mod (bitOr (a / 2) (b / 2)) (bit-lt (max-bit (low-bit a) (low-bit b)))
+
 pub digit-xor : (a b j : ℕ) → bitXor a b / 2 ^ j % 2 ≡ differ (a / 2 ^ j % 2) (b / 2 ^ j % 2)
 digit-xor a b j = ap (λ (x : ℕ). x % 2) (xor-shr a b j) ∙ xor-low (a / 2 ^ j) (b / 2 ^ j)
 
 pub digit-and : (a b j : ℕ) → bitAnd a b / 2 ^ j % 2 ≡ min (a / 2 ^ j % 2) (b / 2 ^ j % 2)
 digit-and a b j = ap (λ (x : ℕ). x % 2) (and-shr a b j) ∙ and-low (a / 2 ^ j) (b / 2 ^ j)
+
+pub digit-or : (a b j : ℕ) → bitOr a b / 2 ^ j % 2 ≡ max (a / 2 ^ j % 2) (b / 2 ^ j % 2)
+digit-or a b j = ap (λ (x : ℕ). x % 2) (or-shr a b j) ∙ or-low (a / 2 ^ j) (b / 2 ^ j)
 
 -- ---- xor is a group, and and goes over it
 

@@ -5,12 +5,12 @@ ghost use lib.Bits.{bitOr};
 ghost use lib.ListN.{length, getD};
 ghost use Rattle.bits.specs.Bits.{digit, bitOf, listed};
 
-// Digit `j` of `x`, moved to digit `s`.
+// Digit `j` of `x`, moved to digit `s`. By a branch: it becomes one comparison of a whole lane, and x86-64 has no shift of bytes.
 fn moved_digit(x: u8, j: u8, s: u8) -> u8
     requires { ⌜ (j < 8) × (s < 8) ⌝ }
     ensures { λ r. ⌜ r ≡ digit x j * 2 ^ s % 256 ⌝ }
 {
-    ((x >> j) % 2) << s
+    if (x >> j) % 2 == 0 { 0 } else { 1u8 << s }
 }
 
 // Lane `j` of the item, moved to digit `s` of each byte of `out`, whose other digits become 0.
@@ -34,6 +34,20 @@ pub fn gather_lane<'a>(acc: &'a [u8; 32], lane: &'a [u8], s: u8, j: u8) -> [u8; 
     let mut i: usize = 0;
     while i < 32 {
         out[i] = acc[i] | moved_digit(lane[i], s, j);
+        i += 1;
+    }
+    out
+}
+
+// The same where digit `j` stays digit `j`: nothing is shifted.
+pub fn keep_lane<'a>(acc: &'a [u8; 32], lane: &'a [u8], j: u8) -> [u8; 32]
+    requires { ⌜ (length (now lane) ≡ 32) × (j < 8) ⌝ }
+    ensures { λ r. ⌜ r ≡ listed (λ i. bitOr (getD (now (acc .entry)) i 0) (digit (getD (now (lane .entry)) i 0) j * 2 ^ j % 256)) 32 ⌝ }
+{
+    let mut out = [0u8; 32];
+    let mut i: usize = 0;
+    while i < 32 {
+        out[i] = acc[i] | moved_digit(lane[i], j, j);
         i += 1;
     }
     out

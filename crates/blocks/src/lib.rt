@@ -157,7 +157,7 @@ fn high(x: usize) -> u8
 }
 
 // Makes a block of a payload that already stands in it, `used` bytes from byte 12 on: header, zeros and sums.
-pub fn seal(kind: usize, place: usize, count: usize, used: usize, out: &mut [u8])
+fn seal(kind: usize, place: usize, count: usize, used: usize, out: &mut [u8])
     requires { ⌜ (kind < 65536) × (place < 65536) × (count < 65536) × (used ≤ 496) × (length (now out) ≡ 512) ⌝ }
     ensures { λ _. ⌜ now (out .exit) ≡ block kind place count (take used (drop 12 (now (out .entry)))) ⌝ }
 {

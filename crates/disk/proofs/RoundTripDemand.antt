@@ -10,6 +10,7 @@ use lib.Seq.{take-at, drop-at}
 use borrow.Author.Tests.{le-leb, eq-eqb}
 use Rattle.blocks.specs.Sums.{at}
 use Rattle.blocks.proofs.BlockLaws.{and-left, and-right}
+use Rattle.memory.proofs.PlainLaws.{length-plain, length-scrambled}
 use Rattle.files.specs.declared.Answer.{Answer}
 use Rattle.files.specs.File.{done, contentOf, kindRight, sizeFits, judge, blockCount, blocksOf}
 use Rattle.files.specs.Content.{changed, over, targetFits, contentFits}
@@ -19,7 +20,7 @@ use Rattle.files.proofs.FileLaws.{judge-stands, Stands}
 use Rattle.files.proofs.AnswerLaws.{changed-done, read-done, read-stands, write-stands, write-done}
 use Rattle.files.proofs.RoundTrip.{all-length, all-content, trip}
 use Rattle.files.proofs.OneForm.{content-bytes, one-form}
-use Rattle.disk.proofs.PictureLaws.{length-picture, length-plain, length-scrambled, fits-are, picture-size, picture-stands, picture-judged, plain-scrambled, scrambled-plain}
+use Rattle.disk.proofs.PictureLaws.{length-picture, fits-are, picture-size, picture-stands, picture-judged, content-plain, picture-scrambled}
 
 -- ---- the bytes put out are the blocks
 
@@ -89,7 +90,7 @@ picture-read memory registers memory′ registers′ bytes lm lr small lm′ lr�
     let r : done 8288 ≡ pictureAnswer 1 bytes memory′ registers′ = read-done 1 bytes (pictureFits 1 (length memory′) (length registers′)) (done 8288) (sym q) refl f in
     let z = sym (ap (λ (x : Answer). x .number) r) in (
       sym r,
-      sym (changed-done (pictureAnswer 1 bytes memory′ registers′) (scrambled (contentOf bytes)) memory′ z) ∙ ap scrambled c ∙ scrambled-plain memory registers lm small,
+      sym (changed-done (pictureAnswer 1 bytes memory′ registers′) (scrambled (contentOf bytes)) memory′ z) ∙ ap scrambled c ∙ picture-scrambled memory registers lm small,
       sym (changed-done (pictureAnswer 1 bytes memory′ registers′) (drop 8192 (contentOf bytes)) registers′ z) ∙ ap (drop 8192) c ∙ drop-at (plainWords memory) registers 8192 (length-plain memory),
     )
 
@@ -112,7 +113,7 @@ picture-written bytes memory registers out q small em er h =
     let s = picture-stands bytes q in
     let n = picture-size bytes q in
     let p : pictureOf memory registers ≡ c =
-    ap₂ (λ (x y : List ℕ). plainWords x ++ y) em er ∙ ap (λ (x : List ℕ). x ++ drop 8192 c) (plain-scrambled c (omega arith) (content-bytes 1 bytes s small)) ∙ take-append-drop 8192 c in
+    ap₂ (λ (x y : List ℕ). plainWords x ++ y) em er ∙ ap (λ (x : List ℕ). x ++ drop 8192 c) (content-plain c (omega arith) (content-bytes 1 bytes s small)) ∙ take-append-drop 8192 c in
     let b : blocksOf 1 (pictureOf memory registers) ≡ bytes = ap (blocksOf 1) p ∙ one-form 1 bytes s small in
     let m : 8704 ≡ length bytes = sym (all-length 1 (pictureOf memory registers) ∙ ap (λ (k : ℕ). 512 * blockCount k) (ap length p ∙ n)) ∙ ap length b in
     let lr : length registers ≡ 96 = ap length er ∙ length-drop 8192 c ∙ omega arith in

@@ -33,7 +33,7 @@ module _ (kind : ℕ) (bytes : List ℕ) (s : Stands kind bytes) where
   good-at : (i : ℕ) → i < n → Good (blockAt bytes i) kind i n
   good-at i h = fault-good (blockAt bytes i) kind i n (judged-each kind bytes n n i h (s .blocks))
 
-  used-small : (i : ℕ) → i < n → used i ≤ 496
+  pub used-small : (i : ℕ) → i < n → used i ≤ 496
   used-small i h = used-le i n (used i) (good-at i h .used)
 
   -- every block but the last is full

@@ -43,7 +43,7 @@ blocks-more kind content count i out old ys e p =
     ∙ ap (λ (k : ℕ). firstBlocks kind content count k ++ drop (512 * (i + 1)) old) (sym (add-one i))
 
 -- as much as there is
-pub take-min : (k : ℕ) (l : List ℕ) → take (min k (length l)) l ≡ take k l
+take-min : (k : ℕ) (l : List ℕ) → take (min k (length l)) l ≡ take k l
 take-min k l = go (decLt k (length l))
   where
     go : Dec (k < length l) → take (min k (length l)) l ≡ take k l

@@ -110,7 +110,7 @@ fn unload(block: &[u8], at: usize, target: &mut [u8]) -> usize
 }
 
 // The content of the first `count` blocks, to the start of the target.
-fn gather(bytes: &[u8], count: usize, target: &mut [u8])
+pub fn gather(bytes: &[u8], count: usize, target: &mut [u8])
     requires { ⌜ (512 * count ≤ length (now bytes)) × ((i : ℕ) → i < count → twoAt (blockAt (now bytes) i) 6 ≤ 496) × (length (gathered (now bytes) count) ≤ length (now target)) ⌝ }
     ensures { λ _. ⌜ now (target .exit) ≡ over (gathered (now (bytes .entry)) count) (now (target .entry)) ⌝ }
 {
@@ -154,14 +154,14 @@ fn block_count(size: usize) -> usize
     (size + 495) / 496
 }
 
-pub fn lesser(a: usize, b: usize) -> usize
+fn lesser(a: usize, b: usize) -> usize
     ensures { λ r. ⌜ r ≡ min a b ⌝ }
 {
     if a < b { a } else { b }
 }
 
 // The blocks of a content, to the start of the output; each payload is a part of the lent content.
-fn put_blocks(kind: usize, content: &[u8], count: usize, out: &mut [u8])
+pub fn put_blocks(kind: usize, content: &[u8], count: usize, out: &mut [u8])
     requires { ⌜ (kind < 65536) × (count < 65536) × (count ≡ blockCount (length (now content))) × (512 * count ≤ length (now out)) ⌝ }
     ensures { λ _. ⌜ now (out .exit) ≡ over (blocksOf kind (now (content .entry))) (now (out .entry)) ⌝ }
 {

@@ -2,22 +2,23 @@
 use mathlib.Core.Path.{_≡_, sym, ap, ap₂, _∙_}
 use mathlib.Core.List.{List}
 use Prim.Native.Nat.{ℕ, _+_, _-_, _*_, _/_, _%_, _^_, _<_, _≤_}
-use native.Mathlib.Nat.{lt-of-le-of-lt, mul-comm}
+use native.Mathlib.Nat.{lt-of-le-of-lt, mul-comm, mod-eq-of-lt}
+use native.Mathlib.Decide.{ℕ-discrete}
 use native.Mathlib.Omega.{arith}
-use lib.Bits.{bitAnd, bitOr, bitXor, xor-lt, and-le-r}
+use lib.Bits.{bitAnd, bitOr, bitXor, xor-lt, xor-zero-r, xor-block, and-le-r, and-comm, and-mask, and-block}
 use lib.ListN.{length, getD, set, take, drop}
-use lib.Seq.{getD-take, getD-drop}
+use lib.Seq.{getD-take, getD-drop, getD-set-same, getD-set-other}
 use borrow.Rule.Slice.PartMut.{midOf, putMid, mid-len, set-mid-at}
 use Rattle.bits.specs.Bits.{digit, bitOf, listed, digitsOf, byteOf, item}
-use Rattle.bits.specs.Steps.{written, mixed}
+use Rattle.bits.specs.Steps.{written}
 use Rattle.bits.proofs.Binary.{Bit}
 use Rattle.bits.proofs.Digits.{or-digit, digitsOf-ext}
 use Rattle.bits.proofs.Items.{bitOf-at, getD-listed, listed-ext, listed-is, part-more}
 use Rattle.bits.proofs.Writes.{length-written, written-at}
-use Rattle.bits.proofs.Xor.{xor-twice, xor-split, and-split}
+use Rattle.bits.proofs.Xor.{xor-assoc, xor-twice, xor-split, and-xor, and-split}
 use Rattle.memory.specs.Access.{localOf, chipOf, readBit}
 use Rattle.memory.specs.Memory.{cell}
-use Rattle.memory.specs.Groups.{groupOf, byteAt, placeOf, spot, lineDigit, laneByte}
+use Rattle.memory.specs.Groups.{groupOf, byteAt, placeOf, spot, spotFrom, lineDigit, laneByte}
 
 -- ---- ranges
 
@@ -65,6 +66,12 @@ cell-byte mem c at s h =
     let e : 256 * c + (8 * at + s) ≡ 8 * (32 * c + at) + s = omega arith in
     ap (bitOf mem) e ∙ bitOf-at mem (32 * c + at) s h
 
+-- under mode 255 the line that meets chip t of the group finds its bit at its own place among eight
+pub place-word : (g j : ℕ) → j < 8 → j ≡ placeOf 255 g (bitXor (g % 8) j)
+place-word g j h =
+    let t = bitXor (g % 8) j in
+    sym (ap (bitXor (g % 8)) (and-comm 7 t ∙ and-mask t 3 ∙ mod-eq-of-lt (partner-lt g j h)) ∙ xor-twice (g % 8) j)
+
 -- what line 8i + j reads, from the byte read of the chip that it meets
 pub read-group : (mem : List ℕ) (m g i j : ℕ) → j < 8
     → digit (getD mem (spot m g i (bitXor (g % 8) j)) 0) (placeOf m g (bitXor (g % 8) j)) ≡ readBit (cell mem) m g (8 * i + j)
@@ -87,6 +94,43 @@ spot-at m g i t k b h ek eb =
     ∙ ap (λ (x : ℕ). 32 * (8 * x + t) + byteAt m g x) ek
     ∙ sym (ap₂ (spot m g) hi lo)
 
+-- from the group that lines 0 to 7 meet to that of lines 8i to 8i+7
+pub spot-from : (m g i k b n : ℕ) → m < 256 → g < 256 → i < 32 → k ≡ groupOf g 0 → b ≡ byteAt m g k → n ≡ spotFrom (256 * k + b) m i → n ≡ spot m g i 0
+spot-from m g i k b n hm hg hi ek eb en =
+    let start : 256 * k + b ≡ g / 8 * 256 + byteAt m g (g / 8) =
+    ap (λ (x : ℕ). 256 * k + x) eb ∙ ap (λ (x : ℕ). 256 * x + byteAt m g x) (ek ∙ xor-zero-r (g / 8)) ∙ turned (g / 8) (byteAt m g (g / 8)) in
+    let twice : 257 * i ≡ i * 256 + i = omega arith in
+    let reach : 7936 + m / 8 ≡ 31 * 256 + m / 8 = omega arith in
+    let low : bitAnd i 31 ≡ i = and-mask i 5 ∙ mod-eq-of-lt hi in
+    let step : bitAnd (257 * i) (7936 + m / 8) ≡ i * 256 + bitAnd (m / 8) i =
+    ap₂ bitAnd twice reach
+    ∙ and-block 8 i 31 i (m / 8) (omega arith) (omega arith)
+    ∙ ap₂ (λ (x y : ℕ). x * 256 + y) low (and-comm i (m / 8)) in
+    let small : bitAnd (m / 8) i < 256 = lt-of-le-of-lt (and-le-r (m / 8) i) (omega arith) in
+    let byte : byteAt m g (g / 8) < 256 = omega (arith, byteAt-lt m g (g / 8) hg (omega arith)) in
+    en
+    ∙ ap₂ bitXor start step
+    ∙ xor-block 8 (g / 8) i (byteAt m g (g / 8)) (bitAnd (m / 8) i) byte small
+    ∙ ap (λ (x : ℕ). groupOf g i * 256 + x)
+    (xor-assoc (g / 8) (bitAnd (m / 8) (g / 8)) (bitAnd (m / 8) i) ∙ ap (bitXor (g / 8)) (sym (and-xor (m / 8) (g / 8) i)))
+    ∙ chips (groupOf g i) (byteAt m g (groupOf g i))
+  where
+    turned : (k b : ℕ) → 256 * k + b ≡ k * 256 + b
+    turned k b = omega arith
+
+    chips : (k b : ℕ) → k * 256 + b ≡ 32 * (8 * k + 0) + b
+    chips k b = omega arith
+
+-- and on to chip t of the group
+pub spot-on : (m g i t n : ℕ) → t < 8 → n ≡ spot m g i 0 → 32 * t + n ≡ spot m g ((8 * i + t) / 8) ((8 * i + t) % 8)
+spot-on m g i t n h e =
+    let hi : (8 * i + t) / 8 ≡ i = omega arith in
+    let lo : (8 * i + t) % 8 ≡ t = omega arith in
+    ap (λ (x : ℕ). 32 * t + x) e ∙ on (groupOf g i) (byteAt m g (groupOf g i)) ∙ sym (ap₂ (spot m g) hi lo)
+  where
+    on : (k b : ℕ) → 32 * t + (32 * (8 * k + 0) + b) ≡ 32 * (8 * k + t) + b
+    on k b = omega arith
+
 -- the digit that a lane of bytes holds for line 8i + j
 pub lane-digit : (bytes : List ℕ) (m g j t from s n i : ℕ) → t ≡ bitXor (g % 8) j → from ≡ 32 * t → s ≡ placeOf m g t → i < n
     → digit (getD (take n (drop from bytes)) i 0) s ≡ lineDigit bytes m g i j
@@ -101,6 +145,16 @@ lane-inj n k hn hk e =
     let lo : n % 8 ≡ k % 8 = omega arith in
     let hi : n / 8 ≡ k / 8 = omega arith in
     omega arith
+
+-- the bytes of lanes, group by group
+pub lane-at : (ψ : ℕ → ℕ → ℕ) (l : List ℕ) → l ≡ listed (λ n. ψ (n % 32) (n / 32)) 256 → (k : ℕ) → k < 256
+    → getD l (32 * (k % 8) + k / 8) 0 ≡ ψ (k / 8) (k % 8)
+lane-at ψ l e k h =
+    let lo : (32 * (k % 8) + k / 8) % 32 ≡ k / 8 = omega arith in
+    let hi : (32 * (k % 8) + k / 8) / 32 ≡ k % 8 = omega arith in
+    ap (λ (x : List ℕ). getD x (32 * (k % 8) + k / 8) 0) e
+    ∙ getD-listed (λ n. ψ (n % 32) (n / 32)) 256 (32 * (k % 8) + k / 8) (omega arith)
+    ∙ ap₂ ψ lo hi
 
 -- writes to 32t + i, group by group, fill a list lane by lane
 pub lanes-filled : (ψ : ℕ → ℕ → ℕ) (l : List ℕ) → length l ≡ 256
@@ -149,37 +203,47 @@ gathered mem bytes m g e =
 -- ---- the loop that spreads an item
 
 -- one lane more, in the part that was lent on
-pub spread-more : (l : List ℕ) (m g t w p s : ℕ) (out ys : List ℕ) → t < 8 → length out ≡ 256 → w ≡ t → p ≡ bitXor (g % 8) t → s ≡ placeOf m g t
-    → take (32 * t) out ≡ listed (λ n. laneByte l m g (n % 32) (n / 32)) (32 * t)
-    → ys ≡ listed (λ i. bitOf l (8 * i + p) * 2 ^ s) 32
-    → take (32 * (t + 1)) (putMid (32 * w) (32 * w + 32 - 32 * w) out ys) ≡ listed (λ n. laneByte l m g (n % 32) (n / 32)) (32 * (t + 1))
-spread-more l m g t w p s out ys h size ew ep es e ey =
-    let φ : ℕ → ℕ = λ n. laneByte l m g (n % 32) (n / 32) in
+pub spread-more : (f : ℕ → ℕ) (m g t w p s : ℕ) (out ys : List ℕ) → t < 8 → length out ≡ 256 → w ≡ t → p ≡ bitXor (g % 8) t → s ≡ placeOf m g t
+    → take (32 * t) out ≡ listed (λ n. laneByte f m g (n % 32) (n / 32)) (32 * t)
+    → ys ≡ listed (λ i. f (8 * i + p) * 2 ^ s) 32
+    → take (32 * (t + 1)) (putMid (32 * w) (32 * w + 32 - 32 * w) out ys) ≡ listed (λ n. laneByte f m g (n % 32) (n / 32)) (32 * (t + 1))
+spread-more f m g t w p s out ys h size ew ep es e ey =
+    let φ : ℕ → ℕ = λ n. laneByte f m g (n % 32) (n / 32) in
     let n : 32 * (t + 1) ≡ 32 * w + 32 = omega arith in
     let k : 32 ≡ 32 * w + 32 - 32 * w = omega arith in
     ap (λ (x : ℕ). take x (putMid (32 * w) (32 * w + 32 - 32 * w) out ys)) n
     ∙ part-more φ out (32 * w) (32 * w + 32) ys (omega arith) (omega arith)
     (ap (λ (x : ℕ). take (32 * x) out) ew ∙ e ∙ sym (ap (λ (x : ℕ). listed φ (32 * x)) ew))
-    (ey ∙ listed-ext (λ i. bitOf l (8 * i + p) * 2 ^ s) (λ i. φ (32 * w + i)) 32 same ∙ ap (listed (λ i. φ (32 * w + i))) k)
+    (ey ∙ listed-ext (λ i. f (8 * i + p) * 2 ^ s) (λ i. φ (32 * w + i)) 32 same ∙ ap (listed (λ i. φ (32 * w + i))) k)
     ∙ sym (ap (listed φ) n)
   where
-    same : (i : ℕ) → i < 32 → bitOf l (8 * i + p) * 2 ^ s ≡ laneByte l m g ((32 * w + i) % 32) ((32 * w + i) / 32)
+    same : (i : ℕ) → i < 32 → f (8 * i + p) * 2 ^ s ≡ laneByte f m g ((32 * w + i) % 32) ((32 * w + i) / 32)
     same i hi =
         let lo : (32 * w + i) % 32 ≡ i = omega arith in
         let hi : (32 * w + i) / 32 ≡ t = omega arith in
-        ap₂ (λ (x y : ℕ). bitOf l (8 * i + x) * 2 ^ y) ep es ∙ sym (ap₂ (laneByte l m g) lo hi)
+        ap₂ (λ (x y : ℕ). f (8 * i + x) * 2 ^ y) ep es ∙ sym (ap₂ (laneByte f m g) lo hi)
+
+-- ---- the loop that makes the first byte of each lane
+
+pub first-more : (φ : ℕ → ℕ) (out : List ℕ) (t k v : ℕ) → 32 * t < length out → k ≡ 32 * t → v ≡ φ t → ((s : ℕ) → s < t → getD out (32 * s) 0 ≡ φ s)
+    → (s : ℕ) → s < t + 1 → getD (set out k v) (32 * s) 0 ≡ φ s
+first-more φ out t k v size ek ev h s hs = ap (λ (x : ℕ). getD (set out x v) (32 * s) 0) ek ∙ go (ℕ-discrete s t)
+  where
+    go : Dec (s ≡ t) → getD (set out (32 * t) v) (32 * s) 0 ≡ φ s
+    go (yes e) = ap (λ (x : ℕ). getD (set out (32 * t) v) (32 * x) 0) e ∙ getD-set-same out (32 * t) v 0 size ∙ ev ∙ sym (ap φ e)
+    go (no u) = getD-set-other out (32 * t) (32 * s) v 0 (λ e. u (omega arith)) ∙ h s (omega arith)
 
 -- ---- the chip writer, seen from the whole memory
 
-pub chip-written : (l : List ℕ) (c at p s : ℕ) (ys : List ℕ) → 32 * c + 32 ≤ length l → at < 32
-    → ys ≡ set (midOf (32 * c) (32 * c + 32 - 32 * c) l) at (mixed (getD (midOf (32 * c) (32 * c + 32 - 32 * c) l) at 0) p s)
-    → putMid (32 * c) (32 * c + 32 - 32 * c) l ys ≡ set l (32 * c + at) (mixed (getD l (32 * c + at) 0) p s)
-chip-written l c at p s ys h ha e =
+pub chip-written : (v : ℕ → ℕ) (l : List ℕ) (c at : ℕ) (ys : List ℕ) → 32 * c + 32 ≤ length l → at < 32
+    → ys ≡ set (midOf (32 * c) (32 * c + 32 - 32 * c) l) at (v (getD (midOf (32 * c) (32 * c + 32 - 32 * c) l) at 0))
+    → putMid (32 * c) (32 * c + 32 - 32 * c) l ys ≡ set l (32 * c + at) (v (getD l (32 * c + at) 0))
+chip-written v l c at ys h ha e =
     let k = 32 * c + 32 - 32 * c in
     let n : k ≡ 32 = omega arith in
     let part = midOf (32 * c) k l in
     let m : length part ≡ k = mid-len (32 * c) (32 * c + 32) l h in
     let old : getD part at 0 ≡ getD l (32 * c + at) 0 = getD-take k (drop (32 * c) l) at 0 (omega arith) ∙ getD-drop (32 * c) l at 0 in
     ap (putMid (32 * c) k l) e
-    ∙ set-mid-at (32 * c) k at l (mixed (getD part at 0) p s) (omega arith)
-    ∙ ap (λ (x : ℕ). set l (32 * c + at) (mixed x p s)) old
+    ∙ set-mid-at (32 * c) k at l (v (getD part at 0)) (omega arith)
+    ∙ ap (λ (x : ℕ). set l (32 * c + at) (v x)) old

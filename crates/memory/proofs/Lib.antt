@@ -6,3 +6,4 @@ pub mod MemoryLaws
 pub mod StoreLaws
 pub mod TableDemand
 pub mod Examples
+pub mod PlainLaws

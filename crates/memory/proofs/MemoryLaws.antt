@@ -1,18 +1,17 @@
 -- Laws of a stored memory: its bits, its bytes, and that writing chip by chip makes it. Assumes nothing.
 use mathlib.Core.Path.{_≡_, ap₂, _∙_}
-use mathlib.Core.Bool.{Bool, _&&_, cond}
+use mathlib.Core.Bool.{_&&_, cond}
 use mathlib.Core.List.{List}
 use Prim.Native.Nat.{ℕ, _+_, _*_, _/_, _%_, _<_}
 use native.Mathlib.Omega.{arith}
 use lib.Bits.{xor-lt}
-use lib.Dec.{T, eqb, eqb→eq}
-use lib.ListN.{length, replicate}
+use lib.Dec.{eqb}
+use lib.ListN.{length}
 use Rattle.bits.specs.Bits.{bitOf, byteOf}
 use Rattle.bits.proofs.Binary.{Bit, cond-bit}
 use Rattle.bits.proofs.Items.{length-listed, bitOf-bit, bitOf-pack, pack-ext}
-use Rattle.bits.proofs.Tests.{all, all-at}
 use Rattle.memory.specs.Access.{localOf, lineOf, storedBit}
-use Rattle.memory.specs.Memory.{cell, stored, every}
+use Rattle.memory.specs.Memory.{cell, stored}
 
 -- ---- the stored memory, by its bits
 
@@ -46,15 +45,3 @@ stored-ext mem m g mask mask′ f f′ hg em ef =
   where
     line-lt : (c : ℕ) → c < 256 → lineOf g c < 256
     line-lt c h = xor-lt 8 g c hg h
-
--- the mask of 32 full bytes lets every line write
-full : ℕ → Bool
-full p = eqb (bitOf (replicate 32 255) p) 1
-
-full-tested : T (all 256 full)
-unfolding full bitOf
-full-tested = tt
-
-pub bitOf-full : (p : ℕ) → p < 256 → bitOf (replicate 32 255) p ≡ every p
-unfolding full
-bitOf-full p h = eqb→eq (bitOf (replicate 32 255) p) 1 (all-at 256 full full-tested p h)

@@ -2,4 +2,5 @@
 pub mod Access
 pub mod Table
 pub mod Memory
+pub mod Plain
 pub mod Groups

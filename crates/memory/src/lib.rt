@@ -1,6 +1,7 @@
 // The memory of 256 words by 256 bits, kept scrambled, chip by chip, in 8,192 lent bytes. Document 01, Memory.
 //
-// `load`, `store` and `store_masked` take a memory whose length the caller has judged: they are inner functions of the emulator, and `run` is what a user calls.
+// `load`, `store`, `store_masked`, `words_out` and `words_in` take a memory whose length the caller has judged: they are inner functions of the emulator, and `run` is what a user calls.
+mod ordering;
 mod places;
 mod reading;
 mod spreading;
@@ -11,6 +12,7 @@ ghost use lib.ListN.{length};
 ghost use Rattle.bits.specs.Bits.{bitOf, item};
 ghost use Rattle.memory.specs.Access.{readBit};
 ghost use Rattle.memory.specs.Memory.{cell, stored, every, maskOf};
+ghost use Rattle.memory.specs.Plain.{plainWords, scrambled};
 
 // The item that is read under a mode and an address: line P has the bit that it meets.
 pub fn load(mem: &[u8], mode: u8, addr: u8) -> [u8; 32]
@@ -26,18 +28,19 @@ pub fn store_masked<'a>(mem: &mut [u8], mode: u8, addr: u8, item: &'a [u8; 32], 
     requires { ⌜ length (now mem) ≡ 8192 ⌝ }
     ensures { λ r. ⌜ now (mem .exit) ≡ stored (now (mem .entry)) mode addr (bitOf (now (mask .entry))) (bitOf (now (item .entry))) ⌝ }
 {
-    let put = spreading::spread(item, mode, addr);
-    let chosen = spreading::spread(mask, mode, addr);
-    writing::write_all(mem, mode, addr, &put, &chosen);
+    let put = spreading::spread(&spreading::masked(item, mask), mode, addr);
+    let keep = spreading::kept(mask, mode, addr);
+    writing::write_all(mem, mode, addr, 32, &keep, &put);
 }
 
-// The item goes where its lines point: a masked store at all lines, so that there is one way into the memory.
+// The item goes where its lines point: the same at all lines, where what is kept is one byte for a lane.
 pub fn store(mem: &mut [u8], mode: u8, addr: u8, item: &[u8; 32])
     requires { ⌜ length (now mem) ≡ 8192 ⌝ }
     ensures { λ r. ⌜ now (mem .exit) ≡ stored (now (mem .entry)) mode addr every (bitOf (now (item .entry))) ⌝ }
 {
-    let all = [255u8; 32];
-    store_masked(mem, mode, addr, item, &all);
+    let put = spreading::spread(item, mode, addr);
+    let keep = spreading::kept_by_all(mode, addr);
+    writing::write_all(mem, mode, addr, 1, &keep, &put);
 }
 
 // Which lines of an item flipped by `f` a masked store writes, by the rule of document 01.
@@ -45,4 +48,20 @@ pub fn line_mask(m: &[u8; 32], f: u8) -> [u8; 32]
     ensures { λ r. ⌜ r ≡ item (maskOf (now (m .entry)) f) ⌝ }
 {
     bits::flips::flip(m, f)
+}
+
+// The 256 words of the memory in plain order.
+pub fn words_out<'a>(mem: &'a [u8], words: &mut [u8])
+    requires { ⌜ (length (now mem) ≡ 8192) × (length (now words) ≡ 8192) ⌝ }
+    ensures { λ _. ⌜ now (words .exit) ≡ plainWords (now (mem .entry)) ⌝ }
+{
+    ordering::reorder(mem, words);
+}
+
+// The memory of 256 words in plain order.
+pub fn words_in<'a>(words: &'a [u8], mem: &mut [u8])
+    requires { ⌜ (length (now words) ≡ 8192) × (length (now mem) ≡ 8192) ⌝ }
+    ensures { λ _. ⌜ now (mem .exit) ≡ scrambled (now (words .entry)) ⌝ }
+{
+    ordering::reorder(words, mem);
 }

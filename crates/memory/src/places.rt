@@ -2,7 +2,7 @@
 ghost use mathlib.Core.Path.{_≡_};
 ghost use Prim.Native.Nat.{_%_, _<_};
 ghost use lib.Bits.{bitXor};
-ghost use Rattle.memory.specs.Groups.{groupOf, byteAt, placeOf};
+ghost use Rattle.memory.specs.Groups.{groupOf, byteAt, placeOf, spotFrom};
 
 pub fn wide(x: u8) -> usize
     ensures { λ r. ⌜ r ≡ x ⌝ }
@@ -40,4 +40,12 @@ pub fn partner(addr: u8, t: u8) -> u8
     ensures { λ r. ⌜ (r ≡ bitXor (addr % 8) t) × (r < 8) ⌝ }
 {
     (addr % 8) ^ t
+}
+
+// Where chip 0 of the group that the lines 8i to 8i+7 meet is read, from where that of lines 0 to 7 is. The group differs by i, the byte by the digits of i that the mode has; the two share no digit, so one xor serves both.
+pub fn spot_from(first: usize, mode: u8, i: usize) -> usize
+    requires { ⌜ i < 32 ⌝ }
+    ensures { λ r. ⌜ r ≡ spotFrom first mode i ⌝ }
+{
+    first ^ ((257 * i) & (7936 + wide(mode / 8)))
 }

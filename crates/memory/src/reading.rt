@@ -3,8 +3,10 @@ use super::places::byte_at;
 use super::places::group_of;
 use super::places::partner;
 use super::places::place_of;
+use super::places::spot_from;
 use super::places::wide;
 use bits::lanes::gather_lane;
+use bits::lanes::keep_lane;
 ghost use mathlib.Core.Path.{_≡_};
 ghost use Prim.Native.Nat.{_+_, _*_, _/_, _%_, _<_};
 ghost use lib.ListN.{length, getD};
@@ -29,11 +31,12 @@ pub fn read_all(mem: &[u8], mode: u8, addr: u8) -> [u8; 256]
     requires { ⌜ length (now mem) ≡ 8192 ⌝ }
     ensures { λ r. ⌜ r ≡ listed (λ n. getD (now (mem .entry)) (spot mode addr (n % 32) (n / 32)) 0) 256 ⌝ }
 {
+    let k = group_of(addr, 0);
+    let first = 256 * k + byte_at(mode, addr, k);
     let mut out = [0u8; 256];
     let mut i: usize = 0;
     while i < 32 {
-        let k = group_of(addr, i);
-        read_group(mem, 256 * k + byte_at(mode, addr, k), i, &mut out);
+        read_group(mem, spot_from(first, mode, i), i, &mut out);
         i += 1;
     }
     out
@@ -50,6 +53,21 @@ pub fn gather(bytes: &[u8], mode: u8, addr: u8) -> [u8; 32]
         let t = partner(addr, j);
         let from = 32 * wide(t);
         out = gather_lane(&out, &bytes[from..from + 32], place_of(mode, addr, t), j);
+        j += 1;
+    }
+    out
+}
+
+// The same under mode 255, a word: there line 8i + j's bit is digit j of its byte already, and no digit moves.
+pub fn gather_word(bytes: &[u8], addr: u8) -> [u8; 32]
+    requires { ⌜ length (now bytes) ≡ 256 ⌝ }
+    ensures { λ r. ⌜ r ≡ listed (λ i. digitsOf (lineDigit (now (bytes .entry)) 255 addr i) 8) 32 ⌝ }
+{
+    let mut out = [0u8; 32];
+    let mut j: u8 = 0;
+    while j < 8 {
+        let from = 32 * wide(partner(addr, j));
+        out = keep_lane(&out, &bytes[from..from + 32], j);
         j += 1;
     }
     out

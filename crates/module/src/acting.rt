@@ -41,7 +41,7 @@ fn held_item(mem: &[u8], r: Registers, i: Instruction) -> [u8; 32]
     y
 }
 
-// The source item, passed. An outside item is handed to the pass as the part of the lent items that it is; a resolve reads no source.
+// The source item, passed. An outside item is handed to the pass as the part of the lent items that it is; a resolve reads no source. Most instructions move no line: a call of the pass would cost them more than the copy.
 fn passed_item(mem: &[u8], items: &[u8], r: Registers, i: Instruction, taken: usize) -> [u8; 32]
     requires { ⌜ (length (now mem) ≡ 8192) × (i .source ≤ 4) × (permitted (i .code) ≡ true) × (takes i ≡ true → 32 * taken + 32 ≤ length (now items)) ⌝ }
     ensures { λ f. ⌜ ((i .kind ≡ 5 → ⊥) → f ≡ passedBy i (now (mem .entry)) (now (items .entry)) r taken) ⌝ }
@@ -53,6 +53,9 @@ fn passed_item(mem: &[u8], items: &[u8], r: Registers, i: Instruction, taken: us
         return network::pass_part(&items[32 * taken..32 * taken + 32], i.flip, i.code);
     }
     let s = held_item(mem, r, i);
+    if i.flip | i.code == 0 {
+        return network::items::copied(&s);
+    }
     network::pass_item(&s, i.flip, i.code)
 }
 

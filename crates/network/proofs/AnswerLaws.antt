@@ -5,7 +5,7 @@ use mathlib.Core.List.{List}
 use mathlib.Core.Logic.{_↔_}
 use Prim.Native.Nat.{ℕ, _/_, _%_, _≤_, _<_}
 use native.Mathlib.Omega.{arith}
-use lib.Bits.{bitXor, xor-zero-r, xor-lt}
+use lib.Bits.{bitOr, bitXor, xor-zero-r, xor-lt, or-add-and, and-le-l, and-le-r}
 use lib.ListN.{length, getD, replicate}
 use borrow.Author.Tests.{lt-ltb, le-ltb}
 use Rattle.bits.specs.Bits.{bitOf, byteOf, item, flipped}
@@ -83,6 +83,14 @@ flip-none l f c e =
 
 pub stay-none : (l : List ℕ) (f : ℕ) → f ≡ 0 → item (bitOf l) ≡ item (flipped l f)
 stay-none l f e = pack-ext (bitOf l) (flipped l f) 32 (λ k h. ap (bitOf l) (sym (ap (bitXor k) e ∙ xor-zero-r k)))
+
+-- neither, told by one test of both
+pub none-moved : (l : List ℕ) (f c : ℕ) → bitOr f c ≡ 0 → item (bitOf l) ≡ passedItem l f c
+none-moved l f c e =
+    let sum = or-add-and f c in
+    let left = and-le-l f c in
+    let right = and-le-r f c in
+    stay-none l f (omega arith) ∙ flip-none l f c (omega arith)
 
 -- eight levels, by the agreement
 pub wired-passed : (l r : List ℕ) (f c s : ℕ) → c < 256 → f < 256 → s ≡ shiftOf c → s < 37 → r ≡ wiredItem 8 f (pOf s) (mOf s) l → r ≡ passedItem l f c

@@ -18,14 +18,14 @@ use Rattle.network.specs.Shifts.{codesTo, codes, pOf, mOf, indexOf, shif
 -- ---- the signals
 
 signal-right : ℕ → ℕ → ℕ → Bool
-signal-right s j k = eqb (getD signals (place s j k) 0) (signal (pOf s) (mOf s) j k)
+signal-right s j k = eqb (getD (getD signals s []) (place j k) 0) (signal (pOf s) (mOf s) j k)
 
 signals-tested : T (all 37 λ s. all 8 λ j. all (suc j) λ k. signal-right s j k)
 unfolding signal-right signals rows row signal codes codesTo listed
 signals-tested = tt
 
 -- entry k of level j of shift s is the signal that the rule gives for the shift of code s
-pub signal-rule : (s j k : ℕ) → s < 37 → j < 8 → k ≤ j → getD signals (place s j k) 0 ≡ signal (pOf s) (mOf s) j k
+pub signal-rule : (s j k : ℕ) → s < 37 → j < 8 → k ≤ j → getD (getD signals s []) (place j k) 0 ≡ signal (pOf s) (mOf s) j k
 unfolding signal-right
 signal-rule s j k hs hj hk =
     eqb→eq _ _ (all-at (suc j) (λ k. signal-right s j k) (all-at 8 (λ j. all (suc j) λ k. signal-right s j k) (all-at 37 (λ s. all 8 λ j. all (suc j) λ k. signal-right s j k) signals-tested s hs) j hj) k (suc-le-suc hk))
@@ -133,6 +133,6 @@ pub entry-of : (c : ℕ) → permitted c ≡ true → getD codes (shiftOf c) 0 �
 unfolding permitted
 entry-of c t = let h : shiftOf c < length codes = omega (arith, codes-length, ltb-true (shiftOf c) 37 t) in found-at c codes h
 
-pub signals-length : length signals ≡ 1332
+pub signals-length : length signals ≡ 37
 unfolding codes codesTo signals rows row listed
 signals-length = refl

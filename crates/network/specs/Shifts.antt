@@ -47,15 +47,15 @@ unfoldable pub row : ℕ → ℕ → ℕ → List ℕ
 row zero p m = []
 row (suc j) p m = row j p m ++ listed (signal p m j) (suc j)
 
--- The rows of 8 levels of some codes, one after the other.
-unfoldable pub rows : List ℕ → List ℕ
+-- The rows of 8 levels of some codes.
+unfoldable pub rows : List ℕ → List (List ℕ)
 rows [] = []
-rows (c ∷ cs) = row 8 (c / 16) (c % 16) ++ rows cs
+rows (c ∷ cs) = row 8 (c / 16) (c % 16) ∷ rows cs
 
--- The 1,332 shift signals, 36 for each shift.
-unfoldable pub signals : List ℕ
+-- The 1,332 shift signals: 36 for each of the 37 shifts.
+unfoldable pub signals : List (List ℕ)
 signals = rows codes
 
--- Where signal k of level j of shift s stands among them.
-abbrev pub place : ℕ → ℕ → ℕ → ℕ
-place s j k = 36 * s + j * (j + 1) / 2 + k
+-- Where signal k of level j stands among the 36 of a shift.
+abbrev pub place : ℕ → ℕ → ℕ
+place j k = j * (j + 1) / 2 + k

@@ -12,7 +12,7 @@ fn byte(x: u8) -> u8
 }
 
 // The item as it is: what its own bits make.
-fn copied(lines: &[u8; 32]) -> [u8; 32]
+pub fn copied(lines: &[u8; 32]) -> [u8; 32]
     ensures { λ r. ⌜ r ≡ item (bitOf (now (lines .entry))) ⌝ }
 {
     let mut out = [0u8; 32];

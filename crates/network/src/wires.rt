@@ -14,15 +14,15 @@ fn group(line: u8, j: u8) -> u32
 }
 
 // Signal `k` of level `j` for shift `s`.
-fn signal_at(table: &[u8; 1332], s: usize, j: usize, k: usize) -> u8
+fn signal_at(table: &[[u8; 36]; 37], s: usize, j: usize, k: usize) -> u8
     requires { ⌜ (now table ≡ signals) × (s < 37) × (j < 8) × (k ≤ j) ⌝ }
     ensures { λ r. ⌜ r ≡ signal (pOf s) (mOf s) j k ⌝ }
 {
-    table[36 * s + j * (j + 1) / 2 + k]
+    table[s][j * (j + 1) / 2 + k]
 }
 
 // The line that `line` is swapped with in level `j`, or itself.
-fn level_line(table: &[u8; 1332], s: usize, f: u8, j: u8, line: u8) -> u8
+fn level_line(table: &[[u8; 36]; 37], s: usize, f: u8, j: u8, line: u8) -> u8
     requires { ⌜ (now table ≡ signals) × (s < 37) × (j < 8) ⌝ }
     ensures { λ r. ⌜ r ≡ level f (pOf s) (mOf s) j line ⌝ }
 {
@@ -44,7 +44,14 @@ fn bit_at(lines: &[u8; 32], k: u8) -> u8
 }
 
 // Byte `i` of an item after level `j`.
-fn level_byte<'a>(table: &'a [u8; 1332], s: usize, f: u8, j: u8, lines: &'a [u8; 32], i: u8) -> u8
+fn level_byte<'a>(
+    table: &'a [[u8; 36]; 37],
+    s: usize,
+    f: u8,
+    j: u8,
+    lines: &'a [u8; 32],
+    i: u8,
+) -> u8
     requires { ⌜ (now table ≡ signals) × (s < 37) × (j < 8) × (i < 32) ⌝ }
     ensures { λ r. ⌜ r ≡ byteOf (λ k. bitOf (now (lines .entry)) (level f (pOf s) (mOf s) j k)) i ⌝ }
 {
@@ -58,7 +65,13 @@ fn level_byte<'a>(table: &'a [u8; 1332], s: usize, f: u8, j: u8, lines: &'a [u8;
 }
 
 // An item after level `j`.
-fn level_item<'a>(table: &'a [u8; 1332], s: usize, f: u8, j: u8, lines: &'a [u8; 32]) -> [u8; 32]
+fn level_item<'a>(
+    table: &'a [[u8; 36]; 37],
+    s: usize,
+    f: u8,
+    j: u8,
+    lines: &'a [u8; 32],
+) -> [u8; 32]
     requires { ⌜ (now table ≡ signals) × (s < 37) × (j < 8) ⌝ }
     ensures { λ r. ⌜ r ≡ levelled f (pOf s) (mOf s) j (now (lines .entry)) ⌝ }
 {
@@ -72,7 +85,7 @@ fn level_item<'a>(table: &'a [u8; 1332], s: usize, f: u8, j: u8, lines: &'a [u8;
 }
 
 // An item after a network of `n` levels: after one of `n` minus 1, and then one more.
-pub fn wired_item(n: u8, table: &[u8; 1332], s: usize, f: u8, lines: [u8; 32]) -> [u8; 32]
+pub fn wired_item(n: u8, table: &[[u8; 36]; 37], s: usize, f: u8, lines: [u8; 32]) -> [u8; 32]
     requires { ⌜ (n ≤ 8) × (now table ≡ signals) × (s < 37) ⌝ }
     ensures { λ r. ⌜ r ≡ wiredItem n f (pOf s) (mOf s) lines ⌝ }
 {

@@ -1,94 +1,91 @@
--- `put_picture`: the first i blocks stand at the start of the output.
-use mathlib.Core.Path.{_≡_, refl, sym, ap, _∙_}
-use mathlib.Core.List.{_++_}
-use Prim.Native.Nat.{_+_, _-_, _*_, _≤_}
+-- `put_picture`: the two parts stand in the buffer, which is then the content that the blocks are made of.
+use mathlib.Core.Path.{_≡_, refl, sym, ap, ap₂, _∙_}
+use mathlib.Core.List.{List, _++_}
+use Prim.Native.Nat.{ℕ}
 use native.Mathlib.Omega.{arith}
-use lib.ListN.{length, drop}
-use borrow.Rule.Slice.PartMut.{mid-len, same-len-mid}
+use lib.ListN.{length, replicate}
+use borrow.Author.Needs.{needs}
+use borrow.Rule.Slice.PartMut.{putMid}
 use denote.Ref.{now}
-use Rattle.files.specs.File.{blockCount, firstBlocks}
+use Rattle.memory.proofs.PlainLaws.{length-plain}
+use Rattle.files.specs.File.{blockCount, blocksOf}
+use Rattle.files.specs.Content.{over}
 use Rattle.disk.specs.Picture.{pictureOf}
-use Rattle.files.proofs.WriteLaws.{blocks-more, blocks-done}
-use Rattle.disk.proofs.PictureLaws.{length-picture}
+use Rattle.disk.proofs.PictureLaws.{length-picture, parts-room, parts-are}
 use Rattle.disk.proofs.put_picture.Statement.{statement}
 use Rattle.disk.proofs.put_picture.Tie as tie
 
-abbrev Inv-loop : tie.InvT-loop
-Inv-loop memory registers out₀ i₀ out i = (i ≤ 17) × (length out ≡ length out₀) × (out ≡ firstBlocks 1 (pictureOf memory registers) 17 i ++ drop (512 * i) out₀)
+-- what stands in the buffer
+whole : (c : tie.After-copy)
+    → (let a = c .before .before .before .before .before .before .before .before .args in
+    putMid 8192 96 (c .before .before .before .words-out .last .1 .0 ++ replicate 96 0) (c .copy .last .1 .0) ≡ pictureOf (now (a .memory)) (now (a .registers)))
+whole c =
+    let w = c .before .before .before .words-out in
+    parts-are (w .last .1 .0) (replicate 96 0) (ap length (w .ensures) ∙ length-plain _) refl (c .copy .last .1 .0)
+    ∙ ap₂ (λ (x y : List ℕ). x ++ y) (w .ensures) (c .copy .ensures)
 
-abbrev μ-loop : tie.MeasureT-loop
-μ-loop memory registers out₀ i₀ out i = 17 - i
+whole-size : (c : tie.After-copy)
+    → (let a = c .before .before .before .before .before .before .before .before .args in length (pictureOf (now (a .memory)) (now (a .registers))) ≡ 8288)
+whole-size c =
+    let s = c .before .before .before .before .before .before .before .before in
+    length-picture (now (s .args .memory)) (now (s .args .registers)) (s .pre .1)
 
-loop-holds : tie.Need-loop-holds Inv-loop μ-loop
-unfolding firstBlocks
-loop-holds c = (omega arith, refl, refl)
+sub-words-out : tie.Need-sub-words-out
+sub-words-out c = search needs
 
-mul-put-picture-block : tie.Need-mul-put-picture-block Inv-loop μ-loop
-mul-put-picture-block c = omega arith
+part-content-start : tie.Need-part-content-start
+part-content-start c = search needs
 
-mul-put-picture-block-2 : tie.Need-mul-put-picture-block-2 Inv-loop μ-loop
-mul-put-picture-block-2 c = omega arith
+part-content-end : tie.Need-part-content-end
+part-content-end c = search needs
 
-add-put-picture-block : tie.Need-add-put-picture-block Inv-loop μ-loop
-add-put-picture-block c = omega arith
+words-out-requires : tie.Need-words-out-requires
+words-out-requires c κs = search needs
 
-sub-put-picture-block : tie.Need-sub-put-picture-block Inv-loop μ-loop
-sub-put-picture-block c = omega arith
+sub-copy : tie.Need-sub-copy
+sub-copy c = search needs
 
-part-put-picture-block-start : tie.Need-part-put-picture-block-start Inv-loop μ-loop
-part-put-picture-block-start c = omega arith
+part-content-start-2 : tie.Need-part-content-start-2
+part-content-start-2 c = search needs
 
-part-put-picture-block-end : tie.Need-part-put-picture-block-end Inv-loop μ-loop
-part-put-picture-block-end c = omega arith
+part-content-end-2 : tie.Need-part-content-end-2
+part-content-end-2 c =
+    let w = c .before .words-out in
+    parts-room (w .last .1 .0) (replicate 96 0) (ap length (w .ensures) ∙ length-plain _) refl
 
-put-picture-block-requires : tie.Need-put-picture-block-requires Inv-loop μ-loop
-put-picture-block-requires c κs =
-    let s = c .before .before .before .before .before .before in
-    let l = c .before .before .loop in
-    (s .pre .0, s .pre .1, omega arith, mid-len (512 * l .i) (512 * l .i + 512) (l .out) (omega arith) ∙ omega arith)
+copy-requires : tie.Need-copy-requires
+copy-requires c κs = search needs
 
-add-i : tie.Need-add-i Inv-loop μ-loop
-add-i c = omega arith
+slice-aggregate-put-blocks : tie.Need-slice-aggregate-put-blocks
+slice-aggregate-put-blocks c = sym (ap length (whole (c .before .before)) ∙ whole-size (c .before .before))
 
-loop-less : tie.Need-loop-less Inv-loop μ-loop
-loop-less c = omega arith
+put-blocks-requires : tie.Need-put-blocks-requires
+put-blocks-requires c κs =
+    let d = c .before .before .before in
+    (omega arith, omega arith, sym (ap (λ (l : List ℕ). blockCount (length l)) (whole d) ∙ ap blockCount (whole-size d)), omega arith)
 
-loop-again : tie.Need-loop-again Inv-loop μ-loop
-loop-again c =
-    let s = c .before .before .before .before .before .before .before .before .before in
-    let l = c .before .before .before .before .before .loop in
-    let p = c .before .before .put-picture-block in (
-      omega arith,
-      same-len-mid (512 * l .i) (512 * l .i + 512 - 512 * l .i) (l .out) (p .last .1 .1 .1 .0) (p .kept .1 .1 .1 .0) ∙ l .inv .1,
-      blocks-more 1 (pictureOf (now (s .args .memory)) (now (s .args .registers))) 17 (l .i) (l .out) (now (s .args .out)) _ (l .inv .2) (p .ensures),
-    )
+same-length : tie.Need-same-length
+same-length c = search needs
 
-same-length : tie.Need-same-length Inv-loop μ-loop
-same-length c = omega arith
-
-returns : tie.Need-returns Inv-loop μ-loop
+returns : tie.Need-returns
 returns c =
-    let s = c .before .before .before .before .before in
-    let l = c .before .loop in
-    let content = pictureOf (now (s .args .memory)) (now (s .args .registers)) in
-    blocks-done 1 content 17 (l .i) _ (now (s .args .out)) (sym (ap blockCount (length-picture (now (s .args .memory)) (now (s .args .registers)) (s .pre .1)))) (omega arith) (l .inv .2)
+    let d = c .before .before .before .before .before .before in
+    let a = d .before .before .before .before .before .before .before .before .args in
+    c .before .before .put-blocks .ensures ∙ ap (λ (l : List ℕ). over (blocksOf 1 l) (now (a .out))) (whole d)
 
 pub put-picture-spec : {M : Type 1} → statement M
 put-picture-spec =
     tie.close
     (tie.spec
-    Inv-loop
-    μ-loop
-    loop-holds
-    mul-put-picture-block
-    mul-put-picture-block-2
-    add-put-picture-block
-    sub-put-picture-block
-    part-put-picture-block-start
-    part-put-picture-block-end
-    put-picture-block-requires
-    add-i
-    loop-less
-    loop-again
+    sub-words-out
+    part-content-start
+    part-content-end
+    words-out-requires
+    sub-copy
+    part-content-start-2
+    part-content-end-2
+    copy-requires
+    slice-aggregate-put-blocks
+    put-blocks-requires
     same-length
     returns)

@@ -9,7 +9,7 @@ use denote.Ref.{now}
 use Rattle.files.specs.File.{done, judge}
 use Rattle.disk.specs.Picture.{pictureFits}
 use Rattle.files.proofs.AnswerLaws.{changed-not, changed-done, refused-not, read-refused, read-26, read-done}
-use Rattle.disk.proofs.PictureLaws.{fits-are, picture-judged, picture-length, registers-are, registers-length}
+use Rattle.disk.proofs.PictureLaws.{fits-are, picture-judged}
 use Rattle.disk.proofs.read_picture.Statement.{statement}
 use Rattle.disk.proofs.read_picture.Tie as tie
 
@@ -62,25 +62,10 @@ returns-2 c =
       ),
     )
 
-words-in-requires : tie.Need-words-in-requires
-words-in-requires c κs =
-    let e = c .before in
-    let b = now (c .before .before .before .before .before .before .before .before .args .bytes) in
-    (judged-ok e, picture-length b (judged-ok e), lengths e .1)
-
-sub-copy : tie.Need-sub-copy
-sub-copy c = search needs
-
-part-copy-start : tie.Need-part-copy-start
-part-copy-start c = search needs
-
-part-copy-end : tie.Need-part-copy-end
-part-copy-end c = omega (arith, picture-length (now (c .before .before .before .before .before .before .before .before .before .before .before .args .bytes)) (judged-ok (c .before .before .before .before)))
-
-copy-requires : tie.Need-copy-requires
-copy-requires c κs =
-    let e = c .before .before .before .before .before .before in
-    registers-length (now (c .before .before .before .before .before .before .before .before .before .before .before .before .before .args .bytes)) (judged-ok e) ∙ sym (lengths e .2)
+unload-picture-requires : tie.Need-unload-picture-requires
+unload-picture-requires c κs =
+    let e = c .before .before in
+    (judged-ok e, lengths e .1, lengths e .2)
 
 same-length : tie.Need-same-length
 same-length c = search needs
@@ -90,14 +75,15 @@ same-length-2 c = search needs
 
 returns-3 : tie.Need-returns-3
 returns-3 c =
-    let a = c .before .before .before .before .before .before .before .before .before .before .before .before .before .before .before .before .args in
-    let j = c .before .before .before .before .before .before .before .before .before .before .before .before .judge in
-    let z = c .before .before .before .before .before .before .before .before .before .before .before .if1 .left in
-    let e = c .before .before .before .before .before .before .before .before .before in (
+    let e = c .before .before .before .before .before .before .before in
+    let a = e .before .before .before .before .before .before .before .args in
+    let j = e .before .before .before .judge in
+    let z = e .before .before .if1 .left in
+    let t = c .before .before .before .before .unload-picture in (
       read-done (a .kind) (now (a .bytes)) _ (j .result) (j .ensures) z (fits-ok e),
       (
-        c .before .before .before .before .before .before .before .words-in .ensures ∙ changed-done (j .result) _ (now (a .memory)) z,
-        c .before .before .copy .ensures ∙ registers-are (now (a .bytes)) (judged-ok e) ∙ changed-done (j .result) _ (now (a .registers)) z,
+        t .ensures .0 ∙ changed-done (j .result) _ (now (a .memory)) z,
+        t .ensures .1 ∙ changed-done (j .result) _ (now (a .registers)) z,
       ),
     )
 
@@ -110,11 +96,7 @@ read-picture-spec =
     picture-fits-requires
     refuse-requires
     returns-2
-    words-in-requires
-    sub-copy
-    part-copy-start
-    part-copy-end
-    copy-requires
+    unload-picture-requires
     same-length
     same-length-2
     returns-3)

@@ -8,10 +8,9 @@ use lib.Dec.{leb}
 use borrow.Author.Tests.{le-ltb, lt-ltb, le-leb, lt-leb}
 use borrow.Author.Needs.{needs}
 use denote.Ref.{now}
-use Rattle.blocks.specs.Block.{twoAt}
-use Rattle.blocks.proofs.BlockLaws.{used-le, fault-good}
-use Rattle.files.specs.File.{blockAt, contentOf}
-use Rattle.files.proofs.FileLaws.{judge-stands, judged-each}
+use Rattle.files.specs.File.{contentOf}
+use Rattle.files.proofs.FileLaws.{judge-stands}
+use Rattle.files.proofs.OneForm.{used-small}
 use Rattle.files.specs.Content.{targetFits}
 use Rattle.files.proofs.AnswerLaws.{read-refused, read-26, read-done, changed-not, changed-done, refused-not}
 use Rattle.files.proofs.read_content.Statement.{statement}
@@ -60,7 +59,7 @@ gather-requires c κs =
     let j = c .before .before .before .before .judge in
     let s = judge-stands (a .kind) b (sym (ap (λ x. x .number) (j .ensures)) ∙ c .before .before .before .if1 .left) in (
       omega arith,
-      λ i h. used-le i (length b / 512) (twoAt (blockAt b i) 6) (fault-good (blockAt b i) (a .kind) i (length b / 512) (judged-each (a .kind) b (length b / 512) (length b / 512) i h (s .blocks)) .used),
+      used-small (a .kind) b s,
       omega (arith, ap (λ x. x .bytes) (j .ensures ∙ s .answer), c .before .if3 .left),
     )
 

@@ -1,26 +1,60 @@
--- `store`: a masked store at all lines.
-use mathlib.Core.Path.{refl, _∙_}
+-- `store`: the writes of all chips make the stored memory, with every line in the mask and the first byte of a lane for what it keeps.
+use mathlib.Core.Path.{_≡_, ap, _∙_}
+use Prim.Native.Nat.{ℕ, _+_, _*_, _/_, _%_}
 use denote.Ref.{now}
-use lib.ListN.{replicate}
-use Rattle.bits.specs.Bits.{bitOf}
+use lib.ListN.{getD}
+use Rattle.bits.proofs.Binary.{on}
 use Rattle.memory.specs.Memory.{every}
-use Rattle.memory.proofs.MemoryLaws.{stored-ext, bitOf-full}
-use borrow.Author.Needs.{needs}
+use Rattle.memory.proofs.StoreLaws.{store-written, every-bits}
 use native.Mathlib.Omega.{arith}
+use borrow.Author.Needs.{needs}
 use Rattle.memory.proofs.store.Statement.{statement}
 use Rattle.memory.proofs.store.Tie as tie
 
-store-masked-requires : tie.Need-store-masked-requires
-store-masked-requires c κs = search needs
+spread-requires : tie.Need-spread-requires
+spread-requires c κs = search needs
+
+kept-by-all-requires : tie.Need-kept-by-all-requires
+kept-by-all-requires c κs = search needs
+
+slice-aggregate-write-all : tie.Need-slice-aggregate-write-all
+slice-aggregate-write-all c = search needs
+
+slice-aggregate-write-all-2 : tie.Need-slice-aggregate-write-all-2
+slice-aggregate-write-all-2 c = search needs
+
+write-all-requires : tie.Need-write-all-requires
+write-all-requires c κs = search needs
 
 same-length : tie.Need-same-length
 same-length c = search needs
 
 returns : tie.Need-returns
 returns c =
-    let a = c .before .before .before .before .before .before .args in
-    c .before .before .store-masked .ensures
-    ∙ stored-ext (now (a .mem)) (a .mode) (a .addr) (bitOf (replicate 32 255)) every (bitOf (now (a .item))) (bitOf (now (a .item))) (omega arith) bitOf-full (λ p h. refl)
+    let s = c .before .before .before .before .before .before .before .before .before in
+    let a = s .args in
+    let lanes = c .before .before .before .before .before .before .before .spread in
+    let keep = c .before .before .before .before .before .before .kept-by-all in
+    c .before .before .write-all .ensures
+    ∙ store-written (now (a .mem)) (now (a .item)) (now (a .item)) every (a .mode) (a .addr) (s .pre) (λ i. c .before .before .before .before .before .before .before .before .slice-known .given i .fits) (omega arith)
+    (λ p. on)
+    (λ p h. every-bits (now (a .item)) p)
+    (lanes .result)
+    (keep .result)
+    1
+    (lanes .ensures)
+    (λ k h.
+    let e : 32 * (k % 8) + k / 8 % 1 ≡ 32 * (k % 8) = omega arith in
+    ap (λ (x : ℕ). getD (keep .result) x 0) e ∙ keep .ensures (k % 8) (omega arith))
 
 pub store-spec : {M : Type 1} → statement M
-store-spec = tie.close (tie.spec store-masked-requires same-length returns)
+store-spec =
+    tie.close
+    (tie.spec
+    spread-requires
+    kept-by-all-requires
+    slice-aggregate-write-all
+    slice-aggregate-write-all-2
+    write-all-requires
+    same-length
+    returns)

@@ -6,39 +6,50 @@ use denote.Ref.{now}
 use Rattle.bits.specs.Steps.{written}
 use Rattle.bits.proofs.Writes.{length-written, written-then}
 use Rattle.memory.specs.Groups.{spot}
-use Rattle.memory.proofs.GroupLaws.{spot-at, lanes-filled}
+use Rattle.memory.proofs.GroupLaws.{spot-lt, spot-from, spot-on, lanes-filled}
 use borrow.Author.Needs.{needs}
 use native.Mathlib.Omega.{arith}
 use Rattle.memory.proofs.reading.read_all.Statement.{statement}
 use Rattle.memory.proofs.reading.read_all.Tie as tie
 
 abbrev Inv-loop : tie.InvT-loop
-Inv-loop mem mode addr out₀ i₀ out i = (i ≤ 32) × (length out ≡ 256) × (out ≡ written (λ n. 32 * (n % 8) + n / 8) (λ n o. getD mem (spot mode addr (n / 8) (n % 8)) 0) out₀ (8 * i))
+Inv-loop mem mode addr k first out₀ i₀ out i = (i ≤ 32) × (length out ≡ 256) × (out ≡ written (λ n. 32 * (n % 8) + n / 8) (λ n o. getD mem (spot mode addr (n / 8) (n % 8)) 0) out₀ (8 * i))
 
 abbrev μ-loop : tie.MeasureT-loop
-μ-loop mem mode addr out₀ i₀ out i = 32 - i
+μ-loop mem mode addr k first out₀ i₀ out i = 32 - i
+
+group-of-requires : tie.Need-group-of-requires Inv-loop μ-loop
+group-of-requires c κs = search needs
+
+mul-first : tie.Need-mul-first Inv-loop μ-loop
+mul-first c = search needs
+
+byte-at-requires : tie.Need-byte-at-requires Inv-loop μ-loop
+byte-at-requires c κs = search needs
+
+add-first : tie.Need-add-first Inv-loop μ-loop
+add-first c = search needs
 
 loop-holds : tie.Need-loop-holds Inv-loop μ-loop
 unfolding written
 loop-holds c = (omega arith, refl, refl)
 
-group-of-requires : tie.Need-group-of-requires Inv-loop μ-loop
-group-of-requires c κs = search needs
-
-mul-read-group : tie.Need-mul-read-group Inv-loop μ-loop
-mul-read-group c = search needs
-
-byte-at-requires : tie.Need-byte-at-requires Inv-loop μ-loop
-byte-at-requires c κs = search needs
-
-add-read-group : tie.Need-add-read-group Inv-loop μ-loop
-add-read-group c = search needs
+spot-from-requires : tie.Need-spot-from-requires Inv-loop μ-loop
+spot-from-requires c κs = search needs
 
 slice-aggregate-read-group : tie.Need-slice-aggregate-read-group Inv-loop μ-loop
 slice-aggregate-read-group c = search needs
 
 read-group-requires : tie.Need-read-group-requires Inv-loop μ-loop
-read-group-requires c κs = search needs
+read-group-requires c κs =
+    let a = c .before .before .before .before .before .before .before .args in
+    let l = c .before .before .before .loop in
+    let k = c .before .before .before .before .before .group-of in
+    let b = c .before .before .before .before .byte-at in
+    let n = c .before .spot-from in
+    let e = spot-from (a .mode) (a .addr) (l .i) (k .result) (b .result) (n .result) (omega arith) (omega arith) (omega arith) (k .ensures .0) (b .ensures .0) (n .ensures) in
+    let last = spot-lt (a .mode) (a .addr) (l .i) 7 (omega arith) (omega arith) (omega arith) in
+    search needs
 
 add-i : tie.Need-add-i Inv-loop μ-loop
 add-i c = search needs
@@ -48,24 +59,23 @@ loop-less c = search needs
 
 loop-again : tie.Need-loop-again Inv-loop μ-loop
 loop-again c =
-    let a = c .before .before .before .before .before .before .before .before .args in
-    let l = c .before .before .before .before .before .before .loop in
-    let k = c .before .before .before .before .group-of in
-    let at = c .before .before .before .byte-at in
+    let a = c .before .before .before .before .before .before .before .before .before .args in
+    let l = c .before .before .before .before .before .loop in
+    let k = c .before .before .before .before .before .before .before .group-of in
+    let b = c .before .before .before .before .before .before .byte-at in
+    let n = c .before .before .before .spot-from in
+    let e = spot-from (a .mode) (a .addr) (l .i) (k .result) (b .result) (n .result) (omega arith) (omega arith) (omega arith) (k .ensures .0) (b .ensures .0) (n .ensures) in
     let r = c .before .read-group in (
       omega arith,
       ap length (r .ensures) ∙ length-written _ _ (l .out) 8 ∙ l .inv .1,
       r .ensures ∙ written-then (λ n. 32 * (n % 8) + n / 8) (λ n o. getD (now (a .mem)) (spot (a .mode) (a .addr) (n / 8) (n % 8)) 0) (replicate 256 0) _ _ (l .out) (8 * l .i) 8 (8 * (l .i + 1)) (l .inv .2) (omega arith)
           (λ j h. omega arith)
-          (λ j o h. ap (λ (x : ℕ). getD (now (a .mem)) x 0) (same j (l .i) (k .result) (at .result) ∙ spot-at (a .mode) (a .addr) (l .i) j (k .result) (at .result) h (k .ensures .0) (at .ensures .0))),
+          (λ j o h. ap (λ (x : ℕ). getD (now (a .mem)) x 0) (spot-on (a .mode) (a .addr) (l .i) j (n .result) h e)),
     )
-  where
-    same : (j i k b : ℕ) → 32 * j + (256 * k + b) ≡ 32 * (8 * k + j) + b
-    same j i k b = omega arith
 
 returns : tie.Need-returns Inv-loop μ-loop
 returns c =
-    let a = c .before .before .before .args in
+    let a = c .before .before .before .before .before .args in
     let e : 8 * c .before .loop .i ≡ 256 = omega arith in
     c .before .loop .inv .2
     ∙ ap (written (λ n. 32 * (n % 8) + n / 8) (λ n o. getD (now (a .mem)) (spot (a .mode) (a .addr) (n / 8) (n % 8)) 0) (replicate 256 0)) e
@@ -77,11 +87,12 @@ read-all-spec =
     (tie.spec
     Inv-loop
     μ-loop
-    loop-holds
     group-of-requires
-    mul-read-group
+    mul-first
     byte-at-requires
-    add-read-group
+    add-first
+    loop-holds
+    spot-from-requires
     slice-aggregate-read-group
     read-group-requires
     add-i

@@ -4,7 +4,7 @@ use Prim.Native.Nat.{_≤_, _-_, _+_, _*_, _/_, _%_}
 use lib.ListN.{length, take}
 use denote.Ref.{now}
 use borrow.Rule.Slice.PartMut.{same-len-mid}
-use Rattle.bits.specs.Bits.{listed}
+use Rattle.bits.specs.Bits.{bitOf, listed}
 use Rattle.bits.proofs.Items.{fill-done}
 use Rattle.memory.specs.Groups.{laneByte}
 use Rattle.memory.proofs.GroupLaws.{spread-more}
@@ -14,7 +14,7 @@ use Rattle.memory.proofs.spreading.spread.Statement.{statement}
 use Rattle.memory.proofs.spreading.spread.Tie as tie
 
 abbrev Inv-loop : tie.InvT-loop
-Inv-loop item mode addr out₀ t₀ out t = (t ≤ 8) × (length out ≡ 256) × (take (32 * t) out ≡ listed (λ n. laneByte item mode addr (n % 32) (n / 32)) (32 * t))
+Inv-loop item mode addr out₀ t₀ out t = (t ≤ 8) × (length out ≡ 256) × (take (32 * t) out ≡ listed (λ n. laneByte (bitOf item) mode addr (n % 32) (n / 32)) (32 * t))
 
 abbrev μ-loop : tie.MeasureT-loop
 μ-loop item mode addr out₀ t₀ out t = 8 - t
@@ -66,7 +66,7 @@ loop-again c =
     let r = c .before .spread-lane in (
       omega arith,
       same-len-mid (32 * w .result) (32 * w .result + 32 - 32 * w .result) (l .out) (r .last .1 .1 .1 .0) (r .kept .1 .1 .1 .0) ∙ l .inv .1,
-      spread-more (now (a .item)) (a .mode) (a .addr) (l .t) (w .result) (p .result) (s .result) (l .out) _ (omega arith) (l .inv .1) (w .ensures) (p .ensures .0) (s .ensures .0) (l .inv .2) (r .ensures),
+      spread-more (bitOf (now (a .item))) (a .mode) (a .addr) (l .t) (w .result) (p .result) (s .result) (l .out) _ (omega arith) (l .inv .1) (w .ensures) (p .ensures .0) (s .ensures .0) (l .inv .2) (r .ensures),
     )
 
 returns : tie.Need-returns Inv-loop μ-loop

@@ -4,8 +4,9 @@ use Prim.Native.Nat.{_≤_, _-_, _+_, _*_}
 use lib.ListN.{length, getD}
 use denote.Ref.{now}
 use borrow.Rule.Slice.PartMut.{mid-len, same-len-mid}
-use Rattle.bits.specs.Steps.{written, mixed}
+use Rattle.bits.specs.Steps.{written}
 use Rattle.bits.proofs.Writes.{written-more}
+use Rattle.memory.specs.Groups.{renewed}
 use Rattle.memory.proofs.GroupLaws.{chip-written}
 use borrow.Author.Needs.{needs}
 use native.Mathlib.Omega.{arith}
@@ -13,10 +14,10 @@ use Rattle.memory.proofs.writing.write_group.Statement.{statement}
 use Rattle.memory.proofs.writing.write_group.Tie as tie
 
 abbrev Inv-loop : tie.InvT-loop
-Inv-loop mem₀ k at i put chosen t₀ mem t = (t ≤ 8) × (length mem ≡ 8192) × (mem ≡ written (λ n. 32 * (8 * k + n) + at) (λ n o. mixed o (getD put (32 * n + i) 0) (getD chosen (32 * n + i) 0)) mem₀ t)
+Inv-loop mem₀ k at j keep i put t₀ mem t = (t ≤ 8) × (length mem ≡ 8192) × (mem ≡ written (λ n. 32 * (8 * k + n) + at) (λ n o. renewed o (getD keep (32 * n + j) 0) (getD put (32 * n + i) 0)) mem₀ t)
 
 abbrev μ-loop : tie.MeasureT-loop
-μ-loop mem₀ k at i put chosen t₀ mem t = 8 - t
+μ-loop mem₀ k at j keep i put t₀ mem t = 8 - t
 
 loop-holds : tie.Need-loop-holds Inv-loop μ-loop
 unfolding written
@@ -85,8 +86,8 @@ loop-again c =
     let n = 8 * a .k + l .t in (
       omega arith,
       same-len-mid (32 * n) (32 * n + 32 - 32 * n) (l .mem) (w .last .0) (w .kept .0) ∙ l .inv .1,
-      chip-written (l .mem) n (a .at) _ _ _ (omega arith) (omega arith) (w .ensures)
-          ∙ written-more (λ n. 32 * (8 * a .k + n) + a .at) (λ n o. mixed o (getD (now (a .put)) (32 * n + a .i) 0) (getD (now (a .chosen)) (32 * n + a .i) 0)) (now (a .mem)) (l .t) (l .mem) _ _ (l .inv .2) refl refl,
+      chip-written (λ o. renewed o (getD (now (a .keep)) (32 * l .t + a .j) 0) (getD (now (a .put)) (32 * l .t + a .i) 0)) (l .mem) n (a .at) _ (omega arith) (omega arith) (w .ensures)
+          ∙ written-more (λ n. 32 * (8 * a .k + n) + a .at) (λ n o. renewed o (getD (now (a .keep)) (32 * n + a .j) 0) (getD (now (a .put)) (32 * n + a .i) 0)) (now (a .mem)) (l .t) (l .mem) _ _ (l .inv .2) refl refl,
     )
 
 same-length : tie.Need-same-length Inv-loop μ-loop
@@ -96,7 +97,7 @@ returns : tie.Need-returns Inv-loop μ-loop
 returns c =
     let a = c .before .before .before .before .before .args in
     let e : c .before .loop .t ≡ 8 = omega arith in
-    c .before .loop .inv .2 ∙ ap (written (λ n. 32 * (8 * a .k + n) + a .at) (λ n o. mixed o (getD (now (a .put)) (32 * n + a .i) 0) (getD (now (a .chosen)) (32 * n + a .i) 0)) (now (a .mem))) e
+    c .before .loop .inv .2 ∙ ap (written (λ n. 32 * (8 * a .k + n) + a .at) (λ n o. renewed o (getD (now (a .keep)) (32 * n + a .j) 0) (getD (now (a .put)) (32 * n + a .i) 0)) (now (a .mem))) e
 
 pub write-group-spec : {M : Type 1} → statement M
 write-group-spec =

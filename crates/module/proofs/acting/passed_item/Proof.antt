@@ -1,7 +1,8 @@
--- `acting::passed_item`: by where the source item stands. Assumes nothing.
+-- `acting::passed_item`: by where the source item stands, and whether a line moves. Assumes nothing.
 use mathlib.Core.Path.{sym, _∙_}
 use borrow.Author.Tests.{eqb-false}
 use denote.Ref.{now}
+use Rattle.network.proofs.AnswerLaws.{none-moved}
 use Rattle.module.proofs.PartLaws.{part-lent}
 use native.Mathlib.Omega.{arith}
 use Rattle.module.proofs.ActLaws.{passed-outside, passed-held}
@@ -48,14 +49,26 @@ held-item-requires c κs =
     let u = eqb-false (a .i .source) 4 (sym (c .before .takes .ensures) ∙ c .if2 .left) in
     (c .before .before .before .before .before .before .pre .0, omega (arith, c .before .before .before .before .before .before .pre .1))
 
-pass-item-requires : tie.Need-pass-item-requires
-pass-item-requires c κs = search needs
+copied-requires : tie.Need-copied-requires
+copied-requires c κs = search needs
 
 returns-3 : tie.Need-returns-3
 returns-3 c u =
-    let a = c .before .before .before .before .before .before .before .before .before .args in
+    let a = c .before .before .before .before .before .before .before .before .before .before .before .args in
+    let held = c .before .before .before .before .held-item in
+    c .copied .ensures
+    ∙ none-moved (held .result) (a .i .flip) (a .i .code) (c .before .before .if3 .taken)
+    ∙ passed-held (a .i) (now (a .mem)) (now (a .items)) (a .r) (a .taken) (sym (c .before .before .before .before .before .before .takes .ensures) ∙ c .before .before .before .before .before .if2 .left) _ (held .ensures)
+
+pass-item-requires : tie.Need-pass-item-requires
+pass-item-requires c κs = search needs
+
+returns-4 : tie.Need-returns-4
+returns-4 c u =
+    let a = c .before .before .before .before .before .before .before .before .before .before .before .args in
+    let held = c .before .before .before .before .held-item in
     c .pass-item .ensures
-    ∙ passed-held (a .i) (now (a .mem)) (now (a .items)) (a .r) (a .taken) (sym (c .before .before .before .before .takes .ensures) ∙ c .before .before .before .if2 .left) _ (c .before .before .held-item .ensures)
+    ∙ passed-held (a .i) (now (a .mem)) (now (a .items)) (a .r) (a .taken) (sym (c .before .before .before .before .before .before .takes .ensures) ∙ c .before .before .before .before .before .if2 .left) _ (held .ensures)
 
 pub passed-item-spec : {M : Type 1} → statement M
 passed-item-spec =
@@ -72,5 +85,7 @@ passed-item-spec =
     pass-part-requires
     returns-2
     held-item-requires
+    copied-requires
+    returns-3
     pass-item-requires
-    returns-3)
+    returns-4)
