@@ -14,7 +14,7 @@ use Rattle.bits.specs.Steps.{written}
 use Rattle.bits.proofs.Binary.{Bit}
 use Rattle.bits.proofs.Digits.{or-digit, digitsOf-ext}
 use Rattle.bits.proofs.Items.{bitOf-at, getD-listed, listed-ext, listed-is, part-more}
-use Rattle.bits.proofs.Writes.{length-written, written-at}
+use Rattle.bits.proofs.Writes.{length-written, written-at, written-then}
 use Rattle.bits.proofs.Xor.{xor-assoc, xor-twice, xor-split, and-xor, and-split}
 use Rattle.memory.specs.Access.{localOf, chipOf, readBit}
 use Rattle.memory.specs.Memory.{cell}
@@ -34,7 +34,7 @@ partner-lt g t h = xor-lt 3 (g % 8) t (omega arith) h
 pub placeOf-lt : (m g t : ℕ) → t < 8 → placeOf m g t < 8
 placeOf-lt m g t h = partner-lt g (bitAnd (m % 8) t) (lt-of-le-of-lt (and-le-r (m % 8) t) h)
 
-pub spot-lt : (m g i t : ℕ) → g < 256 → i < 32 → t < 8 → spot m g i t < 8192
+spot-lt : (m g i t : ℕ) → g < 256 → i < 32 → t < 8 → spot m g i t < 8192
 spot-lt m g i t hg hi ht =
     let k = groupOf-lt g i hg hi in
     omega (arith, k, byteAt-lt m g (groupOf g i) hg k)
@@ -95,7 +95,7 @@ spot-at m g i t k b h ek eb =
     ∙ sym (ap₂ (spot m g) hi lo)
 
 -- from the group that lines 0 to 7 meet to that of lines 8i to 8i+7
-pub spot-from : (m g i k b n : ℕ) → m < 256 → g < 256 → i < 32 → k ≡ groupOf g 0 → b ≡ byteAt m g k → n ≡ spotFrom (256 * k + b) m i → n ≡ spot m g i 0
+spot-from : (m g i k b n : ℕ) → m < 256 → g < 256 → i < 32 → k ≡ groupOf g 0 → b ≡ byteAt m g k → n ≡ spotFrom (256 * k + b) m i → n ≡ spot m g i 0
 spot-from m g i k b n hm hg hi ek eb en =
     let start : 256 * k + b ≡ g / 8 * 256 + byteAt m g (g / 8) =
     ap (λ (x : ℕ). 256 * k + x) eb ∙ ap (λ (x : ℕ). 256 * x + byteAt m g x) (ek ∙ xor-zero-r (g / 8)) ∙ turned (g / 8) (byteAt m g (g / 8)) in
@@ -121,8 +121,15 @@ spot-from m g i k b n hm hg hi ek eb en =
     chips : (k b : ℕ) → k * 256 + b ≡ 32 * (8 * k + 0) + b
     chips k b = omega arith
 
+-- where the eight chips of the group are then read, and that they are in the memory
+pub spot-group : (m g i k b n : ℕ) → m < 256 → g < 256 → i < 32 → k ≡ groupOf g 0 → b ≡ byteAt m g k → n ≡ spotFrom (256 * k + b) m i
+    → (n ≡ spot m g i 0) × (n + 224 < 8192)
+spot-group m g i k b n hm hg hi ek eb en =
+    let e : n ≡ spot m g i 0 = spot-from m g i k b n hm hg hi ek eb en in
+    (e, omega (arith, spot-lt m g i 7 hg hi (omega arith)))
+
 -- and on to chip t of the group
-pub spot-on : (m g i t n : ℕ) → t < 8 → n ≡ spot m g i 0 → 32 * t + n ≡ spot m g ((8 * i + t) / 8) ((8 * i + t) % 8)
+spot-on : (m g i t n : ℕ) → t < 8 → n ≡ spot m g i 0 → 32 * t + n ≡ spot m g ((8 * i + t) / 8) ((8 * i + t) % 8)
 spot-on m g i t n h e =
     let hi : (8 * i + t) / 8 ≡ i = omega arith in
     let lo : (8 * i + t) % 8 ≡ t = omega arith in
@@ -170,6 +177,16 @@ lanes-filled ψ l size =
     ap (λ (x : ℕ). getD (written (λ n. 32 * (n % 8) + n / 8) (λ n o. ψ (n / 8) (n % 8)) l 256) x 0) (sym at)
     ∙ written-at (λ n. 32 * (n % 8) + n / 8) (λ n o. ψ (n / 8) (n % 8)) l 256 n (λ j k e. lane-inj n j (omega arith) k e) (omega arith) (omega arith)
     ∙ ap₂ ψ hi lo)
+
+-- one group more
+pub read-more : (mem : List ℕ) (m g i j n : ℕ) (out₀ out : List ℕ) → j ≡ i + 1 → n ≡ spot m g i 0
+    → out ≡ written (λ k. 32 * (k % 8) + k / 8) (λ k o. getD mem (spot m g (k / 8) (k % 8)) 0) out₀ (8 * i)
+    → written (λ t. 32 * t + i) (λ t o. getD mem (32 * t + n) 0) out 8
+    ≡ written (λ k. 32 * (k % 8) + k / 8) (λ k o. getD mem (spot m g (k / 8) (k % 8)) 0) out₀ (8 * j)
+read-more mem m g i j n out₀ out ej en e =
+    written-then (λ k. 32 * (k % 8) + k / 8) (λ k o. getD mem (spot m g (k / 8) (k % 8)) 0) out₀ (λ t. 32 * t + i) (λ t o. getD mem (32 * t + n) 0) out (8 * i) 8 (8 * j) e (omega arith)
+    (λ t h. omega arith)
+    (λ t o h. ap (λ (x : ℕ). getD mem x 0) (spot-on m g i t n h en))
 
 -- one lane more
 pub gather-more : (F : ℕ → ℕ → ℕ) → ((i j : ℕ) → Bit (F i j)) → (out lane : List ℕ) (s j : ℕ) → j < 8
