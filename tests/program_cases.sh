@@ -1,6 +1,6 @@
 #!/bin/bash
 # The program on folders of every kind, from outside: absent, empty, too long, damaged and unreadable files; what happens to an old after.pic;
-# what is left behind. Prints a line for each case, and at last 'N passed, 0 failed'. Run it from anywhere; it builds the program if there is none.
+# what is left behind; two runs in one folder. Prints a line for each case, and at last 'N passed, 0 failed'. Run it from anywhere; it builds the program if there is none.
 #   tests/program_cases.sh
 set -u
 here=$(cd "$(dirname "$0")/.." && pwd -P)
@@ -8,6 +8,7 @@ make="python3 $here/tests/make_blocks.py"
 work=$(mktemp -d)
 trap 'chmod -R u+rwx "$work" 2>/dev/null; rm -rf "$work"' EXIT
 passed=0 failed=0
+die() { printf 'tests/program_cases.sh: %s\n' "$*" >&2; exit 2; }
 
 # A fresh folder with the document's example: an all-zero picture, no items, and a list of two instructions.
 fresh() { rm -rf "$work/f"; mkdir "$work/f"; cp "$here"/crates/staran_run/data/* "$work/f"; cd "$work/f" || exit 2; }
@@ -24,10 +25,11 @@ judge() { # NAME CONDITION: counts a case; CONDITION is the status of the test b
 says() {
     run
     printf '%b' "$2" >"$work/want"
-    cmp -s "$work/out" "$work/want" && [ ! -e "$work/f/after.pic.new" ] &&
+    cmp -s "$work/out" "$work/want" && [ "$(left)" -eq 0 ] &&
         if [ -n "${3:-}" ]; then grep -qx -- "$3" "$work/err"; else [ ! -s "$work/err" ]; fi
     judge "$1" $?
 }
+left() { find "$work/f" -name 'after.pic.new.*' | wc -l; } # how many new files stand there that no run has given its name
 kept() { cmp -s "$work/f/after.pic" "$work/old"; judge "$1" $?; }
 none() { [ ! -e "$work/f/after.pic" ]; judge "$1" $?; }
 old() { head -c 5000 /dev/urandom >"$work/old"; cp "$work/old" "$work/f/after.pic"; }
@@ -95,13 +97,39 @@ fi
 # ---- writing after.pic
 fresh; old; says "an old after.pic is replaced" "$done_lines"; size=$(wc -c <"$work/f/after.pic"); [ "$size" -eq 8704 ]; judge "all of it" $?
 fresh; head -c 20000 /dev/zero >after.pic; rm run.lst; says "a longer after.pic is replaced" "r 0 0 0 0 0\n"; same "with nothing of the old one left"
-fresh; echo stale >after.pic.new; says "a stale after.pic.new goes" "$done_lines"
+fresh; echo stale >after.pic.new; mkdir after.pic.new.aaaaaaaaaaaaaaaa; run; printf '%b' "$done_lines" | cmp -s - "$work/out" && [ "$(cat after.pic.new)" = stale ]; judge "what an earlier run left is in nobody's way, and stays" $?
 fresh; mkdir after.pic; says "after.pic is a directory" "" "after.pic: Is a directory"
-fresh; mkdir after.pic.new; run; [ ! -s "$work/out" ] && grep -q 'after.pic.new: File exists' "$work/err"; judge "after.pic.new is a directory: nothing is printed" $?; none "and no after.pic is made"
-fresh; old; (ulimit -f 4; trap '' XFSZ; run); [ ! -s "$work/out" ] && [ -s "$work/err" ]; judge "a write that fails half way: nothing is printed, and the reason is said" $?; kept "it keeps an old after.pic"; [ ! -e "$work/f/after.pic.new" ]; judge "and no after.pic.new is left" $?
+fresh; old; (ulimit -f 4; trap '' XFSZ; run); [ ! -s "$work/out" ] && [ -s "$work/err" ]; judge "a write that fails half way: nothing is printed, and the reason is said" $?; kept "it keeps an old after.pic"; [ "$(left)" -eq 0 ]; judge "and no new file is left" $?
 if [ "$(id -u)" -ne 0 ]; then
     fresh; old; chmod 555 .; run; chmod 755 .; [ ! -s "$work/out" ] && grep -q 'after.pic.new: Permission denied' "$work/err"; judge "a folder that may not be written" $?; kept "it keeps an old after.pic"
 fi
+
+# ---- two runs in one folder: each has a new file of its own, so after.pic is the old one or a whole new one, whatever the order
+# shellcheck source=tests/kit.sh
+. "$here/tests/kit.sh"
+room=$work
+# shellcheck source=tests/compiler.sh
+. "$here/tests/compiler.sh"
+for name in one two; do "$compiler" -std=gnu11 -Wall -Wextra -Werror -O2 -shared -fPIC -nostdlib -DNAME="\"$name\"" -o "$work/$name.so" "$here/tests/program/pause.c" || die "tests/program/pause.c does not build"; done
+hold() { # NAME: starts a run in the folder, and comes back when it has made its new file and written nothing
+    rm -f "$work/$1".{reached,go,fail}
+    (cd "$work/f" && exec timeout 60 ${emulator:+"$emulator"} "$loader" --library-path "$tools/lib" --preload "$work/$1.so" "$here/target/bin/staran_run" >"$work/$1.out" 2>"$work/$1.err") &
+    eval "$1=$!"
+    for _ in $(seq 500); do [ ! -e "$work/$1.reached" ] || return 0; sleep 0.02; done
+    return 1
+}
+release() { : >"$work/$1.go"; wait "${!1}" 2>/dev/null; } # NAME: lets it go on, and waits for its end
+another() { cp "$here/demo/before.pic" "$work/f/before.pic"; rm -f "$work/f/run.lst"; } # a picture that the empty list leaves as it is
+whole() { cmp -s "$work/f/after.pic" "$1"; } # after.pic is that picture
+
+fresh; rm run.lst; old; cp before.pic "$work/first"; hold one; another; run; whole "$here/demo/before.pic" && [ "$(left)" -eq 1 ]; judge "a run ends while another has just made its file" $?
+: >"$work/one.fail"; release one; whole "$here/demo/before.pic" && [ ! -s "$work/one.out" ] && grep -q 'No space left' "$work/one.err" && [ "$(left)" -eq 0 ]; judge "the other's write then fails: the whole picture stays, and the reason is said" $?
+fresh; rm run.lst; old; hold one; another; hold two; [ "$(left)" -eq 2 ]; judge "two runs have a new file each" $?; kept "and after.pic is still the old one"
+release two; whole "$here/demo/before.pic"; judge "the second ends first: after.pic is its picture" $?
+release one; whole "$work/first" && [ "$(left)" -eq 0 ]; judge "then the first: after.pic is its picture, and nothing else is left" $?
+fresh; rm run.lst; old; hold one; hold two; : >"$work/one.fail"; : >"$work/two.fail"; release one; release two; [ "$(left)" -eq 0 ]; judge "both fail, and leave nothing" $?; kept "and after.pic is the old one"
+fresh; rm run.lst; old; hold one; { pkill -KILL -P "$one"; kill -KILL "$one"; wait "$one"; } 2>/dev/null; : >"$work/one.go"; kept "a run that is killed keeps an old after.pic"
+another; run; whole "$here/demo/before.pic"; judge "and the next run is not hindered by what it left" $?
 
 # ---- printing
 fresh; timeout 20 "$here/staran" "$work/f" >/dev/full 2>"$work/err"; : >"$work/out"; grep -qx 'standard output: No space left on device' "$work/err" && [ -s "$work/f/after.pic" ]; judge "an output that takes nothing: the reason is said, and after.pic is whole" $?

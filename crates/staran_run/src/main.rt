@@ -37,28 +37,32 @@ fn load(name: &[u8], buffer: &mut [u8]) -> Found {
     found
 }
 
-// All of the picture, through to the device.
-fn put(fd: i32, picture: &[u8]) -> bool {
-    if !io::write_all(fd, picture) {
-        os::fail(b"after.pic.new");
-        return false;
-    }
-    if libc::fsync(fd) < 0 {
-        os::fail(b"after.pic.new");
-        return false;
-    }
-    true
+// One of sixteen letters.
+fn letter(x: u8) -> u8 {
+    b'a' + x % 16
 }
 
-// The picture in a new file beside after.pic. One that an earlier run left there goes first; a name that is taken all the same is refused.
-fn write_new(picture: &[u8]) -> bool {
-    os::unlink(b"after.pic.new");
-    let fd = os::create(b"after.pic.new");
-    if fd < 0 {
-        os::fail(b"after.pic.new");
-        return false;
+// The name of a run's own new file: after.pic.new, a dot and sixteen letters, two for each random byte.
+fn own_name(random: &[u8; 8]) -> [u8; 30] {
+    let mut name = *b"after.pic.new.................";
+    let mut i: usize = 0;
+    while i < 8 {
+        name[14 + 2 * i] = letter(random[i] / 16);
+        name[15 + 2 * i] = letter(random[i]);
+        i += 1;
     }
-    let whole = put(fd, picture);
+    name
+}
+
+// All of the picture, through to the device, and the file closed.
+fn put(fd: i32, picture: &[u8]) -> bool {
+    let mut whole = io::write_all(fd, picture);
+    if whole {
+        whole = libc::fsync(fd) >= 0;
+    }
+    if !whole {
+        os::fail(b"after.pic.new");
+    }
     if libc::close(fd) < 0 {
         os::fail(b"after.pic.new");
         return false;
@@ -66,15 +70,26 @@ fn write_new(picture: &[u8]) -> bool {
     whole
 }
 
-// after.pic is the whole picture, or as it was: the new file takes its name only once it is complete, and is removed where it cannot.
+// after.pic is the whole picture, or as it was: a new file of this run's own takes its name only once it is complete, and is removed where it cannot. Other runs in the folder have others, and none touches a file that it has not made.
 fn replace(picture: &[u8]) -> bool {
-    if write_new(picture) {
-        if os::rename(b"after.pic.new", b"after.pic") == 0 {
+    let mut random = [0u8; 8];
+    if libc::getentropy(&mut random) < 0 {
+        os::fail(b"after.pic.new");
+        return false;
+    }
+    let name = own_name(&random);
+    let fd = os::create(&name);
+    if fd < 0 {
+        os::fail(b"after.pic.new");
+        return false;
+    }
+    if put(fd, picture) {
+        if os::rename(&name, b"after.pic") == 0 {
             return true;
         }
         os::fail(b"after.pic");
     }
-    os::unlink(b"after.pic.new");
+    os::unlink(&name);
     false
 }
 
