@@ -1,5 +1,6 @@
 /* Makes one call of the library some times, on fixed buffers, so that its executed instructions can be counted:
- *     library CALL TIMES
+ *     library TIMES CALL
+ *     library TIMES list INSTRUCTION COUNT      a run of a list that has the instruction, in hex digits, COUNT times
  * tests/count-library runs it. */
 #include "staran.h"
 
@@ -7,10 +8,10 @@
 #include <stdlib.h>
 #include <string.h>
 
-enum { WIDTH = 32, LIST = 8192 };
+enum { WIDTH = 32, LIST = 8192, MANY = 4096, LONGEST = STARAN_INSTRUCTION_BYTES * MANY };
 
 static uint8_t memory[STARAN_MEMORY_BYTES], registers[STARAN_REGISTERS_BYTES], out[STARAN_ITEM_BYTES];
-static uint8_t list[STARAN_SUM_LIST_BYTES(WIDTH)], content[LIST], target[LIST], file[STARAN_FILE_BYTES(LIST)], picture[STARAN_PICTURE_FILE_BYTES];
+static uint8_t list[STARAN_SUM_LIST_BYTES(WIDTH)], many[LONGEST], content[LIST], target[LIST], file[STARAN_FILE_BYTES(LIST)], picture[STARAN_PICTURE_FILE_BYTES];
 static staran_registers record;
 static uint8_t item[32], passed[32];
 static uint32_t answer[5];
@@ -25,8 +26,25 @@ static void prepare(void)
     memcpy(registers, content, sizeof registers);
     memcpy(item, content + 7, sizeof item);
     staran_sum_list(0, 32, 64, WIDTH, list, sizeof list, answer);
+    for (size_t i = 0; i < sizeof many; i++)
+        many[i] = list[i % sizeof list];
+    many[sizeof many - 1] = 0x50; /* a choice over 4, or byte 7 of a store: 11 in any kind */
     staran_write_content(STARAN_LIST, content, sizeof content, file, sizeof file, answer);
     staran_write_picture(STARAN_PICTURE, memory, sizeof memory, registers, sizeof registers, picture, sizeof picture, answer);
+}
+
+/* The list of `count` times the instruction that 16 hex digits say. */
+static size_t prepare_list(const char *digits, size_t count)
+{
+    uint64_t instruction = strtoull(digits, NULL, 16);
+    for (size_t i = 0; i < STARAN_INSTRUCTION_BYTES * count; i++)
+        many[i] = (uint8_t)(instruction >> (56 - 8 * (i % 8)));
+    return STARAN_INSTRUCTION_BYTES * count;
+}
+
+static void run(const uint8_t *instructions, size_t length)
+{
+    staran_run(memory, sizeof memory, registers, sizeof registers, instructions, length, item, 0, out, sizeof out, answer);
 }
 
 static void pass(uint8_t flip, uint8_t code) { staran_pass(item, flip, code, passed, answer); }
@@ -36,7 +54,7 @@ static void read_list(size_t length)
     staran_read_content(STARAN_LIST, file, length, target, sizeof target, answer);
 }
 
-static int call(const char *name)
+static int call(const char *name, size_t length)
 {
     if (strcmp(name, "pass-both") == 0)
         pass(90, 0x83);
@@ -51,7 +69,11 @@ static int call(const char *name)
     else if (strcmp(name, "sum-list") == 0)
         staran_sum_list(0, 32, 64, WIDTH, list, sizeof list, answer);
     else if (strcmp(name, "run-sum") == 0)
-        staran_run(memory, sizeof memory, registers, sizeof registers, list, sizeof list, item, 0, out, sizeof out, answer);
+        run(list, sizeof list);
+    else if (strcmp(name, "list") == 0)
+        run(many, length);
+    else if (strcmp(name, "judge") == 0)
+        run(many, sizeof many);
     else if (strcmp(name, "step") == 0)
         staran_step(memory, sizeof memory, &record, item, 0, out, sizeof out, list, STARAN_INSTRUCTION_BYTES, answer);
     else if (strcmp(name, "read-list") == 0)
@@ -73,13 +95,16 @@ static int call(const char *name)
 
 int main(int count, char **words)
 {
-    if (count != 3) {
-        fputs("usage: library CALL TIMES\n", stderr);
+    size_t length = 0;
+    if (count != 3 && count != 5) {
+        fputs("usage: library TIMES CALL [INSTRUCTION COUNT]\n", stderr);
         return 2;
     }
     prepare();
-    for (int times = atoi(words[2]); times > 0; times--)
-        if (!call(words[1])) {
+    if (count == 5)
+        length = prepare_list(words[3], (size_t)atoi(words[4]));
+    for (int times = atoi(words[1]); times > 0; times--)
+        if (!call(words[2], length)) {
             fputs("no such call\n", stderr);
             return 2;
         }

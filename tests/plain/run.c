@@ -1,0 +1,172 @@
+/* The judging of a list, its run and a step. */
+#include "plain.h"
+
+#include <string.h>
+
+static int stores(const uint8_t *i) { return i[0] == 2 || i[0] == 3; }
+static int touches(const uint8_t *i) { return stores(i) || (i[1] == 0 && (i[0] == 0 || i[0] == 1 || i[0] == 4)); }
+static int takes(const uint8_t *i) { return i[1] == 4; }
+static int gives(const uint8_t *i) { return i[0] == 4 || i[0] == 5; }
+
+/* 5 to 11, or 0. */
+static uint32_t fault(const uint8_t *i)
+{
+    if (i[0] > 5)
+        return STARAN_KIND;
+    if (i[1] > 4 || (stores(i) && i[1] == 0) || (i[0] == 5 && i[1] != 0))
+        return STARAN_SOURCE;
+    if (touches(i)) {
+        if (i[2] == 0)
+            return STARAN_NO_MODE;
+        if (i[2] > 1)
+            return STARAN_MODE_TAG;
+    } else if ((i[2] | i[3] | i[4]) != 0)
+        return STARAN_MODE_UNUSED;
+    if ((i[6] != 0 && (stores(i) || !plain_is_code(i[6]))) || (i[0] == 5 && (i[5] | i[6]) != 0))
+        return STARAN_SHIFT;
+    if (i[0] == 0 ? i[7] > 79 : i[7] != 0)
+        return STARAN_LOGIC;
+    return STARAN_DONE;
+}
+
+/* The first instruction for which `have` bytes are too few. */
+static uint32_t short_at(int (*wants)(const uint8_t *), const uint8_t *list, size_t have)
+{
+    uint32_t k = 0;
+    for (size_t used = 0;; k++)
+        if (wants(list + 8 * k)) {
+            used += ITEM;
+            if (have < used)
+                return k;
+        }
+}
+
+static void give(uint32_t *answer, uint32_t number, uint32_t place, uint32_t steps, uint32_t taken, uint32_t given)
+{
+    answer[0] = number;
+    answer[1] = place;
+    answer[2] = steps;
+    answer[3] = taken;
+    answer[4] = given;
+}
+
+static void judge(size_t memory, size_t registers, const uint8_t *list, size_t length, size_t items, size_t out, uint32_t answer[5])
+{
+    uint32_t number = memory != MEMORY                           ? STARAN_MEMORY_LENGTH
+                      : registers != REGISTERS                   ? STARAN_REGISTERS_LENGTH
+                      : length % 8 != 0 || length > 32768        ? STARAN_LIST_LENGTH
+                      : items % ITEM != 0 || items > 32768       ? STARAN_ITEMS_LENGTH
+                                                                 : STARAN_DONE;
+    uint32_t taken = 0, given = 0;
+    if (number != STARAN_DONE) {
+        give(answer, number, 0, 0, 0, 0);
+        return;
+    }
+    for (uint32_t k = 0; k < length / 8; k++) {
+        const uint8_t *i = list + 8 * k;
+        number = fault(i);
+        if (number != STARAN_DONE) {
+            give(answer, number, k, 0, 0, 0);
+            return;
+        }
+        taken += (uint32_t)takes(i);
+        given += (uint32_t)gives(i);
+    }
+    if (items < (size_t)ITEM * taken)
+        give(answer, STARAN_ITEMS_TOO_FEW, short_at(takes, list, items), 0, 0, 0);
+    else if (out < (size_t)ITEM * given)
+        give(answer, STARAN_OUT_TOO_SHORT, short_at(gives, list, out), 0, 0, 0);
+    else
+        give(answer, STARAN_DONE, 0, (uint32_t)(length / 8), taken, given);
+}
+
+/* Function bit 2r + f is the new bit for old bit r and passed bit f. Choice 0: X; 1: Y; 2: both; 3: X where Y is 1; 4: X where the old Y is 1, and Y everywhere. */
+static uint8_t function_byte(const uint8_t mask[4], uint8_t old, uint8_t item)
+{
+    uint8_t zero = mask[0] ^ ((mask[0] ^ mask[1]) & item), one = mask[2] ^ ((mask[2] ^ mask[3]) & item);
+    return zero ^ ((zero ^ one) & old);
+}
+
+static void logic(uint8_t x[restrict 32], uint8_t y[restrict 32], const uint8_t item[restrict 32], uint8_t byte7)
+{
+    uint8_t mask[4], nx[ITEM], ny[ITEM];
+    unsigned choice = byte7 / 16;
+    uint8_t at0 = choice == 0 || choice == 2 ? 255 : 0, at1 = choice != 1 ? 255 : 0, both = choice == 1 || choice == 2 || choice == 4 ? 255 : 0;
+    for (unsigned k = 0; k < 4; k++)
+        mask[k] = byte7 >> k & 1 ? 255 : 0;
+    for (unsigned i = 0; i < ITEM; i++) {
+        uint8_t chosen = at0 ^ ((at0 ^ at1) & y[i]);
+        nx[i] = x[i] ^ ((x[i] ^ function_byte(mask, x[i], item[i])) & chosen);
+        ny[i] = y[i] ^ ((y[i] ^ function_byte(mask, y[i], item[i])) & both);
+    }
+    memcpy(x, nx, ITEM);
+    memcpy(y, ny, ITEM);
+}
+
+static void resolve(const uint8_t y[32], uint8_t out[32])
+{
+    memset(out, 0, ITEM);
+    for (unsigned k = 0; k < 256; k++)
+        if (y[k / 8] >> k % 8 & 1) {
+            out[0] = 1;
+            out[1] = (uint8_t)k;
+            return;
+        }
+}
+
+static void run_list(uint8_t *memory, uint8_t *m, uint8_t *x, uint8_t *y, const uint8_t *list, size_t count, const uint8_t *items, uint8_t *out)
+{
+    for (const uint8_t *i = list; i < list + 8 * count; i += 8) {
+        uint8_t item[ITEM], mask[ITEM];
+        if (i[0] == 5) {
+            resolve(y, out);
+            out += ITEM;
+            continue;
+        }
+        if (i[1] == 0)
+            plain_load(memory, i[3], i[4], item);
+        else
+            memcpy(item, i[1] == 1 ? m : i[1] == 2 ? x : i[1] == 3 ? y : items, ITEM);
+        if (i[1] == 4)
+            items += ITEM;
+        if ((i[5] | i[6]) != 0)
+            plain_pass(item, i[5], i[6], item);
+        switch (i[0]) {
+        case 0:
+            logic(x, y, item, i[7]);
+            break;
+        case 1:
+            memcpy(m, item, ITEM);
+            break;
+        case 2:
+            plain_store(memory, i[3], i[4], item);
+            break;
+        case 3:
+            plain_flip(m, i[5], mask);
+            plain_store_masked(memory, i[3], i[4], item, mask);
+            break;
+        default:
+            memcpy(out, item, ITEM);
+            out += ITEM;
+        }
+    }
+}
+
+void staran_run(uint8_t *memory, size_t memory_length, uint8_t *registers, size_t registers_length, const uint8_t *list, size_t list_length,
+                const uint8_t *items, size_t items_length, uint8_t *out, size_t out_length, uint32_t answer[5])
+{
+    judge(memory_length, registers_length, list, list_length, items_length, out_length, answer);
+    if (answer[0] == STARAN_DONE)
+        run_list(memory, registers, registers + 32, registers + 64, list, list_length / 8, items, out);
+}
+
+void staran_step(uint8_t *memory, size_t memory_length, staran_registers *registers, const uint8_t *items, size_t items_length, uint8_t *out,
+                 size_t out_length, const uint8_t *instruction, size_t instruction_length, uint32_t answer[5])
+{
+    if (memory_length == MEMORY && instruction_length != 8)
+        give(answer, STARAN_LIST_LENGTH, 0, 0, 0, 0);
+    else
+        judge(memory_length, REGISTERS, instruction, instruction_length, items_length, out_length, answer);
+    if (answer[0] == STARAN_DONE)
+        run_list(memory, registers->m, registers->x, registers->y, instruction, 1, items, out);
+}
