@@ -8,3 +8,4 @@ pub mod Puts
 pub mod Tests
 pub mod FlipLaws
 pub mod Search
+pub mod Counts

@@ -18,7 +18,7 @@ use Rattle.bits.proofs.Items.{bitOf-bit, bitOf-pack, pack-ext}
 use Rattle.network.specs.Shifts.{signal}
 use Rattle.network.specs.Pass.{shifted, moved, source, passed}
 use Rattle.network.specs.Wired.{significant, swapped, level, wired, levelled, wiredItem}
-use Rattle.network.proofs.Counts.{significant-le, significant-gt}
+use Rattle.network.proofs.Significant.{significant-le, significant-gt}
 use Rattle.network.proofs.PassLaws.{moved-lt, source-moved}
 
 le-or-lt : (a b : ℕ) → (a ≤ b) ⊎ (b < a)

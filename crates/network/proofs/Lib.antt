@@ -1,5 +1,5 @@
 -- Laws of the definitions in specs/, for the proofs of this crate and of those above it.
-pub mod Counts
+pub mod Significant
 pub mod PassLaws
 pub mod Agreement
 pub mod TableRules

@@ -10,7 +10,7 @@ use lib.Pow.{pow-pos, pow-mono, shl-exact}
 use Rattle.bits.specs.Bits.{digit}
 use Rattle.network.specs.Shifts.{signal}
 use Rattle.network.specs.Wired.{significant, swapped, level, levelled, wiredItem}
-use Rattle.network.proofs.Counts.{significant-le, significant-leading}
+use Rattle.network.proofs.Significant.{significant-le, significant-leading}
 
 pub one-up : (j : ℕ) → j < 8 → (1 * 2 ^ j) % 256 ≡ 2 ^ j
 one-up j h = shl-exact {a = 1} 1 j 8 (omega arith) (omega arith) ∙ one-mul (2 ^ j)

@@ -1,50 +1,22 @@
--- The smallest line of a search by bytes, by the trailing zeros of the first byte that is not 0; what the resolver's answer says. Assumes nothing.
+-- The smallest line of a search by bytes, by the trailing zeros of the first byte that is not 0 (`bits`, Counts); what the resolver's answer says. Assumes nothing.
 use mathlib.Core.Path.{_≡_, refl, sym, ap, _∙_}
 use mathlib.Core.Bool.{Bool, false, cond}
 use mathlib.Core.List.{List, _∷_, replicate}
 use mathlib.Core.Logic.{_≢_}
-use Prim.Native.Nat.{ℕ, zero, suc, _+_, _-_, _*_, _/_, _%_, _^_, _<_, _≤_}
-use native.Mathlib.Nat.{div-div-eq-div-mul, div-one, pow-suc, pow-succ', zero-div}
+use Prim.Native.Nat.{ℕ, _+_, _-_, _*_, _%_, _^_, _<_, _≤_}
+use native.Mathlib.Nat.{zero-div}
 use native.Mathlib.Decide.{decLt}
 use native.Mathlib.Omega.{arith}
-use lib.Count.{trailingZeros, under}
+use lib.Count.{trailingZeros}
 use lib.Dec.{eqb, ltb}
 use lib.ListN.{getD}
 use borrow.Author.Tests.{eqb-true, eqb-false, eq-eqb, ne-eqb, lt-ltb}
 use Rattle.bits.specs.Bits.{digit, bitOf}
 use Rattle.bits.specs.Search.{first}
+use Rattle.bits.proofs.Counts.{trailing-below, trailing-at, trailing-lt}
 use Rattle.bits.proofs.Items.{bitOf-at}
 use Rattle.bits.proofs.Search.{NoneBelow, found, found-none, found-at, none-found}
 use Rattle.registers.specs.Resolver.{smallest, resolved}
-
--- ---- trailing zeros: the lowest digit that is 1
-
-digit-half : (x j : ℕ) → digit x (suc j) ≡ digit (x / 2) j
-digit-half x j = ap (λ (y : ℕ). x / y % 2) (pow-succ' 2 j) ∙ sym (ap (λ (y : ℕ). y % 2) (div-div-eq-div-mul x 2 (2 ^ j)))
-
--- of a number that is not 0 and below 2 ^ n, digit trailingZeros is 1, and is below n
-pub trailing-one : (n x : ℕ) → 0 < x → x < 2 ^ n → (trailingZeros n x < n) × (digit x (trailingZeros n x) ≡ 1)
-unfolding trailingZeros
-trailing-one zero x p h = absurd (omega arith)
-trailing-one (suc n) x p h =
-    let e : 2 ^ suc n ≡ 2 ^ n * 2 = pow-suc 2 n in
-    go (x % 2) refl (λ z. trailing-one n (x / 2) (omega arith) (omega arith))
-  where
-    go : (r : ℕ) → x % 2 ≡ r → (x % 2 ≡ 0 → (trailingZeros n (x / 2) < n) × (digit (x / 2) (trailingZeros n (x / 2)) ≡ 1))
-        → (under r (trailingZeros n (x / 2)) < suc n) × (digit x (under r (trailingZeros n (x / 2))) ≡ 1)
-    go zero e ih = let l = ih e .0 in (omega arith, digit-half x (trailingZeros n (x / 2)) ∙ ih e .1)
-    go (suc r) e ih = (omega arith, ap (λ (y : ℕ). y % 2) (div-one x) ∙ omega arith)
-
--- and the digits below it are 0
-pub trailing-zero : (n x j : ℕ) → j < trailingZeros n x → digit x j ≡ 0
-unfolding trailingZeros
-trailing-zero zero x j h = absurd (omega arith)
-trailing-zero (suc n) x j h = go (x % 2) refl j h (λ i. trailing-zero n (x / 2) i)
-  where
-    go : (r : ℕ) → x % 2 ≡ r → (j : ℕ) → j < under r (trailingZeros n (x / 2)) → ((i : ℕ) → i < trailingZeros n (x / 2) → digit (x / 2) i ≡ 0) → digit x j ≡ 0
-    go zero e zero h ih = ap (λ (y : ℕ). y % 2) (div-one x) ∙ e
-    go zero e (suc j) h ih = digit-half x j ∙ ih j (omega arith)
-    go (suc r) e j h ih = absurd (omega arith)
 
 -- ---- a search by bytes
 
@@ -77,14 +49,14 @@ module _ (y : List ℕ) (i : ℕ) (before : NoneTo y i) where
   pub hit-byte : i < 32 → 0 < getD y i 0 → getD y i 0 < 256 → 8 * i + trailingZeros 8 (getD y i 0) ≡ smallest (bitOf y)
   unfolding smallest
   hit-byte hi p h =
-      let o = trailing-one 8 (getD y i 0) p h in
-      found (isOne y) 256 (8 * i + trailingZeros 8 (getD y i 0)) (omega (arith, o .0)) (λ k q. go k q (decLt k (8 * i)))
-      (ap (λ (x : ℕ). eqb x 1) (bitOf-at y i (trailingZeros 8 (getD y i 0)) (omega (arith, o .0)) ∙ o .1))
+      let t : trailingZeros 8 (getD y i 0) < 8 = trailing-lt 8 (getD y i 0) p h in
+      found (isOne y) 256 (8 * i + trailingZeros 8 (getD y i 0)) (omega arith) (λ k q. go k q (decLt k (8 * i)))
+      (ap (λ (x : ℕ). eqb x 1) (bitOf-at y i (trailingZeros 8 (getD y i 0)) t ∙ trailing-at 8 (getD y i 0) t))
     where
       go : (k : ℕ) → k < 8 * i + trailingZeros 8 (getD y i 0) → Dec (k < 8 * i) → isOne y k ≡ false
       go k q (yes u) = before k u
       go k q (no u) =
-          zero-at k (omega arith) (omega (arith, trailing-one 8 (getD y i 0) p h .0)) (trailing-zero 8 (getD y i 0) (k - 8 * i) (omega arith))
+          zero-at k (omega arith) (omega (arith, trailing-lt 8 (getD y i 0) p h)) (trailing-below 8 (getD y i 0) (k - 8 * i) (omega arith))
 
 -- where all 32 bytes were passed there is none
 pub all-passed : (y : List ℕ) (i : ℕ) → i ≡ 32 → NoneTo y i → 256 ≡ smallest (bitOf y)
