@@ -32,12 +32,12 @@ pub fault-high : (i : Instruction) → faultOf i ≤ 11
 unfolding faultOf
 fault-high i = numbered-high 4 (instructionRows i)
 
-has-it : (wants : Instruction → Bool) (list : List ℕ) (have j : ℕ) → lacks wants list have j ≡ false → Has wants list have j
+pub has-it : (wants : Instruction → Bool) (list : List ℕ) (have j : ℕ) → lacks wants list have j ≡ false → Has wants list have j
 has-it wants list have j e w =
     ltb-false have (32 * count (λ i. wants (instructionAt list i)) j + 32)
     (and-none (wants (instructionAt list j)) (ltb have (32 * count (λ i. wants (instructionAt list i)) j + 32)) e w)
 
-it-has : (wants : Instruction → Bool) (list : List ℕ) (have j : ℕ) → Has wants list have j → lacks wants list have j ≡ false
+pub it-has : (wants : Instruction → Bool) (list : List ℕ) (have j : ℕ) → Has wants list have j → lacks wants list have j ≡ false
 it-has wants list have j h = go (wants (instructionAt list j)) refl
   where
     go : (b : Bool) → wants (instructionAt list j) ≡ b → (b && ltb have (32 * count (λ i. wants (instructionAt list i)) j + 32)) ≡ false

@@ -1,20 +1,31 @@
--- What the searches find on the way, and what a run relies on after them. Only contracts of inner functions cite this file: no promise to a user rests on it.
+-- What the quick test and the searches find on the way, and what a run relies on after them. Only contracts of inner functions cite this file: no promise to a user rests on it.
 use mathlib.Core.Path.{_≡_}
-use mathlib.Core.Bool.{Bool, true}
+use mathlib.Core.Bool.{Bool, true, not, _&&_}
 use mathlib.Core.List.{List}
 use Prim.Native.Nat.{ℕ, _+_, _*_, _/_, _%_, _<_, _≤_}
+use lib.Dec.{eqb}
 use lib.ListN.{length}
 use Rattle.bits.specs.Search.{first, count}
 use Rattle.judge.specs.declared.Instruction.{Instruction}
-use Rattle.judge.specs.declared.Short.{Short}
-use Rattle.judge.specs.Judge.{instructionAt, takes, gives, lacks, faultOf, done, judged}
+use Rattle.judge.specs.declared.Tally.{Tally}
+use Rattle.judge.specs.Judge.{instructionAt, takes, gives, wrongKind, wrongSource, lacksTag, wrongTag, idleAccess, faultOf, faulty, done, judged}
 
--- The first instruction that lacks what it uses, and how many before it use some.
-unfoldable pub shortOf : (Instruction → Bool) → List ℕ → ℕ → Short
-shortOf wants list have =
+-- Bytes 2, 3 and 4 are 0, as row 9 asks where memory is not touched.
+abbrev pub idle : Instruction → Bool
+idle i = eqb (i .tag) 0 && eqb (i .mode) 0 && eqb (i .addr) 0
+
+-- None of the rows 5 to 9 holds: source, tag, mode and address fit the kind.
+unfoldable pub fits : Instruction → Bool
+fits i = not (wrongKind i) && (not (wrongSource i) && (not (lacksTag i) && (not (wrongTag i) && not (idleAccess i))))
+
+-- The first instruction that has a number, and how many before it take an item and give one.
+unfoldable pub tallyOf : List ℕ → Tally
+tallyOf list =
+    let bad = first (faulty list) 0 (length list / 8) in
     record {
-      place = first (lacks wants list have) 0 (length list / 8);
-      used = count (λ k. wants (instructionAt list k)) (first (lacks wants list have) 0 (length list / 8));
+      place = bad;
+      taken = count (λ k. takes (instructionAt list k)) bad;
+      given = count (λ k. gives (instructionAt list k)) bad;
     }
 
 -- What holds where the judge says done: no instruction has a number, and each finds its item and its room (proofs/Accepted.antt).

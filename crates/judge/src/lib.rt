@@ -1,4 +1,5 @@
 // The judge: the number that a run gives back, with its place and its counts, from the lengths and the list alone. Document 01, Numbers given back.
+pub mod forms;
 pub mod rows;
 pub mod searches;
 
@@ -28,10 +29,11 @@ pub struct Answer {
     pub given: usize,
 }
 
-// The first instruction that lacks its item, or its room, and how many before it use one.
-pub struct Short {
+// The first instruction that has a number, and how many before it take an item and give one.
+pub struct Tally {
     pub place: usize,
-    pub used: usize,
+    pub taken: usize,
+    pub given: usize,
 }
 
 // Instruction `k` of a list.
@@ -82,30 +84,30 @@ fn refused(number: u8, place: usize) -> Answer
     }
 }
 
-// Each instruction in turn, 5 to 11; then 12; then 13.
+// Each instruction in turn, 5 to 11; then 12; then 13. A list that stands is walked once: what all of it takes and gives is there exactly if each instruction
+// finds its own, so that only a list that lacks some is searched for the instruction.
 fn judge_list(list: &[u8], items: usize, out: usize) -> Answer
     requires { ⌜ length (now list) ≤ 32768 ⌝ }
     ensures { λ r. ⌜ r ≡ judgedList (now (list .entry)) items out ⌝ }
 {
     let n = list.len() / 8;
-    let bad = searches::first_fault(list);
+    let tally = searches::tally(list);
+    let bad = tally.place;
     if bad < n {
         return refused(rows::fault(decode(list, bad)), bad);
     }
-    let item = searches::shortage(false, list, items);
-    if item.place < n {
-        return refused(12, item.place);
+    if items < 32 * tally.taken {
+        return refused(12, searches::shortage(false, list, items));
     }
-    let room = searches::shortage(true, list, out);
-    if room.place < n {
-        return refused(13, room.place);
+    if out < 32 * tally.given {
+        return refused(13, searches::shortage(true, list, out));
     }
     Answer {
         number: 0,
         place: 0,
         steps: n,
-        taken: item.used,
-        given: room.used,
+        taken: tally.taken,
+        given: tally.given,
     }
 }
 

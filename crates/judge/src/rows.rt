@@ -2,7 +2,6 @@
 use crate::Instruction;
 ghost use mathlib.Core.Path.{_≡_};
 ghost use mathlib.Core.Bool.{cond};
-ghost use Rattle.network.specs.Shifts.{permitted};
 ghost use Rattle.judge.specs.Judge.{stores, touches, wrongKind, wrongSource, lacksTag, wrongTag, idleAccess, wrongPass, wrongLogic, faultOf, takes, gives};
 
 fn stores(i: Instruction) -> bool
@@ -16,16 +15,6 @@ fn touches(i: Instruction) -> bool
     ensures { λ r. ⌜ r ≡ touches i ⌝ }
 {
     stores(i) | ((i.source == 0) & ((i.kind == 0) | (i.kind == 1) | (i.kind == 4)))
-}
-
-// Is byte 6 one of the 37? Most instructions have none, which needs no search.
-fn is_permitted(code: u8) -> bool
-    ensures { λ r. ⌜ r ≡ permitted code ⌝ }
-{
-    if code == 0 {
-        return true;
-    }
-    network::codes::is_code(code)
 }
 
 // 5
@@ -67,7 +56,7 @@ fn idle_access(i: Instruction) -> bool
 fn wrong_pass(i: Instruction) -> bool
     ensures { λ r. ⌜ r ≡ wrongPass i ⌝ }
 {
-    !is_permitted(i.code)
+    !network::codes::is_code(i.code)
         | (stores(i) & !(i.code == 0))
         | ((i.kind == 5) & (!(i.flip == 0) | !(i.code == 0)))
 }

@@ -1,29 +1,50 @@
 // The searches through a list: for the first instruction that has a number, and for the first that lacks its item or its room.
 use crate::Instruction;
-use crate::Short;
+use crate::Tally;
 use crate::decode;
+use crate::forms;
 use crate::rows;
 ghost use mathlib.Core.Path.{_≡_};
 ghost use mathlib.Core.Bool.{cond};
 ghost use Prim.Native.Nat.{_/_, _≤_};
 ghost use lib.ListN.{length};
 ghost use Rattle.bits.specs.Search.{first};
-ghost use Rattle.judge.specs.Judge.{faulty, uses};
-ghost use Rattle.judge.specs.Steps.{shortOf};
+ghost use Rattle.judge.specs.Judge.{lacks, uses};
+ghost use Rattle.judge.specs.Steps.{tallyOf};
 
-// The first instruction that has a number, or how many there are.
-pub fn first_fault(list: &[u8]) -> usize
-    ensures { λ r. ⌜ r ≡ first (faulty (now (list .entry))) 0 (length (now (list .entry)) / 8) ⌝ }
+// 1 or 0, to count with.
+pub fn one_if(b: bool) -> usize
+    ensures { λ r. ⌜ (r ≡ cond b 1 0) × (r ≤ 1) ⌝ }
+{
+    if b { 1 } else { 0 }
+}
+
+// The first instruction that has a number, or how many there are, and what those before it take and give.
+pub fn tally(list: &[u8]) -> Tally
+    ensures { λ r. ⌜ r ≡ tallyOf (now (list .entry)) ⌝ }
 {
     let n = list.len() / 8;
+    let mut taken: usize = 0;
+    let mut given: usize = 0;
     let mut k: usize = 0;
     while k < n {
-        if rows::fault(decode(list, k)) != 0 {
-            return k;
+        if !forms::formed(list, k) {
+            return Tally {
+                place: k,
+                taken: taken,
+                given: given,
+            };
         }
+        let i = decode(list, k);
+        taken += one_if(rows::takes(i));
+        given += one_if(rows::gives(i));
         k += 1;
     }
-    n
+    Tally {
+        place: n,
+        taken: taken,
+        given: given,
+    }
 }
 
 // What an instruction uses: room in the out buffer, or an item.
@@ -33,17 +54,10 @@ fn uses(room: bool, i: Instruction) -> bool
     if room { rows::gives(i) } else { rows::takes(i) }
 }
 
-// 1 or 0, to count with.
-pub fn one_if(b: bool) -> usize
-    ensures { λ r. ⌜ (r ≡ cond b 1 0) × (r ≤ 1) ⌝ }
-{
-    if b { 1 } else { 0 }
-}
-
-// The first instruction that lacks its room, or its item, in a buffer of `have` bytes, and how many before it use one.
-pub fn shortage(room: bool, list: &[u8], have: usize) -> Short
+// The first instruction that lacks its room, or its item, in a buffer of `have` bytes, or how many there are.
+pub fn shortage(room: bool, list: &[u8], have: usize) -> usize
     requires { ⌜ length (now list) ≤ 32768 ⌝ }
-    ensures { λ r. ⌜ r ≡ shortOf (uses room) (now (list .entry)) have ⌝ }
+    ensures { λ r. ⌜ r ≡ first (lacks (uses room) (now (list .entry)) have) 0 (length (now (list .entry)) / 8) ⌝ }
 {
     let n = list.len() / 8;
     let mut used: usize = 0;
@@ -51,16 +65,10 @@ pub fn shortage(room: bool, list: &[u8], have: usize) -> Short
     while k < n {
         let u = uses(room, decode(list, k));
         if u & (have < 32 * used + 32) {
-            return Short {
-                place: k,
-                used: used,
-            };
+            return k;
         }
         used += one_if(u);
         k += 1;
     }
-    Short {
-        place: n,
-        used: used,
-    }
+    n
 }

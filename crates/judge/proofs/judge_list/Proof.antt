@@ -1,20 +1,26 @@
--- `judge::judge_list`: the three searches' answers, as `list-bad` to `list-done` say. Assumes nothing.
-use mathlib.Core.Path.{sym, ap, ap₂, _∙_}
-use Prim.Native.Nat.{ℕ, _/_}
+-- `judge::judge_list`: what the walk counts, and what the searches find, as `list-bad` to `list-done` say. Assumes nothing.
+use mathlib.Core.Path.{_≡_, sym, ap, ap₂, _∙_}
+use Prim.Native.Nat.{ℕ, _/_, _≤_}
+use native.Mathlib.Omega.{arith}
 use denote.Ref.{now}
 use lib.ListN.{length}
-use Rattle.bits.proofs.Search.{found-le}
+use Rattle.bits.specs.Search.{first}
+use Rattle.bits.proofs.Search.{count-le}
 use Rattle.judge.specs.declared.Answer.{Answer}
-use Rattle.judge.specs.Judge.{instructionAt, takes, gives, lacks, faultOf, refusal}
-use Rattle.judge.proofs.Shortage.{short-place, short-used}
+use Rattle.judge.specs.Judge.{instructionAt, takes, gives, faultOf, faulty, refusal, done}
 use Rattle.judge.proofs.Verdicts.{list-bad, list-item, list-room, list-done}
+use Rattle.judge.proofs.Shortage.{enough, lacking, tally-place, tally-whole}
 use borrow.Author.Needs.{needs}
-use native.Mathlib.Omega.{arith}
 use Rattle.judge.proofs.judge_list.Statement.{statement}
 use Rattle.judge.proofs.judge_list.Tie as tie
 
-first-fault-requires : tie.Need-first-fault-requires
-first-fault-requires c κs = search needs
+-- past 5 to 11
+whole : (c : tie.Else1) → let list = now (c .before .before .before .args .list) in let t = c .before .tally .result in
+    (length list / 8 ≤ first (faulty list) 0 (length list / 8)) × (t .taken ≡ done list .taken) × (t .given ≡ done list .given)
+whole c = tally-whole _ (c .before .tally .result) (c .before .tally .ensures) (c .if1 .left)
+
+tally-requires : tie.Need-tally-requires
+tally-requires c κs = search needs
 
 decode-requires : tie.Need-decode-requires
 decode-requires c κs = search needs
@@ -27,13 +33,20 @@ refused-requires c κs = search needs
 
 returns : tie.Need-returns
 returns c =
-    let a = c .before .before .before .before .before .before .args in
-    let f = c .before .before .before .before .first-fault in
+    let d = c .before .before .before .before in
+    let a = d .before .before .args in
     let list = now (a .list) in
+    let p = tally-place list (d .tally .result) (d .tally .ensures) in
     c .refused .ensures
-    ∙ ap (λ (v : ℕ). refusal v (f .result)) (c .before .fault .ensures ∙ ap faultOf (c .before .before .decode .ensures))
-    ∙ ap (λ (k : ℕ). refusal (faultOf (instructionAt list k)) k) (f .ensures)
+    ∙ ap (λ (v : ℕ). refusal v (d .tally .result .place)) (c .before .fault .ensures ∙ ap faultOf (c .before .before .decode .ensures))
+    ∙ ap (λ (k : ℕ). refusal (faultOf (instructionAt list k)) k) p
     ∙ sym (list-bad list (a .items) (a .out) (omega arith))
+
+mul-if2 : tie.Need-mul-if2
+mul-if2 c =
+    let list = now (c .before .before .before .before .args .list) in
+    let w = whole (c .before) in
+    omega (arith, count-le (λ k. takes (instructionAt list k)) (length list / 8))
 
 shortage-requires : tie.Need-shortage-requires
 shortage-requires c κs = search needs
@@ -43,12 +56,18 @@ refused-requires-2 c κs = search needs
 
 returns-2 : tie.Need-returns-2
 returns-2 c =
-    let a = c .before .before .before .before .before .before .before .args in
-    let f = c .before .before .before .before .before .first-fault in
-    let s = c .before .before .before .shortage in
+    let e = c .before .before .before .before in
+    let a = e .before .before .before .args in
     let list = now (a .list) in
-    let p = short-place takes list (a .items) (s .result) (s .ensures) in
-    c .refused2 .ensures ∙ ap (refusal 12) p ∙ sym (list-item list (a .items) (a .out) (omega arith) (omega arith))
+    let w = whole e in
+    let l = lacking takes list (a .items) (length list / 8) (omega arith) in
+    c .refused2 .ensures ∙ ap (refusal 12) (c .before .shortage .ensures) ∙ sym (list-item list (a .items) (a .out) (w .0) l)
+
+mul-if3 : tie.Need-mul-if3
+mul-if3 c =
+    let list = now (c .before .before .before .before .before .before .args .list) in
+    let w = whole (c .before .before .before) in
+    omega (arith, count-le (λ k. gives (instructionAt list k)) (length list / 8))
 
 shortage-requires-2 : tie.Need-shortage-requires-2
 shortage-requires-2 c κs = search needs
@@ -58,41 +77,39 @@ refused-requires-3 c κs = search needs
 
 returns-3 : tie.Need-returns-3
 returns-3 c =
-    let a = c .before .before .before .before .before .before .before .before .before .before .args in
-    let f = c .before .before .before .before .before .before .before .before .first-fault in
-    let s = c .before .before .before .before .before .before .shortage in
-    let t = c .before .before .before .shortage2 in
+    let e = c .before .before .before .before .before .before in
+    let a = e .before .before .before .args in
     let list = now (a .list) in
-    let p = short-place takes list (a .items) (s .result) (s .ensures) in
-    let q = short-place gives list (a .out) (t .result) (t .ensures) in
-    c .refused3 .ensures ∙ ap (refusal 13) q ∙ sym (list-room list (a .items) (a .out) (omega arith) (omega arith) (omega arith))
+    let w = whole e in
+    let f = enough takes list (a .items) (length list / 8) (omega arith) in
+    let l = lacking gives list (a .out) (length list / 8) (omega arith) in
+    c .refused3 .ensures ∙ ap (refusal 13) (c .before .shortage2 .ensures) ∙ sym (list-room list (a .items) (a .out) (w .0) f l)
 
 returns-4 : tie.Need-returns-4
 returns-4 c =
-    let a = c .before .before .before .before .before .before .before .before .before .args in
-    let f = c .before .before .before .before .before .before .before .first-fault in
-    let s = c .before .before .before .before .before .shortage in
-    let t = c .before .before .shortage2 in
+    let e = c .before .before .before .before in
+    let a = e .before .before .before .args in
     let list = now (a .list) in
-    let p = short-place takes list (a .items) (s .result) (s .ensures) in
-    let q = short-place gives list (a .out) (t .result) (t .ensures) in
-    let u = short-used takes list (a .items) (s .result) (s .ensures) (omega (arith, found-le (lacks takes list (a .items)) (length list / 8))) in
-    let v = short-used gives list (a .out) (t .result) (t .ensures) (omega (arith, found-le (lacks gives list (a .out)) (length list / 8))) in
-    ap₂ {A = ℕ} {B = ℕ} {C = Answer} (λ (x y : ℕ). record { number = 0; place = 0; steps = length list / 8; taken = x; given = y }) u v
-    ∙ sym (list-done list (a .items) (a .out) (omega arith) (omega arith) (omega arith))
+    let w = whole e in
+    let f = enough takes list (a .items) (length list / 8) (omega arith) in
+    let g = enough gives list (a .out) (length list / 8) (omega arith) in
+    ap₂ {A = ℕ} {B = ℕ} {C = Answer} (λ (x y : ℕ). record { number = 0; place = 0; steps = length list / 8; taken = x; given = y }) (w .1) (w .2)
+    ∙ sym (list-done list (a .items) (a .out) (w .0) f g)
 
 pub judge-list-spec : {M : Type 1} → statement M
 judge-list-spec =
     tie.close
     (tie.spec
-    first-fault-requires
+    tally-requires
     decode-requires
     fault-requires
     refused-requires
     returns
+    mul-if2
     shortage-requires
     refused-requires-2
     returns-2
+    mul-if3
     shortage-requires-2
     refused-requires-3
     returns-3

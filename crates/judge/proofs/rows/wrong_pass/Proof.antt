@@ -4,8 +4,8 @@ use Rattle.judge.specs.Judge.{wrongPass}
 use Rattle.judge.proofs.rows.wrong_pass.Statement.{statement}
 use Rattle.judge.proofs.rows.wrong_pass.Tie as tie
 
-is-permitted-requires : tie.Need-is-permitted-requires
-is-permitted-requires c κs = search needs
+is-code-requires : tie.Need-is-code-requires
+is-code-requires c κs = search needs
 
 stores-requires : tie.Need-stores-requires
 stores-requires c κs = search needs
@@ -15,4 +15,4 @@ unfolding wrongPass
 returns c = cc
 
 pub wrong-pass-spec : {M : Type 1} → statement M
-wrong-pass-spec = tie.close (tie.spec is-permitted-requires stores-requires returns)
+wrong-pass-spec = tie.close (tie.spec is-code-requires stores-requires returns)

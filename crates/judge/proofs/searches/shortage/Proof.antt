@@ -6,7 +6,7 @@ use lib.ListN.{length}
 use Rattle.bits.specs.Search.{count}
 use Rattle.bits.proofs.Search.{NoneBelow, none-more, found, found-none}
 use Rattle.judge.specs.Judge.{instructionAt, lacks, uses}
-use Rattle.judge.proofs.Shortage.{lacks-is, short-is, counted}
+use Rattle.judge.proofs.Shortage.{lacks-is, counted}
 use borrow.Author.Needs.{needs}
 use native.Mathlib.Omega.{arith}
 use Rattle.judge.proofs.searches.shortage.Statement.{statement}
@@ -39,10 +39,9 @@ returns : tie.Need-returns Inv-loop μ-loop
 returns c =
     let l = c .before .before .before .before .loop in
     let a = c .before .before .before .before .before .before .args in
-    short-is (uses (a .room)) (now (a .list)) (a .have) (l .k) (l .used)
-    (found (lacks (uses (a .room)) (now (a .list)) (a .have)) (length (now (a .list)) / 8) (l .k) (omega arith) (l .inv .3)
-    (sym (lacks-is (uses (a .room)) (now (a .list)) (a .have) (l .k) (l .used) _ (l .inv .2) (c .before .uses .ensures ∙ ap (uses (a .room)) (c .before .before .decode .ensures))) ∙ c .if1 .taken))
-    (l .inv .2)
+    let u = c .before .uses .ensures ∙ ap (uses (a .room)) (c .before .before .decode .ensures) in
+    found (lacks (uses (a .room)) (now (a .list)) (a .have)) (length (now (a .list)) / 8) (l .k) (omega arith) (l .inv .3)
+    (sym (lacks-is (uses (a .room)) (now (a .list)) (a .have) (l .k) (l .used) _ (l .inv .2) u) ∙ c .if1 .taken)
 
 one-if-requires : tie.Need-one-if-requires Inv-loop μ-loop
 one-if-requires c κs = search needs
@@ -73,10 +72,7 @@ returns-2 : tie.Need-returns-2 Inv-loop μ-loop
 returns-2 c =
     let l = c .before .loop in
     let a = c .before .before .before .args in
-    let e : l .k ≡ length (now (a .list)) / 8 = omega arith in
-    short-is (uses (a .room)) (now (a .list)) (a .have) (length (now (a .list)) / 8) (l .used)
-    (found-none (lacks (uses (a .room)) (now (a .list)) (a .have)) (length (now (a .list)) / 8) (λ j h. l .inv .3 j (omega arith)))
-    (l .inv .2 ∙ ap (count (λ j. uses (a .room) (instructionAt (now (a .list)) j))) e)
+    found-none (lacks (uses (a .room)) (now (a .list)) (a .have)) (length (now (a .list)) / 8) (λ j h. l .inv .3 j (omega arith))
 
 pub shortage-spec : {M : Type 1} → statement M
 shortage-spec =

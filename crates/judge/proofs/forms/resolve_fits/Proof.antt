@@ -1,0 +1,33 @@
+-- `judge::forms::resolve_fits`: rows 5 to 9 of a resolve. Assumes nothing.
+use mathlib.Core.Path.{ap, _∙_}
+use mathlib.Core.Bool.{Bool, _&&_}
+use denote.Ref.{now}
+use lib.Dec.{eqb}
+use Rattle.judge.specs.Judge.{instructionAt}
+use Rattle.judge.proofs.FormLaws.{resolve-fits}
+use borrow.Author.Needs.{needs}
+use Rattle.judge.proofs.forms.resolve_fits.Statement.{statement}
+use Rattle.judge.proofs.forms.resolve_fits.Tie as tie
+
+mul-result : tie.Need-mul-result
+mul-result c = search needs
+
+add-result : tie.Need-add-result
+add-result c = search needs
+
+shared-slice-read-result : tie.Need-shared-slice-read-result
+shared-slice-read-result c = search needs
+
+idle-requires : tie.Need-idle-requires
+idle-requires c κs = search needs
+
+returns : tie.Need-returns
+unfolding instructionAt
+returns c =
+    let a = c .before .before .before .args in
+    let i = instructionAt (now (a .list)) (a .k) in
+    ap (λ (b : Bool). eqb (i .source) 0 && b) (c .idle .ensures) ∙ resolve-fits i (c .before .before .before .pre .1)
+
+pub resolve-fits-spec : {M : Type 1} → statement M
+resolve-fits-spec =
+    tie.close (tie.spec mul-result add-result shared-slice-read-result idle-requires returns)

@@ -1,0 +1,104 @@
+// Has an instruction none of the numbers 5 to 11? Its bytes are read in the list, kind by kind, and the first that is wrong answers: every instruction of a
+// list that stands is asked this, and `rows::fault` makes the number of the one that is refused.
+ghost use mathlib.Core.Path.{_≡_};
+ghost use mathlib.Core.Bool.{true, false, not};
+ghost use Prim.Native.Nat.{_+_, _*_, _≤_};
+ghost use lib.Dec.{eqb};
+ghost use lib.ListN.{length};
+ghost use Rattle.judge.specs.Judge.{instructionAt, stores, wrongPass, faultOf};
+ghost use Rattle.judge.specs.Steps.{idle, fits};
+
+// Are tag, mode and address 0?
+fn idle(list: &[u8], k: usize) -> bool
+    requires { ⌜ 8 * k + 8 ≤ length (now list) ⌝ }
+    ensures { λ r. ⌜ r ≡ idle (instructionAt (now (list .entry)) k) ⌝ }
+{
+    let at = 8 * k;
+    (list[at + 2] == 0) & (list[at + 3] == 0) & (list[at + 4] == 0)
+}
+
+// Rows 5 to 9 for kinds 0, 1 and 4: memory with a mode given, or another source with none.
+fn source_fits(list: &[u8], k: usize) -> bool
+    requires { ⌜ 8 * k + 8 ≤ length (now list) ⌝ }
+    requires { ⌜ instructionAt (now list) k .kind ≤ 4 ⌝ }
+    requires { ⌜ stores (instructionAt (now list) k) ≡ false ⌝ }
+    ensures { λ r. ⌜ r ≡ fits (instructionAt (now (list .entry)) k) ⌝ }
+{
+    let at = 8 * k;
+    let source = list[at + 1];
+    if source == 0 {
+        return list[at + 2] == 1;
+    }
+    !(source > 4) & idle(list, k)
+}
+
+// Rows 5 to 9 for kinds 2 and 3: a source that is not memory, and a mode given.
+fn store_fits(list: &[u8], k: usize) -> bool
+    requires { ⌜ 8 * k + 8 ≤ length (now list) ⌝ }
+    requires { ⌜ stores (instructionAt (now list) k) ≡ true ⌝ }
+    ensures { λ r. ⌜ r ≡ fits (instructionAt (now (list .entry)) k) ⌝ }
+{
+    let at = 8 * k;
+    let source = list[at + 1];
+    !(source == 0) & !(source > 4) & (list[at + 2] == 1)
+}
+
+// Rows 5 to 9 for kind 5: no source and no mode.
+fn resolve_fits(list: &[u8], k: usize) -> bool
+    requires { ⌜ 8 * k + 8 ≤ length (now list) ⌝ }
+    requires { ⌜ instructionAt (now list) k .kind ≡ 5 ⌝ }
+    ensures { λ r. ⌜ r ≡ fits (instructionAt (now (list .entry)) k) ⌝ }
+{
+    (list[8 * k + 1] == 0) & idle(list, k)
+}
+
+// Row 10. Most instructions have no shift, which needs no search among the 37.
+fn pass_fits(list: &[u8], k: usize) -> bool
+    requires { ⌜ 8 * k + 8 ≤ length (now list) ⌝ }
+    ensures { λ r. ⌜ r ≡ not (wrongPass (instructionAt (now (list .entry)) k)) ⌝ }
+{
+    let at = 8 * k;
+    let kind = list[at];
+    let code = list[at + 6];
+    if kind == 5 {
+        return (code == 0) & (list[at + 5] == 0);
+    }
+    if code == 0 {
+        return true;
+    }
+    if (kind == 2) | (kind == 3) {
+        return false;
+    }
+    network::codes::is_code(code)
+}
+
+// The pass, byte 7, then the rest by kind.
+pub fn formed(list: &[u8], k: usize) -> bool
+    requires { ⌜ 8 * k + 8 ≤ length (now list) ⌝ }
+    ensures { λ r. ⌜ r ≡ eqb (faultOf (instructionAt (now (list .entry)) k)) 0 ⌝ }
+{
+    let at = 8 * k;
+    let kind = list[at];
+    if !pass_fits(list, k) {
+        return false;
+    }
+    if kind == 0 {
+        if list[at + 7] / 16 > 4 {
+            return false;
+        }
+        return source_fits(list, k);
+    }
+    if list[at + 7] != 0 {
+        return false;
+    }
+    if (kind == 2) | (kind == 3) {
+        return store_fits(list, k);
+    }
+    if kind == 5 {
+        return resolve_fits(list, k);
+    }
+    if kind > 5 {
+        return false;
+    }
+    source_fits(list, k)
+}
