@@ -6,7 +6,7 @@ use native.Mathlib.Nat.{add-zero, add-suc}
 use native.Mathlib.Numerals.{add-one}
 use native.Mathlib.Decide.{decLt}
 use native.Mathlib.Omega.{arith}
-use lib.ListN.{length, getD, take, set, length-append, List·getD-append}
+use lib.ListN.{length, getD, take, set, length-append, List·getD-append, List·getD-eq-default}
 use lib.Seq.{getD-at, take-at, take-suc-set, take-all, ext-getD}
 use borrow.Rule.Slice.PartMut.{putMid, postOf}
 use Rattle.bits.specs.Bits.{digit, bitOf, listed, byteOf, pack}
@@ -40,6 +40,14 @@ listed-ext φ ψ (suc n) h = ap₂ (λ (x : List ℕ) (y : ℕ). x ++ (y ∷ [])
 pub listed-is : (φ : ℕ → ℕ) (n : ℕ) (l : List ℕ) → length l ≡ n → ((i : ℕ) → i < n → getD l i 0 ≡ φ i) → l ≡ listed φ n
 listed-is φ n l e h =
     ext-getD 0 l (listed φ n) (e ∙ sym (length-listed φ n)) (λ i q. let k : i < n = omega arith in h i k ∙ sym (getD-listed φ n i k))
+
+-- bytes listed are bytes
+pub listed-bytes : (φ : ℕ → ℕ) (n : ℕ) → ((i : ℕ) → φ i < 256) → (i : ℕ) → getD (listed φ n) i 0 < 256
+listed-bytes φ n b i = go (decLt i n)
+  where
+    go : Dec (i < n) → getD (listed φ n) i 0 < 256
+    go (yes h) = omega (arith, getD-listed φ n i h, b i)
+    go (no u) = omega (arith, List·getD-eq-default (listed φ n) 0 {n = i} (omega (arith, length-listed φ n)))
 
 pub listed-append : (φ : ℕ → ℕ) (m n : ℕ) → listed φ m ++ listed (λ i. φ (m + i)) n ≡ listed φ (m + n)
 unfolding listed

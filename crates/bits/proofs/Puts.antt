@@ -1,16 +1,16 @@
 -- Laws of bytes put into a list: a lent part that came back, one byte, one piece after another. Assumes nothing.
 use mathlib.Core.Path.{_≡_, sym, ap, ap₂, _∙_}
+use mathlib.Core.Logic.{_≢_}
 use mathlib.Core.List.{List, [], _∷_, _++_, append-assoc, append-nil}
-use Prim.Native.Nat.{ℕ, _+_, _-_, _<_, _≤_}
+use Prim.Native.Nat.{ℕ, zero, suc, _+_, _-_, _<_, _≤_}
 use native.Mathlib.Nat.{add-zero, zero-add}
 use native.Mathlib.Numerals.{add-one}
 use native.Mathlib.Omega.{arith}
-use lib.ListN.{length, take, drop, set, length-append, take-append-drop, drop-of-length-le}
-use lib.Seq.{take-at, drop-append-add, drop-drop, length-take-le, set-split}
+use lib.ListN.{length, getD, take, drop, set, length-append, take-append-drop, drop-of-length-le}
+use lib.Seq.{take-at, take-suc, take-length, drop-append-add, drop-drop, length-take-le, set-split}
 use borrow.Rule.Slice.PartMut.{putMid}
-use Rattle.bits.specs.Bits.{listed}
-use Rattle.bits.specs.Steps.{putAt}
-use Rattle.bits.proofs.Items.{length-listed, listed-append}
+use Rattle.bits.specs.Steps.{putAt, written}
+use Rattle.bits.proofs.Writes.{length-written, written-at, written-off, written-bytes}
 
 -- a part that was lent on and came back as ys
 pub part-put : (k e : ℕ) (xs ys : List ℕ) → length ys ≡ e - k → putMid k (e - k) xs ys ≡ putAt k ys xs
@@ -54,10 +54,35 @@ put-front ys xs = ap (λ (n : ℕ). ys ++ drop n xs) (zero-add (length ys))
 pub put-all : (ys xs : List ℕ) → length ys ≡ length xs → putAt 0 ys xs ≡ ys
 put-all ys xs e = put-front ys xs ∙ ap (λ (z : List ℕ). ys ++ z) (drop-of-length-le xs {i = length ys} (omega arith)) ∙ append-nil ys
 
--- m elements more, put behind the first n
-pub put-more : (ψ : ℕ → ℕ) (at n m k : ℕ) (xs₀ xs ys : List ℕ) → at ≤ length xs₀ → k ≡ at + n → xs ≡ putAt at (listed ψ n) xs₀ → ys ≡ listed (λ i. ψ (n + i)) m
-    → putAt k ys xs ≡ putAt at (listed ψ (n + m)) xs₀
-put-more ψ at n m k xs₀ xs ys h ek ex ey =
-    ap₂ (λ (y x : List ℕ). putAt k y x) ey ex
-    ∙ put-put at k (listed ψ n) (listed (λ i. ψ (n + i)) m) xs₀ h (ek ∙ ap (λ (x : ℕ). at + x) (sym (length-listed ψ n)))
-    ∙ ap (λ (y : List ℕ). putAt at y xs₀) (listed-append ψ n m)
+-- ---- bytes put into a list are so many writes, one behind the other
+
+module _ (k : ℕ) (ys xs : List ℕ) (h : k + length ys ≤ length xs) where
+  first-put : (n : ℕ) → n ≤ length ys → written (λ j. k + j) (λ j o. getD ys j 0) xs n ≡ putAt k (take n ys) xs
+  unfolding written
+  first-put zero l = sym (put-nil k xs)
+  first-put (suc n) l =
+      let ih : written (λ j. k + j) (λ j o. getD ys j 0) xs n ≡ putAt k (take n ys) xs = first-put n (omega arith) in
+      let size : length (putAt k (take n ys) xs) ≡ length xs = ap length (sym ih) ∙ length-written (λ j. k + j) (λ j o. getD ys j 0) xs n in
+      ap (λ (z : List ℕ). set z (k + n) (getD ys n 0)) ih
+      ∙ put-one (k + n) (getD ys n 0) (putAt k (take n ys) xs) (omega arith)
+      ∙ put-put k (k + n) (take n ys) (getD ys n 0 ∷ []) xs (omega arith) (sym (ap (λ (m : ℕ). k + m) (length-take-le n ys (omega arith))))
+      ∙ ap (λ (z : List ℕ). putAt k z xs) (sym (take-suc ys n 0 l))
+
+  pub put-written : putAt k ys xs ≡ written (λ j. k + j) (λ j o. getD ys j 0) xs (length ys)
+  put-written = sym (first-put (length ys) (omega arith) ∙ ap (λ (z : List ℕ). putAt k z xs) (take-length ys))
+
+  pub length-put : length (putAt k ys xs) ≡ length xs
+  length-put = ap length put-written ∙ length-written (λ j. k + j) (λ j o. getD ys j 0) xs (length ys)
+
+  pub put-at : (j : ℕ) → j < length ys → getD (putAt k ys xs) (k + j) 0 ≡ getD ys j 0
+  put-at j l =
+      ap (λ (z : List ℕ). getD z (k + j) 0) put-written
+      ∙ written-at (λ j. k + j) (λ j o. getD ys j 0) xs (length ys) j (λ i q e. omega arith) l (omega arith)
+
+  pub put-off : (i : ℕ) → ((j : ℕ) → j < length ys → i ≢ k + j) → getD (putAt k ys xs) i 0 ≡ getD xs i 0
+  put-off i u = ap (λ (z : List ℕ). getD z i 0) put-written ∙ written-off (λ j. k + j) (λ j o. getD ys j 0) xs (length ys) i u
+
+  -- bytes stay bytes
+  pub put-bytes : ((i : ℕ) → getD ys i 0 < 256) → ((i : ℕ) → getD xs i 0 < 256) → (i : ℕ) → getD (putAt k ys xs) i 0 < 256
+  put-bytes by bx i =
+      omega (arith, ap (λ (z : List ℕ). getD z i 0) put-written, written-bytes (λ j. k + j) (λ j o. getD ys j 0) xs (length ys) bx (λ j o q l. by j) i)

@@ -4,7 +4,7 @@ use mathlib.Core.List.{List, _∷_, _++_, append-assoc}
 use Prim.Native.Nat.{ℕ, _+_, _-_, _≤_}
 use native.Mathlib.Omega.{arith}
 use lib.ListN.{length, take, drop, replicate, drop-of-length-le, length-append, length-replicate, length-drop}
-use lib.Seq.{take-at, drop-at, drop-drop, length-take-le, take-append-add}
+use lib.Seq.{take-at, drop-drop, length-take-le, take-append-add}
 use borrow.Rule.Slice.PartMut.{midOf, postOf, putMid, mid-len, same-len-mid}
 use Rattle.blocks.specs.Sums.{s1, s2}
 use Rattle.blocks.specs.Block.{two, header, body, summed, block}
@@ -32,11 +32,6 @@ front-more k m j l ys p e lp ly =
     ap (λ (x : List ℕ). take (k + j) (x ++ (ys ++ postOf k m l))) e
     ∙ ap (take (k + j)) (sym (append-assoc p ys (postOf k m l)))
     ∙ take-at (p ++ ys) (postOf k m l) (k + j) (length-append p ys ∙ ap₂ _+_ lp ly)
-
--- a part that was written, taken out again
-pub part-back : (k m j : ℕ) (l ys : List ℕ) → k ≤ length l → length ys ≡ j → take j (drop k (putMid k m l ys)) ≡ ys
-part-back k m j l ys h e =
-    ap (take j) (drop-at (take k l) (ys ++ postOf k m l) k (length-take-le k l h)) ∙ take-at ys (postOf k m l) j e
 
 -- ---- header, zeros and sums written around a payload of n bytes that stands in the block
 module _ (kind place count n : ℕ) (out h z t : List ℕ) where

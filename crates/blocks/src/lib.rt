@@ -157,7 +157,7 @@ fn high(x: usize) -> u8
 }
 
 // Makes a block of a payload that already stands in it, `used` bytes from byte 12 on: header, zeros and sums.
-fn seal(kind: usize, place: usize, count: usize, used: usize, out: &mut [u8])
+pub fn seal(kind: usize, place: usize, count: usize, used: usize, out: &mut [u8])
     requires { ⌜ (kind < 65536) × (place < 65536) × (count < 65536) × (used ≤ 496) × (length (now out) ≡ 512) ⌝ }
     ensures { λ _. ⌜ now (out .exit) ≡ block kind place count (take used (drop 12 (now (out .entry)))) ⌝ }
 {
@@ -180,14 +180,4 @@ fn seal(kind: usize, place: usize, count: usize, used: usize, out: &mut [u8])
     let s = sums(out);
     let tail = [low(s.s1), high(s.s1), low(s.s2), high(s.s2)];
     copy(&tail, &mut out[508..512]);
-}
-
-// A block made of its fields and its payload.
-pub fn put_block(kind: usize, place: usize, count: usize, payload: &[u8], out: &mut [u8])
-    requires { ⌜ (kind < 65536) × (place < 65536) × (count < 65536) × (length (now payload) ≤ 496) × (length (now out) ≡ 512) ⌝ }
-    ensures { λ _. ⌜ now (out .exit) ≡ block kind place count (now (payload .entry)) ⌝ }
-{
-    let used = payload.len();
-    copy(payload, &mut out[12..12 + used]);
-    seal(kind, place, count, used, out);
 }

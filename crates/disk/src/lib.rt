@@ -1,6 +1,6 @@
 // What a user reads and writes on disk: pictures here, lists and items handed on from files. Document 01, Blocks on disk; docs/FORMAT.md has the layout.
 //
-// The public entries take any bytes, any lengths and any kind asked: `read_picture`, `write_picture`, `read_content`, `write_content`. A picture's content, the words in plain order and then the registers, stands whole on the stack, 8,288 bytes, between the blocks and the scrambled memory: a payload may end within a word.
+// The public entries take any bytes, any lengths and any kind asked: `read_picture`, `write_picture`, `read_content`, `write_content`. Between the blocks and the scrambled memory a picture's words stand on the stack eight at a time, 256 bytes: those that one reading of the chips gives.
 pub use files::Answer;
 pub use files::read_content;
 pub use files::write_content;
@@ -27,10 +27,14 @@ fn unload_picture(bytes: &[u8], memory: &mut [u8], registers: &mut [u8])
     requires { ⌜ (judge 1 (now bytes) ≡ done 8288) × (length (now memory) ≡ 8192) × (length (now registers) ≡ 96) ⌝ }
     ensures { λ _. ⌜ (now (memory .exit) ≡ scrambled (contentOf (now (bytes .entry)))) × (now (registers .exit) ≡ drop 8192 (contentOf (now (bytes .entry)))) ⌝ }
 {
-    let mut content = [0u8; 8288];
-    files::gather(bytes, bytes.len() / 512, &mut content);
-    memory::words_in(&content[0..8192], memory);
-    blocks::copy(&content[8192..8288], registers);
+    let mut v: usize = 0;
+    while v < 32 {
+        let mut words = [0u8; 256];
+        files::part_of(bytes, 256 * v, &mut words);
+        memory::words_in(memory, v, &words);
+        v += 1;
+    }
+    files::part_of(bytes, 8192, registers);
 }
 
 // Reads a picture. Every block is judged, and both lengths, before a target is touched.
@@ -56,10 +60,14 @@ fn put_picture(memory: &[u8], registers: &[u8], out: &mut [u8])
     requires { ⌜ (length (now memory) ≡ 8192) × (length (now registers) ≡ 96) × (8704 ≤ length (now out)) ⌝ }
     ensures { λ _. ⌜ now (out .exit) ≡ over (blocksOf 1 (pictureOf (now (memory .entry)) (now (registers .entry)))) (now (out .entry)) ⌝ }
 {
-    let mut content = [0u8; 8288];
-    memory::words_out(memory, &mut content[0..8192]);
-    blocks::copy(registers, &mut content[8192..8288]);
-    files::put_blocks(1, &content, 17, out);
+    let mut v: usize = 0;
+    while v < 32 {
+        let words = memory::words_out(memory, v);
+        files::put_part(&words, 256 * v, out);
+        v += 1;
+    }
+    files::put_part(registers, 8192, out);
+    files::seal_all(1, 8288, 17, out);
 }
 
 // Writes a picture to the start of an output, whose bytes past the blocks stay.

@@ -1,21 +1,19 @@
 -- Laws of judging a file: what each block and each test settles, what a file that stands has, and how its content is gathered. Assumes nothing.
 use mathlib.Core.Path.{_≡_, refl, sym, ap, ap₂, _∙_}
 use mathlib.Core.Bool.{Bool, true, false, cond, not, _&&_}
-use mathlib.Core.List.{List, [], _++_, append-assoc}
+use mathlib.Core.List.{List, []}
 use Prim.Native.Nat.{ℕ, zero, suc, _+_, _-_, _*_, _/_, _%_, _<_, _≤_}
 use native.Mathlib.Numerals.{add-one}
 use native.Mathlib.Decide.{decLt, ℕ-discrete}
 use native.Mathlib.Omega.{arith}
 use lib.Dec.{eqb, leb, ltb}
 use lib.ListN.{length, take, drop, length-drop, length-append, List·getD-eq-default}
-use lib.Seq.{length-take-le, take-at, drop-append-add, drop-drop, getD-take, getD-drop, take-length, take-append-le}
-use borrow.Rule.Slice.PartMut.{putMid, post-is}
+use lib.Seq.{length-take-le, getD-take, getD-drop, take-length, take-append-le}
 use borrow.Author.Tests.{ne-eqb, eqb-true, eqb-false, leb-true, ltb-true}
 use Rattle.blocks.specs.Sums.{at}
 use Rattle.blocks.specs.Block.{twoAt, fault, payloadOf}
 use Rattle.blocks.proofs.BlockLaws.{and-left, and-right}
 use Rattle.files.specs.File.{done, refused, blockAt, gathered, contentOf, Verdict, good, bad, verdict, next, judged, kindRight, lengthRight, sizeFits, settled, judge}
-use Rattle.files.specs.Content.{over}
 
 -- ---- blocks of a file, and their content
 
@@ -116,8 +114,9 @@ module _ (kind : ℕ) (bytes : List ℕ) where
         ap₂ (λ (s t : Bool). cond (not s) (refused 22 0) (cond (not t) (refused 20 0) (settled kind (length (contentOf bytes)) (judged kind bytes n n)))) k l
         ∙ ap₂ (settled kind) (sym e) g
 
--- ---- the content put into a target, block by block
-pub gathered-mono : (bytes : List ℕ) (i n : ℕ) → i ≤ n → length (gathered bytes i) ≤ length (gathered bytes n)
+-- ---- the content of the first blocks
+
+gathered-mono : (bytes : List ℕ) (i n : ℕ) → i ≤ n → length (gathered bytes i) ≤ length (gathered bytes n)
 unfolding gathered
 gathered-mono bytes i zero h =
     let z : i ≡ zero = omega arith in
@@ -145,29 +144,6 @@ gathered-front bytes i (suc n) h = go (decLt n i) (λ l. gathered-front bytes i 
         let z : i ≡ suc n = omega arith in
         ap (λ (k : ℕ). take (length (gathered bytes k)) (gathered bytes (suc n))) z ∙ take-length (gathered bytes (suc n)) ∙ sym (ap (gathered bytes) z)
     go (no u) ih = take-append-le (length (gathered bytes i)) (gathered bytes n) (payloadOf (blockAt bytes n)) (gathered-mono bytes i n (omega arith)) ∙ ih (omega arith)
-
--- a payload lent on and copied to its place
-pub unloaded : (b t ys : List ℕ) (at w : ℕ) → w ≡ twoAt b 6 → ys ≡ take (12 + w - 12) (drop 12 b)
-    → putMid at (at + w - at) t ys ≡ take at t ++ (payloadOf b ++ drop (at + twoAt b 6) t)
-unloaded b t ys at w e p =
-    let h : 12 + w - 12 ≡ w = omega arith in
-    ap₂ (λ (x y : List ℕ). take at t ++ (x ++ y))
-    (p ∙ ap (λ (k : ℕ). take k (drop 12 b)) (h ∙ e))
-    (post-is at (at + w) t (omega arith) ∙ ap (λ (k : ℕ). drop (at + k) t) e)
-
-pub over-more : (bytes : List ℕ) (n at : ℕ) (t old : List ℕ) → 512 * n + 512 ≤ length bytes → twoAt (blockAt bytes n) 6 ≤ 496
-    → at ≡ length (gathered bytes n) → t ≡ over (gathered bytes n) old
-    → take at t ++ (payloadOf (blockAt bytes n) ++ drop (at + twoAt (blockAt bytes n) 6) t) ≡ over (gathered bytes (n + 1)) old
-unfolding gathered
-over-more bytes n at t old h u e q =
-    let g = gathered bytes n in
-    let p = payloadOf (blockAt bytes n) in
-    let w = twoAt (blockAt bytes n) 6 in
-    let l : length (g ++ p) ≡ length g + w = length-append g p ∙ ap (λ (k : ℕ). length g + k) (payload-len (blockAt bytes n) (block-len bytes n h) u) in
-    ap₂ (λ (k : ℕ) (x : List ℕ). take k x ++ (p ++ drop (k + w) x)) e q
-    ∙ ap₂ (λ (x y : List ℕ). x ++ (p ++ y)) (take-at g (drop (length g) old) (length g) refl) (drop-append-add g (drop (length g) old) w ∙ drop-drop w (length g) old ∙ ap (λ (k : ℕ). drop k old) (sym l))
-    ∙ sym (append-assoc g p (drop (length (g ++ p)) old))
-    ∙ ap (λ (k : ℕ). over (gathered bytes k) old) (sym (add-one n))
 
 -- ---- a file that is not refused
 -- a bad block's number is not 0

@@ -7,5 +7,6 @@ pub mod Table
 pub mod Bounds
 pub mod RoundTrip
 pub mod OneForm
+pub mod PayloadLaws
 pub mod Detection
 pub mod Examples

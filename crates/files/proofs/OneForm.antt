@@ -12,6 +12,7 @@ use Rattle.blocks.specs.Block.{twoAt, block, payloadOf}
 use Rattle.blocks.proofs.BlockLaws.{Good, fault-good, used-le, used-full, used-some}
 use Rattle.blocks.proofs.OneForm.{good-block}
 use Rattle.files.specs.File.{blockAt, gathered, contentOf, blockCount, firstBlocks, blocksOf}
+use Rattle.files.specs.Payloads.{payloadAt}
 use Rattle.files.proofs.FileLaws.{block-len, block-bytes, payload-len, judged-each, gathered-more, gathered-front, whole, filled, Stands}
 
 module _ (kind : ℕ) (bytes : List ℕ) (s : Stands kind bytes) where
@@ -33,7 +34,7 @@ module _ (kind : ℕ) (bytes : List ℕ) (s : Stands kind bytes) where
   good-at : (i : ℕ) → i < n → Good (blockAt bytes i) kind i n
   good-at i h = fault-good (blockAt bytes i) kind i n (judged-each kind bytes n n i h (s .blocks))
 
-  pub used-small : (i : ℕ) → i < n → used i ≤ 496
+  used-small : (i : ℕ) → i < n → used i ≤ 496
   used-small i h = used-le i n (used i) (good-at i h .used)
 
   -- every block but the last is full
@@ -99,8 +100,8 @@ module _ (kind : ℕ) (bytes : List ℕ) (s : Stands kind bytes) where
           let ld : length (drop (496 * i) c) ≡ used i = length-drop (496 * i) c ∙ omega (arith, content-size, ap used e, e) in
           take-all 496 (drop (496 * i) c) (omega (arith, ld, used-small i h)) ∙ sym (take-all (used i) (drop (496 * i) c) (omega (arith, ld))) ∙ here
 
-  -- byte k of the content is byte k mod 496 of the payload of block k div 496
-  pub content-at : (k : ℕ) → k < length (contentOf bytes) → at (contentOf bytes) k ≡ at bytes (512 * (k / 496) + (12 + k % 496))
+  -- byte k of the content stands at its place
+  pub content-at : (k : ℕ) → k < length (contentOf bytes) → at (contentOf bytes) k ≡ at bytes (payloadAt k)
   content-at k h = go (decLt (k / 496 + 1) n)
     where
       i : ℕ
@@ -155,5 +156,5 @@ module _ (kind : ℕ) (bytes : List ℕ) (s : Stands kind bytes) where
     content-bytes k = go (decLt k (length (contentOf bytes)))
       where
         go : Dec (k < length (contentOf bytes)) → at (contentOf bytes) k < 256
-        go (yes l) = omega (arith, content-at k l, small (512 * (k / 496) + (12 + k % 496)))
+        go (yes l) = omega (arith, content-at k l, small (payloadAt k))
         go (no u) = omega (arith, List·getD-eq-default (contentOf bytes) 0 {n = k} (omega arith))

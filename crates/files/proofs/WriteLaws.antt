@@ -1,12 +1,11 @@
 -- Laws of the blocks of a content, as a loop writes them one after the other. Assumes nothing.
 use mathlib.Core.Path.{_≡_, refl, sym, ap, ap₂, _∙_}
 use mathlib.Core.List.{List, _++_, append-assoc}
-use Prim.Native.Nat.{ℕ, zero, suc, _+_, _-_, _*_, _<_, _≤_, min}
+use Prim.Native.Nat.{ℕ, zero, suc, _+_, _-_, _*_, _≤_}
 use native.Mathlib.Numerals.{add-one}
 use native.Mathlib.Omega.{arith}
-use native.Mathlib.Decide.{decLt}
-use lib.ListN.{length, take, drop, length-append, length-drop, length-take}
-use lib.Seq.{take-at, take-all, drop-drop, drop-append-add}
+use lib.ListN.{length, take, drop, length-append, length-take}
+use lib.Seq.{take-at, drop-drop, drop-append-add}
 use borrow.Rule.Slice.PartMut.{putMid, post-is}
 use Rattle.blocks.specs.Block.{block}
 use Rattle.blocks.proofs.WriteLaws.{length-block}
@@ -41,23 +40,6 @@ blocks-more kind content count i out old ys e p =
     (ap (λ (k : ℕ). drop k (f ++ drop (512 * i) old)) n ∙ drop-append-add f (drop (512 * i) old) 512 ∙ drop-drop 512 (512 * i) old ∙ ap (λ (k : ℕ). drop k old) m)
     ∙ sym (append-assoc f b (drop (512 * (i + 1)) old))
     ∙ ap (λ (k : ℕ). firstBlocks kind content count k ++ drop (512 * (i + 1)) old) (sym (add-one i))
-
--- as much as there is
-take-min : (k : ℕ) (l : List ℕ) → take (min k (length l)) l ≡ take k l
-take-min k l = go (decLt k (length l))
-  where
-    go : Dec (k < length l) → take (min k (length l)) l ≡ take k l
-    go (yes h) =
-        let e : min k (length l) ≡ k = omega arith in
-        ap (λ (j : ℕ). take j l) e
-    go (no u) = take-all (min k (length l)) l (omega arith) ∙ sym (take-all k l (omega arith))
-
-pub part-payload : (content : List ℕ) (i e : ℕ) → 496 * i ≤ length content → e ≡ min (496 * i + 496) (length content)
-    → take (e - 496 * i) (drop (496 * i) content) ≡ take 496 (drop (496 * i) content)
-part-payload content i e h q =
-    let l = drop (496 * i) content in
-    let n : e - 496 * i ≡ min 496 (length l) = omega (arith, length-drop (496 * i) content) in
-    ap (λ (k : ℕ). take k l) n ∙ take-min 496 l
 
 -- all blocks are written
 pub blocks-done : (kind : ℕ) (content : List ℕ) (count i : ℕ) (out old : List ℕ) → count ≡ blockCount (length content) → i ≡ count

@@ -2,12 +2,11 @@
 //
 // `read_content` and `write_content` take any bytes, any lengths and any kind asked; the crate disk hands them on to users, with the entries for pictures. The other functions are inner ones.
 ghost use mathlib.Core.Path.{_≡_};
-ghost use mathlib.Core.List.{_++_};
-ghost use Prim.Native.Nat.{ℕ, _+_, _*_, _<_, _≤_, min};
-ghost use lib.ListN.{length, take, drop};
-ghost use Rattle.blocks.specs.Block.{twoAt, payloadOf};
-ghost use Rattle.files.specs.File.{done, refused, kindRight, lengthRight, sizeFits, blockAt, gathered, contentOf, judge, blockCount, blocksOf};
+ghost use Prim.Native.Nat.{_+_, _*_, _<_, _≤_, min};
+ghost use lib.ListN.{length};
+ghost use Rattle.files.specs.File.{done, refused, kindRight, lengthRight, sizeFits, contentOf, judge, blockCount, blocksOf};
 ghost use Rattle.files.specs.Content.{readAnswer, writeAnswer, changed, over, targetFits, contentFits};
+ghost use Rattle.files.specs.Payloads.{payloads, laid};
 
 // A refusal has its number, its place and 0 bytes; success has 0, 0 and the number of bytes put out.
 pub struct Answer {
@@ -99,26 +98,28 @@ pub fn judge(kind: usize, bytes: &[u8]) -> Answer
     refuse(25, 0)
 }
 
-// A block's payload, handed on as a part of the lent block, into the target from `at` on; the place after it.
-fn unload(block: &[u8], at: usize, target: &mut [u8]) -> usize
-    requires { ⌜ (length (now block) ≡ 512) × (twoAt (now block) 6 ≤ 496) × (at + twoAt (now block) 6 ≤ length (now target)) ⌝ }
-    ensures { λ r. ⌜ (r ≡ at + twoAt (now (block .entry)) 6) × (now (target .exit) ≡ take at (now (target .entry)) ++ (payloadOf (now (block .entry)) ++ drop (at + twoAt (now (block .entry)) 6) (now (target .entry)))) ⌝ }
+fn lesser(a: usize, b: usize) -> usize
+    ensures { λ r. ⌜ r ≡ min a b ⌝ }
 {
-    let used = blocks::two_at(block, 6);
-    blocks::copy(&block[12..12 + used], &mut target[at..at + used]);
-    at + used
+    if a < b { a } else { b }
 }
 
-// The content of the first `count` blocks, to the start of the target.
-pub fn gather(bytes: &[u8], count: usize, target: &mut [u8])
-    requires { ⌜ (512 * count ≤ length (now bytes)) × ((i : ℕ) → i < count → twoAt (blockAt (now bytes) i) 6 ≤ 496) × (length (gathered (now bytes) count) ≤ length (now target)) ⌝ }
-    ensures { λ _. ⌜ now (target .exit) ≡ over (gathered (now (bytes .entry)) count) (now (target .entry)) ⌝ }
+// A part of a content, from number `at` on, out of the payloads that it stands in, piece by piece: what block i's payload has of it, of which `room` bytes are left, is handed on as a part of the lent blocks.
+pub fn part_of(bytes: &[u8], at: usize, part: &mut [u8])
+    requires { ⌜ 512 * blockCount (at + length (now part)) ≤ length (now bytes) ⌝ }
+    ensures { λ _. ⌜ now (part .exit) ≡ payloads (now (bytes .entry)) at (length (now (part .entry))) ⌝ }
 {
-    let mut at: usize = 0;
-    let mut i: usize = 0;
-    while i < count {
-        at = unload(&bytes[512 * i..512 * i + 512], at, target);
+    let n = part.len();
+    let mut i = at / 496;
+    let mut room = 496 - at % 496;
+    let mut k: usize = 0;
+    while k < n {
+        let piece = lesser(room, n - k);
+        let from = 512 * i + (508 - room);
+        blocks::copy(&bytes[from..from + piece], &mut part[k..k + piece]);
+        k += piece;
         i += 1;
+        room = 496;
     }
 }
 
@@ -139,8 +140,40 @@ pub fn read_content(kind: usize, bytes: &[u8], target: &mut [u8]) -> Answer
     if target.len() < size {
         return refuse(26, 0);
     }
-    gather(bytes, bytes.len() / 512, target);
+    part_of(bytes, 0, &mut target[0..size]);
     found
+}
+
+// A part of a content, from number `at` on, into the payloads that it is to stand in, piece by piece.
+pub fn put_part(part: &[u8], at: usize, out: &mut [u8])
+    requires { ⌜ 512 * blockCount (at + length (now part)) ≤ length (now out) ⌝ }
+    ensures { λ _. ⌜ now (out .exit) ≡ laid (now (part .entry)) at (now (out .entry)) ⌝ }
+{
+    let n = part.len();
+    let mut i = at / 496;
+    let mut room = 496 - at % 496;
+    let mut k: usize = 0;
+    while k < n {
+        let piece = lesser(room, n - k);
+        let to = 512 * i + (508 - room);
+        blocks::copy(&part[k..k + piece], &mut out[to..to + piece]);
+        k += piece;
+        i += 1;
+        room = 496;
+    }
+}
+
+// Makes the blocks of a content of `size` bytes that stands in their payloads already.
+pub fn seal_all(kind: usize, size: usize, count: usize, out: &mut [u8])
+    requires { ⌜ (kind < 65536) × (count < 65536) × (count ≡ blockCount size) × (512 * count ≤ length (now out)) ⌝ }
+    ensures { λ _. ⌜ now (out .exit) ≡ over (blocksOf kind (payloads (now (out .entry)) 0 size)) (now (out .entry)) ⌝ }
+{
+    let mut i: usize = 0;
+    while i < count {
+        let used = lesser(496, size - 496 * i);
+        blocks::seal(kind, i, count, used, &mut out[512 * i..512 * i + 512]);
+        i += 1;
+    }
 }
 
 // How many blocks a content of `size` bytes takes.
@@ -152,33 +185,6 @@ fn block_count(size: usize) -> usize
         return 1;
     }
     (size + 495) / 496
-}
-
-fn lesser(a: usize, b: usize) -> usize
-    ensures { λ r. ⌜ r ≡ min a b ⌝ }
-{
-    if a < b { a } else { b }
-}
-
-// The blocks of a content, to the start of the output; each payload is a part of the lent content.
-pub fn put_blocks(kind: usize, content: &[u8], count: usize, out: &mut [u8])
-    requires { ⌜ (kind < 65536) × (count < 65536) × (count ≡ blockCount (length (now content))) × (512 * count ≤ length (now out)) ⌝ }
-    ensures { λ _. ⌜ now (out .exit) ≡ over (blocksOf kind (now (content .entry))) (now (out .entry)) ⌝ }
-{
-    let len = content.len();
-    let mut i: usize = 0;
-    while i < count {
-        let at = 496 * i;
-        let end = lesser(at + 496, len);
-        blocks::put_block(
-            kind,
-            i,
-            count,
-            &content[at..end],
-            &mut out[512 * i..512 * i + 512],
-        );
-        i += 1;
-    }
 }
 
 // Writes a list or items as blocks to the start of an output, whose bytes past the blocks stay.
@@ -200,6 +206,7 @@ pub fn write_content(kind: usize, content: &[u8], out: &mut [u8]) -> Answer
     if out.len() < 512 * count {
         return refuse(27, 0);
     }
-    put_blocks(kind, content, count, out);
+    put_part(content, 0, out);
+    seal_all(kind, size, count, out);
     finish(512 * count)
 }

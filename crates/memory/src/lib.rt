@@ -8,8 +8,10 @@ mod spreading;
 mod writing;
 
 ghost use mathlib.Core.Path.{_≡_};
-ghost use lib.ListN.{length};
+ghost use Prim.Native.Nat.{_*_, _<_};
+ghost use lib.ListN.{length, take, drop};
 ghost use Rattle.bits.specs.Bits.{bitOf, item};
+ghost use Rattle.bits.specs.Steps.{putAt};
 ghost use Rattle.memory.specs.Access.{readBit};
 ghost use Rattle.memory.specs.Memory.{cell, stored, every, maskOf};
 ghost use Rattle.memory.specs.Plain.{plainWords, scrambled};
@@ -50,18 +52,20 @@ pub fn line_mask(m: &[u8; 32], f: u8) -> [u8; 32]
     bits::flips::flip(m, f)
 }
 
-// The 256 words of the memory in plain order.
-pub fn words_out<'a>(mem: &'a [u8], words: &mut [u8])
-    requires { ⌜ (length (now mem) ≡ 8192) × (length (now words) ≡ 8192) ⌝ }
-    ensures { λ _. ⌜ now (words .exit) ≡ plainWords (now (mem .entry)) ⌝ }
+// Words 8v to 8v+7 of the memory in plain order.
+pub fn words_out(mem: &[u8], v: usize) -> [u8; 256]
+    requires { ⌜ (length (now mem) ≡ 8192) × (v < 32) ⌝ }
+    ensures { λ r. ⌜ r ≡ take 256 (drop (256 * v) (plainWords (now (mem .entry)))) ⌝ }
 {
-    ordering::reorder(mem, words);
+    let bytes = reading::read_all(mem, 255, (8 * v) as u8);
+    ordering::turned(&bytes)
 }
 
-// The memory of 256 words in plain order.
-pub fn words_in<'a>(words: &'a [u8], mem: &mut [u8])
-    requires { ⌜ (length (now words) ≡ 8192) × (length (now mem) ≡ 8192) ⌝ }
-    ensures { λ _. ⌜ now (mem .exit) ≡ scrambled (now (words .entry)) ⌝ }
+// Words 8v to 8v+7 in plain order into the memory; every other word stays.
+pub fn words_in<'a>(mem: &mut [u8], v: usize, words: &'a [u8])
+    requires { ⌜ (length (now mem) ≡ 8192) × (v < 32) × (length (now words) ≡ 256) ⌝ }
+    ensures { λ _. ⌜ now (mem .exit) ≡ scrambled (putAt (256 * v) (now (words .entry)) (plainWords (now (mem .entry)))) ⌝ }
 {
-    ordering::reorder(words, mem);
+    let bytes = ordering::turned(words);
+    ordering::put_all(mem, v, &bytes);
 }

@@ -1,91 +1,95 @@
--- `put_picture`: the two parts stand in the buffer, which is then the content that the blocks are made of.
-use mathlib.Core.Path.{_≡_, refl, sym, ap, ap₂, _∙_}
-use mathlib.Core.List.{List, _++_}
-use Prim.Native.Nat.{ℕ}
+-- `put_picture`: each turn lays eight words more of the content; the blocks are made around it.
+use mathlib.Core.Path.{_≡_, refl, ap, _∙_}
+use Prim.Native.Nat.{ℕ, _≤_, _-_, _*_}
 use native.Mathlib.Omega.{arith}
-use lib.ListN.{length, replicate}
-use borrow.Author.Needs.{needs}
-use borrow.Rule.Slice.PartMut.{putMid}
+use lib.ListN.{length, take}
 use denote.Ref.{now}
+use Rattle.bits.specs.Steps.{written}
 use Rattle.memory.proofs.PlainLaws.{length-plain}
-use Rattle.files.specs.File.{blockCount, blocksOf}
-use Rattle.files.specs.Content.{over}
-use Rattle.disk.specs.Picture.{pictureOf}
-use Rattle.disk.proofs.PictureLaws.{length-picture, parts-room, parts-are}
+use Rattle.files.specs.Payloads.{laid}
+use Rattle.disk.specs.Picture.{plainWords}
+use Rattle.disk.proofs.PictureLaws.{words-laid, picture-laid, picture-sealed}
+use borrow.Author.Needs.{needs}
 use Rattle.disk.proofs.put_picture.Statement.{statement}
 use Rattle.disk.proofs.put_picture.Tie as tie
 
--- what stands in the buffer
-whole : (c : tie.After-copy)
-    → (let a = c .before .before .before .before .before .before .before .before .args in
-    putMid 8192 96 (c .before .before .before .words-out .last .1 .0 ++ replicate 96 0) (c .copy .last .1 .0) ≡ pictureOf (now (a .memory)) (now (a .registers)))
-whole c =
-    let w = c .before .before .before .words-out in
-    parts-are (w .last .1 .0) (replicate 96 0) (ap length (w .ensures) ∙ length-plain _) refl (c .copy .last .1 .0)
-    ∙ ap₂ (λ (x y : List ℕ). x ++ y) (w .ensures) (c .copy .ensures)
+abbrev Inv-loop : tie.InvT-loop
+Inv-loop memory registers out₀ v₀ out v = (v ≤ 32) × (length out ≡ length out₀) × (out ≡ laid (take (256 * v) (plainWords memory)) 0 out₀)
 
-whole-size : (c : tie.After-copy)
-    → (let a = c .before .before .before .before .before .before .before .before .args in length (pictureOf (now (a .memory)) (now (a .registers))) ≡ 8288)
-whole-size c =
-    let s = c .before .before .before .before .before .before .before .before in
-    length-picture (now (s .args .memory)) (now (s .args .registers)) (s .pre .1)
+abbrev μ-loop : tie.MeasureT-loop
+μ-loop memory registers out₀ v₀ out v = 32 - v
 
-sub-words-out : tie.Need-sub-words-out
-sub-words-out c = search needs
+loop-holds : tie.Need-loop-holds Inv-loop μ-loop
+unfolding written
+loop-holds c = (omega arith, refl, refl)
 
-part-content-start : tie.Need-part-content-start
-part-content-start c = search needs
-
-part-content-end : tie.Need-part-content-end
-part-content-end c = search needs
-
-words-out-requires : tie.Need-words-out-requires
+words-out-requires : tie.Need-words-out-requires Inv-loop μ-loop
 words-out-requires c κs = search needs
 
-sub-copy : tie.Need-sub-copy
-sub-copy c = search needs
+slice-aggregate-put-part : tie.Need-slice-aggregate-put-part Inv-loop μ-loop
+slice-aggregate-put-part c = search needs
 
-part-content-start-2 : tie.Need-part-content-start-2
-part-content-start-2 c = search needs
+mul-put-part : tie.Need-mul-put-part Inv-loop μ-loop
+mul-put-part c = search needs
 
-part-content-end-2 : tie.Need-part-content-end-2
-part-content-end-2 c =
-    let w = c .before .words-out in
-    parts-room (w .last .1 .0) (replicate 96 0) (ap length (w .ensures) ∙ length-plain _) refl
+put-part-requires : tie.Need-put-part-requires Inv-loop μ-loop
+put-part-requires c κs = search needs
 
-copy-requires : tie.Need-copy-requires
-copy-requires c κs = search needs
+add-v : tie.Need-add-v Inv-loop μ-loop
+add-v c = search needs
 
-slice-aggregate-put-blocks : tie.Need-slice-aggregate-put-blocks
-slice-aggregate-put-blocks c = sym (ap length (whole (c .before .before)) ∙ whole-size (c .before .before))
+loop-less : tie.Need-loop-less Inv-loop μ-loop
+loop-less c = search needs
 
-put-blocks-requires : tie.Need-put-blocks-requires
-put-blocks-requires c κs =
-    let d = c .before .before .before in
-    (omega arith, omega arith, sym (ap (λ (l : List ℕ). blockCount (length l)) (whole d) ∙ ap blockCount (whole-size d)), omega arith)
+loop-again : tie.Need-loop-again Inv-loop μ-loop
+loop-again c =
+    let l = c .before .before .before .before .before .before .before .loop in
+    let a = c .before .before .before .before .before .before .before .before .before .before .before .args in
+    let w = c .before .before .before .before .before .words-out in
+    let p = c .before .before .put-part in (
+      omega arith,
+      p .kept .1 .1 .0 ∙ l .inv .1,
+      p .ensures ∙ words-laid (plainWords (now (a .memory))) (now (a .out)) (l .out) (w .result) (l .v) (omega (arith, length-plain (now (a .memory)))) (l .inv .2) (w .ensures),
+    )
 
-same-length : tie.Need-same-length
+put-part-requires-2 : tie.Need-put-part-requires-2 Inv-loop μ-loop
+put-part-requires-2 c κs = search needs
+
+seal-all-requires : tie.Need-seal-all-requires Inv-loop μ-loop
+seal-all-requires c κs = search needs
+
+same-length : tie.Need-same-length Inv-loop μ-loop
 same-length c = search needs
 
-returns : tie.Need-returns
+returns : tie.Need-returns Inv-loop μ-loop
 returns c =
-    let d = c .before .before .before .before .before .before in
-    let a = d .before .before .before .before .before .before .before .before .args in
-    c .before .before .put-blocks .ensures ∙ ap (λ (l : List ℕ). over (blocksOf 1 l) (now (a .out))) (whole d)
+    let l = c .before .before .before .before .before .before .before .before .before .loop in
+    let s = c .before .before .before .before .before .before .before .before .before .before .before .before .before in
+    let memory = now (s .args .memory) in
+    let registers = now (s .args .registers) in
+    let old = now (s .args .out) in
+    let all : 256 * l .v ≡ 8192 = omega arith in
+    c .before .before .seal-all .ensures
+    ∙ picture-sealed memory registers old (s .pre .1) (s .pre .2) _
+    (c .before .before .before .before .before .before .put-part2 .ensures
+    ∙ ap (laid registers 8192) (l .inv .2 ∙ ap (λ (k : ℕ). laid (take k (plainWords memory)) 0 old) all)
+    ∙ picture-laid memory registers old)
 
 pub put-picture-spec : {M : Type 1} → statement M
 put-picture-spec =
     tie.close
     (tie.spec
-    sub-words-out
-    part-content-start
-    part-content-end
+    Inv-loop
+    μ-loop
+    loop-holds
     words-out-requires
-    sub-copy
-    part-content-start-2
-    part-content-end-2
-    copy-requires
-    slice-aggregate-put-blocks
-    put-blocks-requires
+    slice-aggregate-put-part
+    mul-put-part
+    put-part-requires
+    add-v
+    loop-less
+    loop-again
+    put-part-requires-2
+    seal-all-requires
     same-length
     returns)

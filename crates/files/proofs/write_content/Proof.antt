@@ -1,5 +1,6 @@
 -- `write_content`: each return is a law of what a writer answers; only the last changes the output.
 use mathlib.Core.Bool.{Bool, true, false, _&&_}
+use mathlib.Core.List.{List}
 use mathlib.Core.Path.{_≡_, sym, ap, ap₂, _∙_}
 use Prim.Native.Nat.{ℕ, _≤_, _<_, _*_}
 use native.Mathlib.Omega.{arith}
@@ -7,9 +8,11 @@ use lib.ListN.{length}
 use borrow.Author.Tests.{le-ltb, lt-ltb, not-true, not-false}
 use borrow.Author.Needs.{needs}
 use denote.Ref.{now}
-use Rattle.files.specs.File.{kindRight, sizeFits, done, blockCount}
-use Rattle.files.specs.Content.{contentFits}
+use Rattle.files.specs.File.{kindRight, sizeFits, done, blockCount, blocksOf}
+use Rattle.files.specs.Content.{over, contentFits}
+use Rattle.files.specs.Payloads.{payloads}
 use Rattle.files.proofs.FileLaws.{size-le, kind-le}
+use Rattle.files.proofs.PayloadLaws.{laid-sealed}
 use Rattle.files.proofs.AnswerLaws.{write-22, write-26, write-27, write-done, changed-not, changed-done, refused-not}
 use Rattle.files.proofs.write_content.Statement.{statement}
 use Rattle.files.proofs.write_content.Tie as tie
@@ -74,13 +77,17 @@ returns-4 c =
     let h : length (now (a .out)) < 512 * blockCount (length (now (a .content))) = omega (arith, c .before .before .block-count .ensures, c .before .if4 .taken) in
     (r .ensures ∙ write-27 (a .kind) _ _ _ (kind-ok (c .before .before .before .before .before .before)) (both (c .before .before .before)) h, changed-not (r .result) _ (now (a .out)) (refused-not (r .result) 27 0 (r .ensures) (λ x. omega arith)))
 
-put-blocks-requires : tie.Need-put-blocks-requires
-put-blocks-requires c κs =
-    let a = c .before .before .before .before .before .before .before .before .before .before .args in
-    let k = kind-le (a .kind) (kind-ok (c .before .before .before .before .before .before)) in
-    let s = size-le (a .kind) (length (now (a .content))) (fit-ok (c .before .before .before)) in
-    let e = c .before .before .block-count .ensures in
-    (omega arith, omega arith, e, omega arith)
+put-part-requires : tie.Need-put-part-requires
+put-part-requires c κs = omega (arith, c .before .before .block-count .ensures, c .before .if4 .left)
+
+seal-all-requires : tie.Need-seal-all-requires
+seal-all-requires c κs =
+    let e = c .before .before .before .before .before in
+    let a = e .before .before .before .before .before .before .before .before .before .args in
+    let k = kind-le (a .kind) (kind-ok (e .before .before .before .before .before)) in
+    let s = size-le (a .kind) (length (now (a .content))) (fit-ok (e .before .before)) in
+    let n = e .before .block-count .ensures in
+    (omega arith, omega arith, n, omega arith)
 
 mul-finish : tie.Need-mul-finish
 mul-finish c = search needs
@@ -93,12 +100,17 @@ same-length c = search needs
 
 returns-5 : tie.Need-returns-5
 returns-5 c =
-    let a = c .before .before .before .before .before .before .before .before .before .before .before .before .before .before .args in
+    let d = c .before .before .before .before .before .before .before .before .before in
+    let a = d .before .before .before .before .before .before .before .before .before .args in
     let r = c .finish in
-    let e : c .before .before .before .before .before .before .block-count .result ≡ blockCount (length (now (a .content))) = c .before .before .before .before .before .before .block-count .ensures in
-    let h : 512 * blockCount (length (now (a .content))) ≤ length (now (a .out)) = omega (arith, e, c .before .before .before .before .before .if4 .left) in (
-      r .ensures ∙ ap (λ (k : ℕ). done (512 * k)) e ∙ write-done (a .kind) _ _ _ (kind-ok (c .before .before .before .before .before .before .before .before .before .before)) (both (c .before .before .before .before .before .before .before)) h,
-      c .before .before .before .put-blocks .ensures ∙ changed-done (r .result) _ (now (a .out)) (ap (λ x. x .number) (r .ensures)),
+    let e : d .before .block-count .result ≡ blockCount (length (now (a .content))) = d .before .block-count .ensures in
+    let h : 512 * blockCount (length (now (a .content))) ≤ length (now (a .out)) = omega (arith, e, d .if4 .left) in
+    let p = c .before .before .before .before .before .before .before .put-part in (
+      r .ensures ∙ ap (λ (k : ℕ). done (512 * k)) e ∙ write-done (a .kind) _ _ _ (kind-ok (d .before .before .before .before .before)) (both (d .before .before)) h,
+      c .before .before .before .seal-all .ensures
+          ∙ ap (λ (l : List ℕ). over (blocksOf (a .kind) (payloads l 0 (length (now (a .content))))) l) (p .ensures)
+          ∙ laid-sealed (now (a .content)) (now (a .out)) h (a .kind)
+          ∙ changed-done (r .result) _ (now (a .out)) (ap (λ x. x .number) (r .ensures)),
     )
 
 pub write-content-spec : {M : Type 1} → statement M
@@ -117,7 +129,8 @@ write-content-spec =
     mul-if4
     refuse-requires-4
     returns-4
-    put-blocks-requires
+    put-part-requires
+    seal-all-requires
     mul-finish
     finish-requires
     same-length
