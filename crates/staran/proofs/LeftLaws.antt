@@ -1,4 +1,5 @@
--- What a function of the library leaves, from what the entry that it calls leaves and from the answer as numbers; and that these numbers are small. Assumes nothing.
+-- What a function of the library leaves, from what the entry that it calls leaves and from the answer as numbers; and that these numbers are small, whatever the entry is called on.
+-- A proof takes the arguments of a law from what the call ensures, so that a wrong call is refused at the contract's own equation. Assumes nothing.
 use mathlib.Core.Path.{_≡_, sym, ap, ap₂, _∙_, subst}
 use mathlib.Core.Bool.{Bool, true, false, cond}
 use mathlib.Core.List.{List, [], _∷_}
@@ -97,28 +98,26 @@ buffer-left r a new old t w e et ew =
     ap₂ (λ (x y : List ℕ). record { buffer = x; answer = y }) et ew
     ∙ ap (λ (x : Answer). record { buffer = changed x new old; answer = three x }) e
 
-module _ (kind : ℕ) (bytes target : List ℕ) (r : Answer) where
-  pub read-small : r ≡ readAnswer kind bytes (targetFits kind bytes target) → (r .place ≤ 67) × (r .bytes ≤ 34304)
-  read-small e = small-three r _ e (read-bounds kind bytes (targetFits kind bytes target))
+-- of a content, of a picture
+pub read-small : (kind : ℕ) (bytes : List ℕ) (fits : Bool) (r : Answer) → r ≡ readAnswer kind bytes fits → (r .place ≤ 67) × (r .bytes ≤ 34304)
+read-small kind bytes fits r e = small-three r _ e (read-bounds kind bytes fits)
 
+module _ (kind : ℕ) (bytes target : List ℕ) (r : Answer) where
   pub read-left : (t w : List ℕ) → r ≡ readAnswer kind bytes (targetFits kind bytes target) → t ≡ changed r (over (contentOf bytes) target) target → w ≡ three r
       → _≡_ {A = BufferLeft} (record { buffer = t; answer = w }) (readLeft kind bytes target)
   unfolding readLeft
   read-left t w e et ew = buffer-left r _ (over (contentOf bytes) target) target t w e et ew
 
-module _ (kind : ℕ) (content out : List ℕ) (r : Answer) where
-  pub write-small : r ≡ writeAnswer kind (contentFits kind content) (length content) (length out) → (r .place ≤ 67) × (r .bytes ≤ 34304)
-  write-small e = small-three r _ e (write-content-bounds kind content (length out))
+pub write-small : (kind : ℕ) (content : List ℕ) (room : ℕ) (r : Answer) → r ≡ writeAnswer kind (contentFits kind content) (length content) room → (r .place ≤ 67) × (r .bytes ≤ 34304)
+write-small kind content room r e = small-three r _ e (write-content-bounds kind content room)
 
+module _ (kind : ℕ) (content out : List ℕ) (r : Answer) where
   pub write-left : (t w : List ℕ) → r ≡ writeAnswer kind (contentFits kind content) (length content) (length out) → t ≡ changed r (over (blocksOf kind content) out) out → w ≡ three r
       → _≡_ {A = BufferLeft} (record { buffer = t; answer = w }) (writeLeft kind content out)
   unfolding writeLeft
   write-left t w e et ew = buffer-left r _ (over (blocksOf kind content) out) out t w e et ew
 
 module _ (kind : ℕ) (bytes memory registers : List ℕ) (r : Answer) where
-  pub read-picture-small : r ≡ readAnswer kind bytes (pictureFits kind (length memory) (length registers)) → (r .place ≤ 67) × (r .bytes ≤ 34304)
-  read-picture-small e = small-three r _ e (read-bounds kind bytes (pictureFits kind (length memory) (length registers)))
-
   pub read-picture-left : (t t′ w : List ℕ) → r ≡ readAnswer kind bytes (pictureFits kind (length memory) (length registers))
       → t ≡ changed r (scrambled (contentOf bytes)) memory → t′ ≡ changed r (drop 8192 (contentOf bytes)) registers → w ≡ three r
       → _≡_ {A = PictureLeft} (record { memory = t; registers = t′; answer = w }) (readPictureLeft kind bytes memory registers)
@@ -130,10 +129,10 @@ module _ (kind : ℕ) (bytes memory registers : List ℕ) (r : Answer) where
       ∙ ap (λ (x : List ℕ). record { memory = changed r new memory; registers = changed r new′ registers; answer = x }) ew
       ∙ ap (λ (x : Answer). record { memory = changed x new memory; registers = changed x new′ registers; answer = three x }) e
 
-module _ (kind : ℕ) (memory registers out : List ℕ) (r : Answer) where
-  pub write-picture-small : r ≡ writeAnswer kind (pictureFits kind (length memory) (length registers)) 8288 (length out) → (r .place ≤ 67) × (r .bytes ≤ 34304)
-  write-picture-small e = small-three r _ e (write-bounds kind (pictureFits kind (length memory) (length registers)) 8288 (length out) (λ f. omega arith))
+pub write-picture-small : (kind : ℕ) (fits : Bool) (room : ℕ) (r : Answer) → r ≡ writeAnswer kind fits 8288 room → (r .place ≤ 67) × (r .bytes ≤ 34304)
+write-picture-small kind fits room r e = small-three r _ e (write-bounds kind fits 8288 room (λ f. omega arith))
 
+module _ (kind : ℕ) (memory registers out : List ℕ) (r : Answer) where
   pub write-picture-left : (t w : List ℕ) → r ≡ writeAnswer kind (pictureFits kind (length memory) (length registers)) 8288 (length out)
       → t ≡ changed r (over (blocksOf kind (pictureOf memory registers)) out) out → w ≡ three r
       → _≡_ {A = BufferLeft} (record { buffer = t; answer = w }) (writePictureLeft kind memory registers out)

@@ -48,6 +48,7 @@ use Rattle.judge.proofs.Answer as N
 use Rattle.judge.proofs.Answer.Laws as N′
 use Rattle.module.proofs.Stepped as D
 use Rattle.module.proofs.Stepped.Laws as D′
+use Rattle.module.proofs.WalkSteps.{local}
 use Rattle.module.proofs.advance as advance
 use Rattle.module.proofs.advance.Symbol as advance-def
 use Rattle.module.proofs.advance.Symbol.{name as #module·advance}
@@ -170,14 +171,14 @@ module _ {M : Type 1} (𝓤 : URA M) (H : Heap 𝓤) (A : Atoms 𝓤) (W : Given
         -- [the cell; what the record owns; the open borrow; obs; auth; `advance`'s tokens; ins; out; items; mem; _11 (10); …]
         assigns ! (of-opd ! (load ! (from ! (hop ! (look ! 28 refl) (stop !))) (look-raw ! 0 refl))) (from ! (stop !)) (init ! 20 refl (LL.lawful T.the-type T′.the-laws 𝓤 H A W .typed h _ was .0)) $
         assigns ! (addr ! (from ! (fld ! refl (hop ! (look-in ! 30 (sub ! 0 refl (whole !))) (stop !))))) (from ! (stop !)) (init ! 16 refl (tt, tt)) $
-        assigns ! (agg ! (and-then ! (load ! (from ! (stop !)) (look ! 16 refl)) (and-then ! (load ! (from ! (fld ! refl (stop !))) (look-in ! 30 (sub ! 1 refl (whole !)))) (no-more !)))) (from ! (stop !)) (init ! 14 refl (tt, (tt, (record { fits = roomm .0 }, tt)))) $
+        assigns ! (agg ! (and-then ! (local ! 32 refl) (and-then ! (load ! (from ! (fld ! refl (stop !))) (look-in ! 30 (sub ! 1 refl (whole !)))) (no-more !)))) (from ! (stop !)) (init ! 14 refl (tt, (tt, (record { fits = roomm .0 }, tt)))) $
         assigns ! (addr ! (from ! (fld ! refl (hop ! (look-in ! 24 (sub ! 0 refl (whole !))) (stop !))))) (from ! (stop !)) (init ! 12 refl (tt, tt)) $
-        assigns ! (agg ! (and-then ! (load ! (from ! (stop !)) (look ! 12 refl)) (and-then ! (load ! (from ! (fld ! refl (stop !))) (look-in ! 24 (sub ! 1 refl (whole !)))) (no-more !)))) (from ! (stop !)) (init ! 10 refl (tt, (tt, (record { fits = roomo .0 }, tt)))) $
+        assigns ! (agg ! (and-then ! (local ! 32 refl) (and-then ! (load ! (from ! (fld ! refl (stop !))) (look-in ! 24 (sub ! 1 refl (whole !)))) (no-more !)))) (from ! (stop !)) (init ! 10 refl (tt, (tt, (record { fits = roomo .0 }, tt)))) $
         -- what `advance` asks is put together
         nothing ! $ move ! (7 ∷ 0 ∷ []) $ fjoin ! $ owned ! R (Is R) (LL.makes T.the-type T′.the-plain 𝓤 H A) h _ was $ fjoin ! $ move ! (8 ∷ 0 ∷ []) $ fjoin ! $ move ! (7 ∷ 0 ∷ []) $ fjoin ! $ move ! (7 ∷ 0 ∷ []) $ fjoin ! $
         move ! (6 ∷ 0 ∷ []) $ use2 W (raw (Advance 𝓤 H A at-mem run .pre to)) asked $
         -- [what is asked; the cell; what the record owns; the open borrow; obs; auth; _11 (6); …]
-        calls-at ! fm (Advance 𝓤 H A at-mem run) known to (and-then ! (load ! (from ! (stop !)) (look ! 10 refl)) (and-then ! (load ! (from ! (stop !)) (look ! 6 refl)) (and-then ! (load ! (from ! (stop !)) (look ! 22 refl)) (and-then ! (load ! (from ! (stop !)) (look ! 16 refl)) (and-then ! (load ! (from ! (stop !)) (look ! 18 refl)) (no-more !)))))) (λ u.
+        calls-at ! fm (Advance 𝓤 H A at-mem run) known to (and-then ! (local ! 28 refl) (and-then ! (local ! 28 refl) (and-then ! (local ! 28 refl) (and-then ! (local ! 28 refl) (and-then ! (local ! 28 refl) (no-more !)))))) (λ u.
         use1 W (later (some (λ (r : Stepped). (Toks ⊛ ‵ (D.the-row .own r (u ∷ []))) ⊛ raw (ensured 𝓤 H A advance.ended (advance.clauses 𝓤 H A at-mem run) (κm, (κo, (κi, (κn, tt)))) p tt r)))) (id⊢ 𝓤 _) $ await ! tt $ pick ! (λ r.
         -- what `advance` ensures, at some last lists
         split ! $ move ! (1 ∷ []) $ use1 W (some (λ (zs : Lasts). ‵ (lasts advance.ended (κm, (κo, (κi, (κn, tt)))) p zs) ⊛ raw (fact 𝓤 (Said r (zs .0) (zs .1 .0))))) (id⊢ 𝓤 _) $ pick ! (λ zs.

@@ -1,5 +1,4 @@
 -- `staran_difference_list`: what the builder leaves, and its answer as two numbers. Assumes nothing.
-use denote.Ref.{now}
 use borrow.Author.Needs.{needs}
 use Rattle.staran.proofs.LeftLaws.{difference-small, difference-left}
 use Rattle.staran.proofs.staran_difference_list.Statement.{statement}
@@ -10,18 +9,14 @@ difference-list-requires c κs = search needs
 
 two-requires : tie.Need-two-requires
 two-requires c κs =
-    let k = c .before .before in
-    let a = k .before .before .before .args in
-    difference-small (a .a) (a .b) (a .s) (a .n) (now (a .list)) _ (k .difference-list .ensures)
+    difference-small _ _ _ _ _ _ (c .before .before .difference-list .ensures)
 
 same-length : tie.Need-same-length
 same-length c = search needs
 
 returns : tie.Need-returns
 returns c =
-    let k = c .before .before .before in
-    let a = k .before .before .before .args in
-    difference-left (a .a) (a .b) (a .s) (a .n) (now (a .list)) _ _ (k .difference-list .ensures) (c .two .ensures)
+    difference-left _ _ _ _ _ _ _ (c .before .before .before .difference-list .ensures) (c .two .ensures)
 
 pub staran-difference-list-spec : {M : Type 1} → statement M
 staran-difference-list-spec =

@@ -1,5 +1,4 @@
 -- `staran_read_content`: what the entry leaves, and its answer as three numbers. Assumes nothing.
-use denote.Ref.{now}
 use borrow.Author.Needs.{needs}
 use Rattle.staran.proofs.LeftLaws.{read-small, read-left}
 use Rattle.staran.proofs.staran_read_content.Statement.{statement}
@@ -10,9 +9,7 @@ read-content-requires c κs = search needs
 
 three-requires : tie.Need-three-requires
 three-requires c κs =
-    let k = c .before .before in
-    let a = k .before .before .before .before .args in
-    read-small (a .kind) (now (a .bytes)) (now (a .target)) _ (k .read-content .ensures .0)
+    read-small _ _ _ _ (c .before .before .read-content .ensures .0)
 
 same-length : tie.Need-same-length
 same-length c = search needs
@@ -20,8 +17,7 @@ same-length c = search needs
 returns : tie.Need-returns
 returns c =
     let k = c .before .before .before in
-    let a = k .before .before .before .before .args in
-    read-left (a .kind) (now (a .bytes)) (now (a .target)) _ _ _ (k .read-content .ensures .0) (k .read-content .ensures .1) (c .three .ensures)
+    read-left _ _ _ _ _ _ (k .read-content .ensures .0) (k .read-content .ensures .1) (c .three .ensures)
 
 pub staran-read-content-spec : {M : Type 1} → statement M
 staran-read-content-spec =

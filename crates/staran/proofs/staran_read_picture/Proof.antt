@@ -1,7 +1,6 @@
 -- `staran_read_picture`: what the entry leaves, and its answer as three numbers. Assumes nothing.
-use denote.Ref.{now}
 use borrow.Author.Needs.{needs}
-use Rattle.staran.proofs.LeftLaws.{read-picture-small, read-picture-left}
+use Rattle.staran.proofs.LeftLaws.{read-small, read-picture-left}
 use Rattle.staran.proofs.staran_read_picture.Statement.{statement}
 use Rattle.staran.proofs.staran_read_picture.Tie as tie
 
@@ -10,9 +9,7 @@ read-picture-requires c κs = search needs
 
 three-requires : tie.Need-three-requires
 three-requires c κs =
-    let k = c .before .before .before .before in
-    let a = k .before .before .before .before .before .before .args in
-    read-picture-small (a .kind) (now (a .bytes)) (now (a .memory)) (now (a .registers)) _ (k .read-picture .ensures .0)
+    read-small _ _ _ _ (c .before .before .before .before .read-picture .ensures .0)
 
 same-length : tie.Need-same-length
 same-length c = search needs
@@ -23,8 +20,7 @@ same-length-2 c = search needs
 returns : tie.Need-returns
 returns c =
     let k = c .before .before .before .before .before in
-    let a = k .before .before .before .before .before .before .args in
-    read-picture-left (a .kind) (now (a .bytes)) (now (a .memory)) (now (a .registers)) _ _ _ _ (k .read-picture .ensures .0) (k .read-picture .ensures .1 .0) (k .read-picture .ensures .1 .1) (c .three .ensures)
+    read-picture-left _ _ _ _ _ _ _ _ (k .read-picture .ensures .0) (k .read-picture .ensures .1 .0) (k .read-picture .ensures .1 .1) (c .three .ensures)
 
 pub staran-read-picture-spec : {M : Type 1} → statement M
 staran-read-picture-spec =

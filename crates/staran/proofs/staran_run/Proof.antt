@@ -1,5 +1,4 @@
 -- `staran_run`: what `run` leaves, and its answer as five numbers. Assumes nothing.
-use denote.Ref.{now}
 use borrow.Author.Needs.{needs}
 use Rattle.staran.proofs.LeftLaws.{ran-small, run-left}
 use Rattle.staran.proofs.staran_run.Statement.{statement}
@@ -10,9 +9,7 @@ run-requires c κs = search needs
 
 five-requires : tie.Need-five-requires
 five-requires c κs =
-    let k = c .before .before .before .before .before .before in
-    let a = k .before .before .before .before .before .before .before .before .before .args in
-    ran-small (now (a .memory)) (now (a .registers)) (now (a .list)) (now (a .items)) (now (a .out)) _ (k .run .ensures)
+    ran-small _ _ _ _ _ _ (c .before .before .before .before .before .before .run .ensures)
 
 same-length : tie.Need-same-length
 same-length c = search needs
@@ -25,9 +22,7 @@ same-length-3 c = search needs
 
 returns : tie.Need-returns
 returns c =
-    let k = c .before .before .before .before .before .before .before in
-    let a = k .before .before .before .before .before .before .before .before .before .args in
-    run-left (now (a .memory)) (now (a .registers)) (now (a .list)) (now (a .items)) (now (a .out)) _ _ (k .run .ensures) (c .five .ensures)
+    run-left _ _ _ _ _ _ _ (c .before .before .before .before .before .before .before .run .ensures) (c .five .ensures)
 
 pub staran-run-spec : {M : Type 1} → statement M
 staran-run-spec =

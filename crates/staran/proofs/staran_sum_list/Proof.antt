@@ -1,5 +1,4 @@
 -- `staran_sum_list`: what the builder leaves, and its answer as two numbers. Assumes nothing.
-use denote.Ref.{now}
 use borrow.Author.Needs.{needs}
 use Rattle.staran.proofs.LeftLaws.{sum-small, sum-left}
 use Rattle.staran.proofs.staran_sum_list.Statement.{statement}
@@ -10,18 +9,14 @@ sum-list-requires c κs = search needs
 
 two-requires : tie.Need-two-requires
 two-requires c κs =
-    let k = c .before .before in
-    let a = k .before .before .before .args in
-    sum-small (a .a) (a .b) (a .s) (a .n) (now (a .list)) _ (k .sum-list .ensures)
+    sum-small _ _ _ _ _ _ (c .before .before .sum-list .ensures)
 
 same-length : tie.Need-same-length
 same-length c = search needs
 
 returns : tie.Need-returns
 returns c =
-    let k = c .before .before .before in
-    let a = k .before .before .before .args in
-    sum-left (a .a) (a .b) (a .s) (a .n) (now (a .list)) _ _ (k .sum-list .ensures) (c .two .ensures)
+    sum-left _ _ _ _ _ _ _ (c .before .before .before .sum-list .ensures) (c .two .ensures)
 
 pub staran-sum-list-spec : {M : Type 1} → statement M
 staran-sum-list-spec =

@@ -1,5 +1,4 @@
 -- `staran_wired_pass`: the item and the number that the pass answers. Assumes nothing.
-use denote.Ref.{now}
 use borrow.Author.Needs.{needs}
 use Rattle.staran.proofs.LeftLaws.{pass-left}
 use Rattle.staran.proofs.staran_wired_pass.Statement.{statement}
@@ -13,9 +12,7 @@ cast-t8 c = search needs
 
 returns : tie.Need-returns
 returns c =
-    let k = c .before .before .before in
-    let a = k .before .args in
-    pass-left (now (a .item)) (a .flip) (a .code) _ (k .wired-pass .ensures)
+    pass-left _ _ _ _ (c .before .before .before .wired-pass .ensures)
 
 pub staran-wired-pass-spec : {M : Type 1} → statement M
 staran-wired-pass-spec =

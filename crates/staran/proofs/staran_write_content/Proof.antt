@@ -11,8 +11,7 @@ write-content-requires c κs = search needs
 three-requires : tie.Need-three-requires
 three-requires c κs =
     let k = c .before .before in
-    let a = k .before .before .before .before .args in
-    write-small (a .kind) (now (a .content)) (now (a .out)) _ (k .write-content .ensures .0)
+    write-small _ (now (k .before .before .before .before .args .content)) _ _ (k .write-content .ensures .0)
 
 same-length : tie.Need-same-length
 same-length c = search needs
@@ -20,8 +19,7 @@ same-length c = search needs
 returns : tie.Need-returns
 returns c =
     let k = c .before .before .before in
-    let a = k .before .before .before .before .args in
-    write-left (a .kind) (now (a .content)) (now (a .out)) _ _ _ (k .write-content .ensures .0) (k .write-content .ensures .1) (c .three .ensures)
+    write-left _ _ _ _ _ _ (k .write-content .ensures .0) (k .write-content .ensures .1) (c .three .ensures)
 
 pub staran-write-content-spec : {M : Type 1} → statement M
 staran-write-content-spec =

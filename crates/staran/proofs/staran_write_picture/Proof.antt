@@ -1,5 +1,4 @@
 -- `staran_write_picture`: what the entry leaves, and its answer as three numbers. Assumes nothing.
-use denote.Ref.{now}
 use borrow.Author.Needs.{needs}
 use Rattle.staran.proofs.LeftLaws.{write-picture-small, write-picture-left}
 use Rattle.staran.proofs.staran_write_picture.Statement.{statement}
@@ -10,9 +9,7 @@ write-picture-requires c κs = search needs
 
 three-requires : tie.Need-three-requires
 three-requires c κs =
-    let k = c .before .before in
-    let a = k .before .before .before .before .before .args in
-    write-picture-small (a .kind) (now (a .memory)) (now (a .registers)) (now (a .out)) _ (k .write-picture .ensures .0)
+    write-picture-small _ _ _ _ (c .before .before .write-picture .ensures .0)
 
 same-length : tie.Need-same-length
 same-length c = search needs
@@ -20,8 +17,7 @@ same-length c = search needs
 returns : tie.Need-returns
 returns c =
     let k = c .before .before .before in
-    let a = k .before .before .before .before .before .args in
-    write-picture-left (a .kind) (now (a .memory)) (now (a .registers)) (now (a .out)) _ _ _ (k .write-picture .ensures .0) (k .write-picture .ensures .1) (c .three .ensures)
+    write-picture-left _ _ _ _ _ _ _ (k .write-picture .ensures .0) (k .write-picture .ensures .1) (c .three .ensures)
 
 pub staran-write-picture-spec : {M : Type 1} → statement M
 staran-write-picture-spec =
