@@ -113,7 +113,7 @@ room=$work
 for name in one two; do "$compiler" -std=gnu11 -Wall -Wextra -Werror -O2 -shared -fPIC -nostdlib -DNAME="\"$name\"" -o "$work/$name.so" "$here/tests/program/pause.c" || die "tests/program/pause.c does not build"; done
 hold() { # NAME: starts a run in the folder, and comes back when it has made its new file and written nothing
     rm -f "$work/$1".{reached,go,fail}
-    (cd "$work/f" && exec timeout 60 ${emulator:+"$emulator"} "$loader" --library-path "$tools/lib" --preload "$work/$1.so" "$here/target/bin/staran_run" >"$work/$1.out" 2>"$work/$1.err") &
+    (cd "$work/f" && exec ${emulator:+"$emulator"} "$loader" --library-path "$tools/lib" --preload "$work/$1.so" "$here/target/bin/staran_run" >"$work/$1.out" 2>"$work/$1.err") &
     eval "$1=$!"
     for _ in $(seq 500); do [ ! -e "$work/$1.reached" ] || return 0; sleep 0.02; done
     return 1
@@ -128,7 +128,7 @@ fresh; rm run.lst; old; hold one; another; hold two; [ "$(left)" -eq 2 ]; judge 
 release two; whole "$here/demo/before.pic"; judge "the second ends first: after.pic is its picture" $?
 release one; whole "$work/first" && [ "$(left)" -eq 0 ]; judge "then the first: after.pic is its picture, and nothing else is left" $?
 fresh; rm run.lst; old; hold one; hold two; : >"$work/one.fail"; : >"$work/two.fail"; release one; release two; [ "$(left)" -eq 0 ]; judge "both fail, and leave nothing" $?; kept "and after.pic is the old one"
-fresh; rm run.lst; old; hold one; { pkill -KILL -P "$one"; kill -KILL "$one"; wait "$one"; } 2>/dev/null; : >"$work/one.go"; kept "a run that is killed keeps an old after.pic"
+fresh; rm run.lst; old; hold one; { kill -KILL "$one"; wait "$one"; } 2>/dev/null; kept "a run that is killed keeps an old after.pic"
 another; run; whole "$here/demo/before.pic"; judge "and the next run is not hindered by what it left" $?
 
 # ---- printing

@@ -7,9 +7,9 @@ ghost use lib.ListN.{length, take, drop, replicate};
 ghost use Rattle.blocks.specs.Sums.{s1, s2};
 ghost use Rattle.blocks.specs.Block.{twoAt, block, sumsRight, usedRight, allZero, zerosRight, fault};
 
-pub struct TwoSums {
-    pub s1: usize,
-    pub s2: usize,
+struct TwoSums {
+    s1: usize,
+    s2: usize,
 }
 
 fn wide(x: u8) -> usize
@@ -27,7 +27,7 @@ pub fn two_at(s: &[u8], at: usize) -> usize
 }
 
 // The sums of a block's first 508 bytes. A byte is added to the second sum once for each later turn and its own, which weighs it with 508 - i; neither sum is near 2^64, so each has one remainder, at the end.
-pub fn sums(block: &[u8]) -> TwoSums
+fn sums(block: &[u8]) -> TwoSums
     requires { ⌜ length (now block) ≡ 512 ⌝ }
     ensures { λ r. ⌜ (r .s1 ≡ s1 (now (block .entry))) × (r .s2 ≡ s2 (now (block .entry))) ⌝ }
 {

@@ -11,35 +11,25 @@ use Rattle.blocks.proofs.Table.{block-21, block-22, block-23, block-24, fault-l
 use Rattle.files.specs.declared.Answer.{Answer}
 use Rattle.files.specs.File.{done, refused, blockAt, contentOf, kindRight, lengthRight, sizeFits, blockCount}
 use Rattle.files.specs.Content.{readAnswer, writeAnswer}
-use Rattle.files.specs.Table.{GoodBelow}
+use Rattle.files.specs.Table.{Gives, Met, Sound}
 use Rattle.files.proofs.Outcomes.{Read, wrong-kind, wrong-length, wrong-block, wrong-size, no-target, all-read, read, read-is, Written, no-kind, no-size, no-room, all-written, written, written-is}
 
 -- an answer that is a refusal has its number and its place
-gives : (a : Answer) (n p k : ℕ) → refused n p ≡ a → k ≡ p → (a .number ≡ n) × (a .place ≡ k)
+gives : (a : Answer) (n p k : ℕ) → refused n p ≡ a → k ≡ p → Gives a n k
 gives a n p k e h = (sym (ap (λ (x : Answer). x .number) e), sym (ap (λ (x : Answer). x .place) e) ∙ sym h)
 
 -- ---- reading
 
 module _ (kind : ℕ) (bytes : List ℕ) (fits : Bool) where
-  -- reading gives number n, at place k
-  abbrev pub ReadGives : ℕ → ℕ → Type 0
-  ReadGives n k = (readAnswer kind bytes fits .number ≡ n) × (readAnswer kind bytes fits .place ≡ k)
-
-  -- the kind asked and the length are right
-  abbrev pub Asked : Type 0
-  Asked = (kindRight kind ≡ true) × (lengthRight (length bytes) ≡ true)
-
-  -- block k is reached: it is there, and those before it are good at their places
-  abbrev pub Reached : ℕ → Type 0 → Type 0
-  Reached k row = Asked × (k < length bytes / 512) × GoodBelow kind bytes (length bytes / 512) k × row
-
-  -- every block is good at its place
-  abbrev pub Sound : Type 0
-  Sound = Asked × GoodBelow kind bytes (length bytes / 512) (length bytes / 512)
+  abbrev reading : Answer
+  reading = readAnswer kind bytes fits
 
   -- ---- 22 of the kind asked, and 20
 
-  abbrev pub wrong : ℕ → ℕ
+  abbrev Reached : ℕ → Type 0 → Type 0
+  Reached k row = Met kind bytes k (λ b. row)
+
+  abbrev wrong : ℕ → ℕ
   wrong i = fault (blockAt bytes i) kind i (length bytes / 512)
 
   wrong-low : (i : ℕ) → (wrong i ≡ 0 → ⊥) → 21 ≤ wrong i
@@ -56,7 +46,7 @@ module _ (kind : ℕ) (bytes : List ℕ) (fits : Bool) where
   length-given a (no-target k l g s f) e = absurd (omega arith)
   length-given a (all-read k l g s f) e = absurd (omega arith)
 
-  pub read-20 : (k : ℕ) → ReadGives 20 k ↔ (k ≡ 0) × (kindRight kind ≡ true) × (lengthRight (length bytes) ≡ false)
+  pub read-20 : (k : ℕ) → Gives reading 20 k ↔ (k ≡ 0) × (kindRight kind ≡ true) × (lengthRight (length bytes) ≡ false)
   read-20 k = (
     λ g. let r = length-given _ (read kind bytes fits) (g .0) in (sym (g .1) ∙ r .0, r .1, r .2),
     λ r. gives _ 20 0 k (read-is kind bytes fits _ (wrong-length (r .1) (r .2))) (r .0),
@@ -74,7 +64,7 @@ module _ (kind : ℕ) (bytes : List ℕ) (fits : Bool) where
     block-given a (no-target k l g s f) e = absurd (omega arith)
     block-given a (all-read k l g s f) e = absurd (omega arith)
 
-    given-block : (k : ℕ) (row : Type 0) → (wrong k ≡ n) ↔ row → Reached k row → ReadGives n k
+    given-block : (k : ℕ) (row : Type 0) → (wrong k ≡ n) ↔ row → Reached k row → Gives reading n k
     given-block k row w (a, h, g, r) =
         let e = w .1 r in
         let v = gives _ (wrong k) k k (read-is kind bytes fits _ (wrong-block (a .0) (a .1) k h g (λ z. omega arith))) refl in
@@ -83,23 +73,23 @@ module _ (kind : ℕ) (bytes : List ℕ) (fits : Bool) where
     reached : (k : ℕ) (row : Type 0) → (wrong k ≡ n) ↔ row → Reached k (wrong k ≡ n) → Reached k row
     reached k row w (a, h, g, e) = (a, h, g, w .0 e)
 
-    at-place : (k : ℕ) → ReadGives n k → ((n ≡ 22) × (k ≡ 0) × (kindRight kind ≡ false)) ⊎ Reached k (wrong k ≡ n)
+    at-place : (k : ℕ) → Gives reading n k → ((n ≡ 22) × (k ≡ 0) × (kindRight kind ≡ false)) ⊎ Reached k (wrong k ≡ n)
     at-place k g =
         subst (λ (p : ℕ). ((n ≡ 22) × (p ≡ 0) × (kindRight kind ≡ false)) ⊎ Reached p (wrong p ≡ n)) (g .1) (block-given _ (read kind bytes fits) (g .0))
 
-    block-row : (n ≡ 22 → ⊥) → (k : ℕ) (row : Type 0) → (wrong k ≡ n) ↔ row → ReadGives n k ↔ Reached k row
+    block-row : (n ≡ 22 → ⊥) → (k : ℕ) (row : Type 0) → (wrong k ≡ n) ↔ row → Gives reading n k ↔ Reached k row
     block-row u k row w = (λ g. go (at-place k g), given-block k row w)
       where
         go : ((n ≡ 22) × (k ≡ 0) × (kindRight kind ≡ false)) ⊎ Reached k (wrong k ≡ n) → Reached k row
         go (inl t) = absurd (u (t .0))
         go (inr r) = reached k row w r
 
-  pub read-21 : (k : ℕ) → ReadGives 21 k ↔ Reached k (sumsDiffer (blockAt bytes k) ≡ true)
+  pub read-21 : (k : ℕ) → Gives reading 21 k ↔ Met kind bytes k (λ b. sumsDiffer b ≡ true)
   read-21 k = block-row 21 (omega arith) (omega arith) (λ e. omega arith) k _ (block-21 (blockAt bytes k) kind k (length bytes / 512))
 
   -- the kind asked, "before all else", or a block's
-  pub read-22 : (k : ℕ) → ReadGives 22 k
-      ↔ ((k ≡ 0) × (kindRight kind ≡ false)) ⊎ Reached k ((sumsDiffer (blockAt bytes k) ≡ false) × (otherKind (blockAt bytes k) kind ≡ true))
+  pub read-22 : (k : ℕ) → Gives reading 22 k
+      ↔ ((k ≡ 0) × (kindRight kind ≡ false)) ⊎ Met kind bytes k (λ b. (sumsDiffer b ≡ false) × (otherKind b kind ≡ true))
   read-22 k = (λ g. there (at-place 22 (omega arith) (omega arith) k g), back)
     where
       row : Type 0
@@ -112,21 +102,19 @@ module _ (kind : ℕ) (bytes : List ℕ) (fits : Bool) where
       there (inl t) = inl (t .1, t .2)
       there (inr r) = inr (reached 22 (omega arith) (omega arith) k row w r)
 
-      back : ((k ≡ 0) × (kindRight kind ≡ false)) ⊎ Reached k row → ReadGives 22 k
+      back : ((k ≡ 0) × (kindRight kind ≡ false)) ⊎ Reached k row → Gives reading 22 k
       back (inl t) = gives _ 22 0 k (read-is kind bytes fits _ (wrong-kind (t .1))) (t .0)
       back (inr r) = given-block 22 (omega arith) (omega arith) k row w r
 
-  pub read-23 : (k : ℕ) → ReadGives 23 k
-      ↔ Reached k ((sumsDiffer (blockAt bytes k) ≡ false) × ((otherKind (blockAt bytes k) kind ≡ false) × (misplaced (blockAt bytes k) k (length bytes / 512) ≡ true)))
+  pub read-23 : (k : ℕ) → Gives reading 23 k ↔ Met kind bytes k (λ b. (sumsDiffer b ≡ false) × ((otherKind b kind ≡ false) × (misplaced b k (length bytes / 512) ≡ true)))
   read-23 k = block-row 23 (omega arith) (omega arith) (λ e. omega arith) k _ (block-23 (blockAt bytes k) kind k (length bytes / 512))
 
-  pub read-24 : (k : ℕ) → ReadGives 24 k
-      ↔ Reached k ((sumsDiffer (blockAt bytes k) ≡ false) × ((otherKind (blockAt bytes k) kind ≡ false) × ((misplaced (blockAt bytes k) k (length bytes / 512) ≡ false) × (misfilled (blockAt bytes k) k (length bytes / 512) ≡ true))))
+  pub read-24 : (k : ℕ) → Gives reading 24 k ↔ Met kind bytes k (λ b. (sumsDiffer b ≡ false) × ((otherKind b kind ≡ false) × ((misplaced b k (length bytes / 512) ≡ false) × (misfilled b k (length bytes / 512) ≡ true))))
   read-24 k = block-row 24 (omega arith) (omega arith) (λ e. omega arith) k _ (block-24 (blockAt bytes k) kind k (length bytes / 512))
 
   -- ---- 25, 26 and 0: every block is good
 
-  size-given : (a : Answer) → Read kind bytes fits a → a .number ≡ 25 → (a .place ≡ 0) × Sound × (sizeFits kind (length (contentOf bytes)) ≡ false)
+  size-given : (a : Answer) → Read kind bytes fits a → a .number ≡ 25 → (a .place ≡ 0) × Sound kind bytes × (sizeFits kind (length (contentOf bytes)) ≡ false)
   size-given a (wrong-kind k) e = absurd (omega arith)
   size-given a (wrong-length k l) e = absurd (omega arith)
   size-given a (wrong-block k l i h g u) e = absurd (omega (arith, wrong-le i))
@@ -134,13 +122,13 @@ module _ (kind : ℕ) (bytes : List ℕ) (fits : Bool) where
   size-given a (no-target k l g s f) e = absurd (omega arith)
   size-given a (all-read k l g s f) e = absurd (omega arith)
 
-  pub read-25 : (k : ℕ) → ReadGives 25 k ↔ (k ≡ 0) × Sound × (sizeFits kind (length (contentOf bytes)) ≡ false)
+  pub read-25 : (k : ℕ) → Gives reading 25 k ↔ (k ≡ 0) × Sound kind bytes × (sizeFits kind (length (contentOf bytes)) ≡ false)
   read-25 k = (
     λ g. let r = size-given _ (read kind bytes fits) (g .0) in (sym (g .1) ∙ r .0, r .1, r .2),
     λ r. gives _ 25 0 k (read-is kind bytes fits _ (wrong-size (r .1 .0 .0) (r .1 .0 .1) (r .1 .1) (r .2))) (r .0),
   )
 
-  target-given : (a : Answer) → Read kind bytes fits a → a .number ≡ 26 → (a .place ≡ 0) × Sound × (sizeFits kind (length (contentOf bytes)) ≡ true) × (fits ≡ false)
+  target-given : (a : Answer) → Read kind bytes fits a → a .number ≡ 26 → (a .place ≡ 0) × Sound kind bytes × (sizeFits kind (length (contentOf bytes)) ≡ true) × (fits ≡ false)
   target-given a (wrong-kind k) e = absurd (omega arith)
   target-given a (wrong-length k l) e = absurd (omega arith)
   target-given a (wrong-block k l i h g u) e = absurd (omega (arith, wrong-le i))
@@ -148,13 +136,13 @@ module _ (kind : ℕ) (bytes : List ℕ) (fits : Bool) where
   target-given a (no-target k l g s f) e = (refl, ((k, l), g), s, f)
   target-given a (all-read k l g s f) e = absurd (omega arith)
 
-  pub read-26 : (k : ℕ) → ReadGives 26 k ↔ (k ≡ 0) × Sound × (sizeFits kind (length (contentOf bytes)) ≡ true) × (fits ≡ false)
+  pub read-26 : (k : ℕ) → Gives reading 26 k ↔ (k ≡ 0) × Sound kind bytes × (sizeFits kind (length (contentOf bytes)) ≡ true) × (fits ≡ false)
   read-26 k = (
     λ g. let r = target-given _ (read kind bytes fits) (g .0) in (sym (g .1) ∙ r .0, r .1, r .2, r .3),
     λ r. gives _ 26 0 k (read-is kind bytes fits _ (no-target (r .1 .0 .0) (r .1 .0 .1) (r .1 .1) (r .2) (r .3))) (r .0),
   )
 
-  done-given : (a : Answer) → Read kind bytes fits a → a .number ≡ 0 → Sound × (sizeFits kind (length (contentOf bytes)) ≡ true) × (fits ≡ true)
+  done-given : (a : Answer) → Read kind bytes fits a → a .number ≡ 0 → Sound kind bytes × (sizeFits kind (length (contentOf bytes)) ≡ true) × (fits ≡ true)
   done-given a (wrong-kind k) e = absurd (omega arith)
   done-given a (wrong-length k l) e = absurd (omega arith)
   done-given a (wrong-block k l i h g u) e = absurd (u e)
@@ -163,10 +151,10 @@ module _ (kind : ℕ) (bytes : List ℕ) (fits : Bool) where
   done-given a (all-read k l g s f) e = (((k, l), g), s, f)
 
   -- "Success gives 0, place 0 and the number of bytes put out."
-  pub read-all : Sound × (sizeFits kind (length (contentOf bytes)) ≡ true) × (fits ≡ true) → readAnswer kind bytes fits ≡ done (length (contentOf bytes))
+  pub read-all : Sound kind bytes × (sizeFits kind (length (contentOf bytes)) ≡ true) × (fits ≡ true) → readAnswer kind bytes fits ≡ done (length (contentOf bytes))
   read-all r = sym (read-is kind bytes fits _ (all-read (r .0 .0 .0) (r .0 .0 .1) (r .0 .1) (r .1) (r .2)))
 
-  pub read-0 : (readAnswer kind bytes fits .number ≡ 0) ↔ Sound × (sizeFits kind (length (contentOf bytes)) ≡ true) × (fits ≡ true)
+  pub read-0 : (reading .number ≡ 0) ↔ Sound kind bytes × (sizeFits kind (length (contentOf bytes)) ≡ true) × (fits ≡ true)
   read-0 = (done-given _ (read kind bytes fits), λ r. ap (λ (a : Answer). a .number) (read-all r))
 
   -- "A refusal gives 0 bytes."
@@ -178,15 +166,14 @@ module _ (kind : ℕ) (bytes : List ℕ) (fits : Bool) where
   refused-bytes a (no-target k l g s f) v = refl
   refused-bytes a (all-read k l g s f) v = absurd (v refl)
 
-  pub read-no-bytes : (readAnswer kind bytes fits .number ≡ 0 → ⊥) → readAnswer kind bytes fits .bytes ≡ 0
+  pub read-no-bytes : (reading .number ≡ 0 → ⊥) → reading .bytes ≡ 0
   read-no-bytes = refused-bytes _ (read kind bytes fits)
 
 -- ---- writing
 
 module _ (kind : ℕ) (fits : Bool) (size room : ℕ) where
-  -- writing gives number n, at place k
-  abbrev pub WriteGives : ℕ → ℕ → Type 0
-  WriteGives n k = (writeAnswer kind fits size room .number ≡ n) × (writeAnswer kind fits size room .place ≡ k)
+  abbrev writing : Answer
+  writing = writeAnswer kind fits size room
 
   -- what each outcome says, by its number
   kind-written : (a : Answer) → Written kind fits size room a → a .number ≡ 22 → (a .place ≡ 0) × (kindRight kind ≡ false)
@@ -195,7 +182,7 @@ module _ (kind : ℕ) (fits : Bool) (size room : ℕ) where
   kind-written a (no-room k f h) e = absurd (omega arith)
   kind-written a (all-written k f h) e = absurd (omega arith)
 
-  pub write-22 : (k : ℕ) → WriteGives 22 k ↔ (k ≡ 0) × (kindRight kind ≡ false)
+  pub write-22 : (k : ℕ) → Gives writing 22 k ↔ (k ≡ 0) × (kindRight kind ≡ false)
   write-22 k = (
     λ g. let r = kind-written _ (written kind fits size room) (g .0) in (sym (g .1) ∙ r .0, r .1),
     λ r. gives _ 22 0 k (written-is kind fits size room _ (no-kind (r .1))) (r .0),
@@ -207,7 +194,7 @@ module _ (kind : ℕ) (fits : Bool) (size room : ℕ) where
   size-written a (no-room k f h) e = absurd (omega arith)
   size-written a (all-written k f h) e = absurd (omega arith)
 
-  pub write-26 : (k : ℕ) → WriteGives 26 k ↔ (k ≡ 0) × (kindRight kind ≡ true) × (fits ≡ false)
+  pub write-26 : (k : ℕ) → Gives writing 26 k ↔ (k ≡ 0) × (kindRight kind ≡ true) × (fits ≡ false)
   write-26 k = (
     λ g. let r = size-written _ (written kind fits size room) (g .0) in (sym (g .1) ∙ r .0, r .1, r .2),
     λ r. gives _ 26 0 k (written-is kind fits size room _ (no-size (r .1) (r .2))) (r .0),
@@ -219,7 +206,7 @@ module _ (kind : ℕ) (fits : Bool) (size room : ℕ) where
   room-written a (no-room k f h) e = (refl, k, f, h)
   room-written a (all-written k f h) e = absurd (omega arith)
 
-  pub write-27 : (k : ℕ) → WriteGives 27 k ↔ (k ≡ 0) × (kindRight kind ≡ true) × (fits ≡ true) × (room < 512 * blockCount size)
+  pub write-27 : (k : ℕ) → Gives writing 27 k ↔ (k ≡ 0) × (kindRight kind ≡ true) × (fits ≡ true) × (room < 512 * blockCount size)
   write-27 k = (
     λ g. let r = room-written _ (written kind fits size room) (g .0) in (sym (g .1) ∙ r .0, r .1, r .2, r .3),
     λ r. gives _ 27 0 k (written-is kind fits size room _ (no-room (r .1) (r .2) (r .3))) (r .0),
@@ -234,7 +221,7 @@ module _ (kind : ℕ) (fits : Bool) (size room : ℕ) where
   pub write-all : (kindRight kind ≡ true) × (fits ≡ true) × (512 * blockCount size ≤ room) → writeAnswer kind fits size room ≡ done (512 * blockCount size)
   write-all r = sym (written-is kind fits size room _ (all-written (r .0) (r .1) (r .2)))
 
-  pub write-0 : (writeAnswer kind fits size room .number ≡ 0) ↔ (kindRight kind ≡ true) × (fits ≡ true) × (512 * blockCount size ≤ room)
+  pub write-0 : (writing .number ≡ 0) ↔ (kindRight kind ≡ true) × (fits ≡ true) × (512 * blockCount size ≤ room)
   write-0 = (done-written _ (written kind fits size room), λ r. ap (λ (a : Answer). a .number) (write-all r))
 
   unwritten-bytes : (a : Answer) → Written kind fits size room a → (a .number ≡ 0 → ⊥) → a .bytes ≡ 0
@@ -243,5 +230,5 @@ module _ (kind : ℕ) (fits : Bool) (size room : ℕ) where
   unwritten-bytes a (no-room k f h) v = refl
   unwritten-bytes a (all-written k f h) v = absurd (v refl)
 
-  pub write-no-bytes : (writeAnswer kind fits size room .number ≡ 0 → ⊥) → writeAnswer kind fits size room .bytes ≡ 0
+  pub write-no-bytes : (writing .number ≡ 0 → ⊥) → writing .bytes ≡ 0
   write-no-bytes = unwritten-bytes _ (written kind fits size room)

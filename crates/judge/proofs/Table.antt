@@ -1,7 +1,7 @@
 -- Document 01, Numbers given back: the table. For each number a theorem of its own, both ways: it is given, at place k, exactly when its row says so at instruction k and no earlier row holds. Assumes nothing.
 use mathlib.Core.Path.{_≡_, refl, sym, ap, subst, _∙_}
 use mathlib.Core.Bool.{Bool, true, false, cond, not, _&&_, true≢false}
-use mathlib.Core.List.{List}
+use mathlib.Core.List.{List, [], _∷_}
 use mathlib.Core.Logic.{_↔_}
 use Prim.Native.Nat.{ℕ, _+_, _*_, _/_, _<_, _≤_}
 use native.Mathlib.Decide.{ℕ-discrete}
@@ -13,7 +13,7 @@ use Rattle.bits.specs.Search.{count}
 use Rattle.judge.specs.declared.Instruction.{Instruction}
 use Rattle.judge.specs.declared.Answer.{Answer}
 use Rattle.judge.specs.Judge.{instructionAt, takes, gives, wrongMemory, wrongRegisters, unfit, wrongKind, wrongSource, lacksTag, wrongTag, idleAccess, wrongPass, wrongLogic, lacks, lengthRows, lengthFault, instructionRows, faultOf, faulty, refusal, done, judged, judgedStep}
-use Rattle.judge.specs.Table.{NoRow, Formed, Has, Served, Lacks}
+use Rattle.judge.specs.Table.{Gives, NoRow, After, Sized, Formed, Met, Has, Served, Lacks}
 use Rattle.judge.proofs.RowLaws.{FirstRow, numbered-none, none-numbered, numbered-first, first-numbered, numbered-low, numbered-high, and-none, and-both, both-and}
 use Rattle.judge.proofs.Verdicts.{Verdict, wrong-length, wrong-instruction, no-item, no-room, accepted, verdict, verdict-is}
 
@@ -57,19 +57,14 @@ it-lacks wants list have k l =
 -- ---- the table
 
 module _ (mem regs : ℕ) (list : List ℕ) (items out : ℕ) where
-  -- the run gives number n, at place k
-  abbrev pub Gives : ℕ → ℕ → Type 0
-  Gives n k = (judged mem regs list items out .number ≡ n) × (judged mem regs list items out .place ≡ k)
+  abbrev answer : Answer
+  answer = judged mem regs list items out
 
-  -- none of the rows 1 to 4 holds
-  abbrev pub Sized : Type 0
-  Sized = NoRow (lengthRows mem regs (length list) items)
-
-  pub sized : lengthFault mem regs (length list) items ≡ 0 → Sized
+  pub sized : lengthFault mem regs (length list) items ≡ 0 → Sized mem regs list items
   unfolding lengthFault
   sized e = none-numbered 0 (lengthRows mem regs (length list) items) e
 
-  unsized : Sized → lengthFault mem regs (length list) items ≡ 0
+  unsized : Sized mem regs list items → lengthFault mem regs (length list) items ≡ 0
   unfolding lengthFault
   unsized s = numbered-none 1 (lengthRows mem regs (length list) items) s
 
@@ -95,34 +90,34 @@ module _ (mem regs : ℕ) (list : List ℕ) (items out : ℕ) where
     length-given a (no-room f g s k l o t) e = absurd (omega arith)
     length-given a (accepted f g s r) e = absurd (omega arith)
 
-    given-length : (k : ℕ) → (k ≡ 0) × FirstRow (lengthRows mem regs (length list) items) j → Gives (1 + j) k
+    given-length : (k : ℕ) → (k ≡ 0) × FirstRow (lengthRows mem regs (length list) items) j → Gives answer (1 + j) k
     unfolding lengthFault
     given-length k r =
         let n = numbered-first 1 j (lengthRows mem regs (length list) items) (r .1) in
         let v = verdict-is mem regs list items out _ (wrong-length (λ z. omega arith)) in
         (ap (λ (a : Answer). a .number) v ∙ n, ap (λ (a : Answer). a .place) v ∙ sym (r .0))
 
-    length-row : (k : ℕ) → Gives (1 + j) k ↔ (k ≡ 0) × FirstRow (lengthRows mem regs (length list) items) j
+    length-row : (k : ℕ) → Gives answer (1 + j) k ↔ (k ≡ 0) × FirstRow (lengthRows mem regs (length list) items) j
     length-row k =
         (λ g. let r = length-given _ (verdict mem regs list items out) (g .0) in (sym (g .1) ∙ r .0, r .1), given-length k)
 
-  pub number-1 : (k : ℕ) → Gives 1 k ↔ (k ≡ 0) × (wrongMemory mem ≡ true)
+  pub number-1 : (k : ℕ) → Gives answer 1 k ↔ (k ≡ 0) × After [] (wrongMemory mem)
   number-1 = length-row 0 (omega arith)
 
-  pub number-2 : (k : ℕ) → Gives 2 k ↔ (k ≡ 0) × ((wrongMemory mem ≡ false) × ((wrongRegisters regs ≡ true)))
+  pub number-2 : (k : ℕ) → Gives answer 2 k ↔ (k ≡ 0) × After (wrongMemory mem ∷ []) (wrongRegisters regs)
   number-2 = length-row 1 (omega arith)
 
-  pub number-3 : (k : ℕ) → Gives 3 k ↔ (k ≡ 0) × ((wrongMemory mem ≡ false) × ((wrongRegisters regs ≡ false) × ((unfit 8 (length list) ≡ true))))
+  pub number-3 : (k : ℕ) → Gives answer 3 k ↔ (k ≡ 0) × After (wrongMemory mem ∷ wrongRegisters regs ∷ []) (unfit 8 (length list))
   number-3 = length-row 2 (omega arith)
 
-  pub number-4 : (k : ℕ) → Gives 4 k ↔ (k ≡ 0) × ((wrongMemory mem ≡ false) × ((wrongRegisters regs ≡ false) × ((unfit 8 (length list) ≡ false) × ((unfit 32 items ≡ true)))))
+  pub number-4 : (k : ℕ) → Gives answer 4 k ↔ (k ≡ 0) × After (wrongMemory mem ∷ wrongRegisters regs ∷ unfit 8 (length list) ∷ []) (unfit 32 items)
   number-4 = length-row 3 (omega arith)
 
   -- ---- 5 to 11: row j of instruction k, and no row of an instruction before it
 
   module _ (j : ℕ) (seven : j < 7) where
     abbrev Row : ℕ → Type 0
-    Row k = Sized × (k < length list / 8) × Formed list k × FirstRow (instructionRows (instructionAt list k)) j
+    Row k = Met mem regs list items k (λ i. FirstRow (instructionRows i) j)
 
     instruction-given : (a : Answer) → Verdict mem regs list items out a → a .number ≡ 5 + j → Row (a .place)
     unfolding faultOf
@@ -133,7 +128,7 @@ module _ (mem regs : ℕ) (list : List ℕ) (items out : ℕ) where
     instruction-given a (no-room f g s k l o t) e = absurd (omega arith)
     instruction-given a (accepted f g s r) e = absurd (omega arith)
 
-    given-instruction : (k : ℕ) → Row k → Gives (5 + j) k
+    given-instruction : (k : ℕ) → Row k → Gives answer (5 + j) k
     unfolding faultOf
     given-instruction k (s, l, o, r) =
         let n : faultOf (instructionAt list k) ≡ 5 + j = numbered-first 5 j (instructionRows (instructionAt list k)) r in
@@ -141,45 +136,35 @@ module _ (mem regs : ℕ) (list : List ℕ) (items out : ℕ) where
         let v = verdict-is mem regs list items out _ (wrong-instruction (unsized s) k l (λ i h. none-fault list i (o i h)) t) in
         (ap (λ (a : Answer). a .number) v ∙ n, ap (λ (a : Answer). a .place) v)
 
-    instruction-row : (k : ℕ) → Gives (5 + j) k ↔ Row k
+    instruction-row : (k : ℕ) → Gives answer (5 + j) k ↔ Row k
     instruction-row k =
         (λ g. subst Row (g .1) (instruction-given _ (verdict mem regs list items out) (g .0)), given-instruction k)
 
-  -- instruction k is reached: the lengths are right, it is there, and no instruction before it has a number
-  abbrev pub Reached : ℕ → Type 0 → Type 0
-  Reached k row = Sized × (k < length list / 8) × Formed list k × row
-
-  pub number-5 : (k : ℕ) → Gives 5 k ↔ Reached k (wrongKind (instructionAt list k) ≡ true)
+  pub number-5 : (k : ℕ) → Gives answer 5 k ↔ Met mem regs list items k (λ i. After [] (wrongKind i))
   number-5 = instruction-row 0 (omega arith)
 
-  pub number-6 : (k : ℕ) → Gives 6 k
-      ↔ Reached k ((wrongKind (instructionAt list k) ≡ false) × ((wrongSource (instructionAt list k) ≡ true)))
+  pub number-6 : (k : ℕ) → Gives answer 6 k ↔ Met mem regs list items k (λ i. After (wrongKind i ∷ []) (wrongSource i))
   number-6 = instruction-row 1 (omega arith)
 
-  pub number-7 : (k : ℕ) → Gives 7 k
-      ↔ Reached k ((wrongKind (instructionAt list k) ≡ false) × ((wrongSource (instructionAt list k) ≡ false) × ((lacksTag (instructionAt list k) ≡ true))))
+  pub number-7 : (k : ℕ) → Gives answer 7 k ↔ Met mem regs list items k (λ i. After (wrongKind i ∷ wrongSource i ∷ []) (lacksTag i))
   number-7 = instruction-row 2 (omega arith)
 
-  pub number-8 : (k : ℕ) → Gives 8 k
-      ↔ Reached k ((wrongKind (instructionAt list k) ≡ false) × ((wrongSource (instructionAt list k) ≡ false) × ((lacksTag (instructionAt list k) ≡ false) × ((wrongTag (instructionAt list k) ≡ true)))))
+  pub number-8 : (k : ℕ) → Gives answer 8 k ↔ Met mem regs list items k (λ i. After (wrongKind i ∷ wrongSource i ∷ lacksTag i ∷ []) (wrongTag i))
   number-8 = instruction-row 3 (omega arith)
 
-  pub number-9 : (k : ℕ) → Gives 9 k
-      ↔ Reached k ((wrongKind (instructionAt list k) ≡ false) × ((wrongSource (instructionAt list k) ≡ false) × ((lacksTag (instructionAt list k) ≡ false) × ((wrongTag (instructionAt list k) ≡ false) × ((idleAccess (instructionAt list k) ≡ true))))))
+  pub number-9 : (k : ℕ) → Gives answer 9 k ↔ Met mem regs list items k (λ i. After (wrongKind i ∷ wrongSource i ∷ lacksTag i ∷ wrongTag i ∷ []) (idleAccess i))
   number-9 = instruction-row 4 (omega arith)
 
-  pub number-10 : (k : ℕ) → Gives 10 k
-      ↔ Reached k ((wrongKind (instructionAt list k) ≡ false) × ((wrongSource (instructionAt list k) ≡ false) × ((lacksTag (instructionAt list k) ≡ false) × ((wrongTag (instructionAt list k) ≡ false) × ((idleAccess (instructionAt list k) ≡ false) × ((wrongPass (instructionAt list k) ≡ true)))))))
+  pub number-10 : (k : ℕ) → Gives answer 10 k ↔ Met mem regs list items k (λ i. After (wrongKind i ∷ wrongSource i ∷ lacksTag i ∷ wrongTag i ∷ idleAccess i ∷ []) (wrongPass i))
   number-10 = instruction-row 5 (omega arith)
 
-  pub number-11 : (k : ℕ) → Gives 11 k
-      ↔ Reached k ((wrongKind (instructionAt list k) ≡ false) × ((wrongSource (instructionAt list k) ≡ false) × ((lacksTag (instructionAt list k) ≡ false) × ((wrongTag (instructionAt list k) ≡ false) × ((idleAccess (instructionAt list k) ≡ false) × ((wrongPass (instructionAt list k) ≡ false) × ((wrongLogic (instructionAt list k) ≡ true))))))))
+  pub number-11 : (k : ℕ) → Gives answer 11 k ↔ Met mem regs list items k (λ i. After (wrongKind i ∷ wrongSource i ∷ lacksTag i ∷ wrongTag i ∷ idleAccess i ∷ wrongPass i ∷ []) (wrongLogic i))
   number-11 = instruction-row 6 (omega arith)
 
   -- ---- 12, then 13, and done
 
   abbrev LacksItem : ℕ → Type 0
-  LacksItem k = Sized × Formed list (length list / 8) × (k < length list / 8) × Served takes list items k × Lacks takes list items k
+  LacksItem k = Sized mem regs list items × Formed list (length list / 8) × (k < length list / 8) × Served takes list items k × Lacks takes list items k
 
   item-given : (a : Answer) → Verdict mem regs list items out a → a .number ≡ 12 → LacksItem (a .place)
   item-given a (wrong-length h) e = absurd (omega (arith, length-high))
@@ -189,19 +174,19 @@ module _ (mem regs : ℕ) (list : List ℕ) (items out : ℕ) where
   item-given a (no-room f g s k l o t) e = absurd (omega arith)
   item-given a (accepted f g s r) e = absurd (omega arith)
 
-  given-item : (k : ℕ) → LacksItem k → Gives 12 k
+  given-item : (k : ℕ) → LacksItem k → Gives answer 12 k
   given-item k (s, f, l, o, t) =
       let v = verdict-is mem regs list items out _ (no-item (unsized s) (λ i h. none-fault list i (f i h)) k l (λ i h. it-has takes list items i (o i h)) (it-lacks takes list items k t)) in
       (ap (λ (a : Answer). a .number) v, ap (λ (a : Answer). a .place) v)
 
   -- no row of 1 to 11 holds anywhere, instruction k lacks its item, and those before it have theirs
-  pub number-12 : (k : ℕ) → Gives 12 k
-      ↔ Sized × Formed list (length list / 8) × (k < length list / 8) × Served takes list items k × Lacks takes list items k
+  pub number-12 : (k : ℕ) → Gives answer 12 k
+      ↔ Sized mem regs list items × Formed list (length list / 8) × (k < length list / 8) × Served takes list items k × Lacks takes list items k
   number-12 k = (λ g. subst LacksItem (g .1) (item-given _ (verdict mem regs list items out) (g .0)), given-item k)
 
   abbrev LacksRoom : ℕ → Type 0
   LacksRoom k =
-      Sized × Formed list (length list / 8) × Served takes list items (length list / 8) × (k < length list / 8) × Served gives list out k × Lacks gives list out k
+      Sized mem regs list items × Formed list (length list / 8) × Served takes list items (length list / 8) × (k < length list / 8) × Served gives list out k × Lacks gives list out k
 
   room-given : (a : Answer) → Verdict mem regs list items out a → a .number ≡ 13 → LacksRoom (a .place)
   room-given a (wrong-length h) e = absurd (omega (arith, length-high))
@@ -211,19 +196,19 @@ module _ (mem regs : ℕ) (list : List ℕ) (items out : ℕ) where
       (sized f, λ i h. fault-none list i (g i h), λ i h. has-it takes list items i (s i h), l, λ i h. has-it gives list out i (o i h), lacks-it gives list out k t)
   room-given a (accepted f g s r) e = absurd (omega arith)
 
-  given-room : (k : ℕ) → LacksRoom k → Gives 13 k
+  given-room : (k : ℕ) → LacksRoom k → Gives answer 13 k
   given-room k (s, f, p, l, o, t) =
       let v = verdict-is mem regs list items out _ (no-room (unsized s) (λ i h. none-fault list i (f i h)) (λ i h. it-has takes list items i (p i h)) k l (λ i h. it-has gives list out i (o i h)) (it-lacks gives list out k t)) in
       (ap (λ (a : Answer). a .number) v, ap (λ (a : Answer). a .place) v)
 
   -- no row of 1 to 12 holds anywhere, instruction k lacks its room, and those before it have theirs
-  pub number-13 : (k : ℕ) → Gives 13 k
-      ↔ Sized × Formed list (length list / 8) × Served takes list items (length list / 8)
+  pub number-13 : (k : ℕ) → Gives answer 13 k
+      ↔ Sized mem regs list items × Formed list (length list / 8) × Served takes list items (length list / 8)
       × (k < length list / 8) × Served gives list out k × Lacks gives list out k
   number-13 k = (λ g. subst LacksRoom (g .1) (room-given _ (verdict mem regs list items out) (g .0)), given-room k)
 
   abbrev Done : Type 0
-  Done = Sized × Formed list (length list / 8) × Served takes list items (length list / 8) × Served gives list out (length list / 8)
+  Done = Sized mem regs list items × Formed list (length list / 8) × Served takes list items (length list / 8) × Served gives list out (length list / 8)
 
   done-given : (a : Answer) → Verdict mem regs list items out a → a .number ≡ 0 → Done
   done-given a (wrong-length h) e = absurd (h e)
@@ -233,14 +218,14 @@ module _ (mem regs : ℕ) (list : List ℕ) (items out : ℕ) where
   done-given a (accepted f g s r) e =
       (sized f, λ i h. fault-none list i (g i h), λ i h. has-it takes list items i (s i h), λ i h. has-it gives list out i (r i h))
 
-  pub all-done : Sized × Formed list (length list / 8) × Served takes list items (length list / 8) × Served gives list out (length list / 8)
+  pub all-done : Sized mem regs list items × Formed list (length list / 8) × Served takes list items (length list / 8) × Served gives list out (length list / 8)
       → judged mem regs list items out ≡ done list
   all-done (s, f, p, r) =
       verdict-is mem regs list items out _ (accepted (unsized s) (λ i h. none-fault list i (f i h)) (λ i h. it-has takes list items i (p i h)) (λ i h. it-has gives list out i (r i h)))
 
   -- no row holds anywhere: place 0, and the counts of the list
-  pub number-0 : (judged mem regs list items out .number ≡ 0)
-      ↔ Sized × Formed list (length list / 8) × Served takes list items (length list / 8) × Served gives list out (length list / 8)
+  pub number-0 : (answer .number ≡ 0)
+      ↔ Sized mem regs list items × Formed list (length list / 8) × Served takes list items (length list / 8) × Served gives list out (length list / 8)
   number-0 = (done-given _ (verdict mem regs list items out), λ d. ap (λ (a : Answer). a .number) (all-done d))
 
   -- "A refusal has the last three 0."
@@ -251,15 +236,15 @@ module _ (mem regs : ℕ) (list : List ℕ) (items out : ℕ) where
   refused-counts a (no-room f g s k l o t) u = refl
   refused-counts a (accepted f g s r) u = absurd (u refl)
 
-  pub refusal-counts : (judged mem regs list items out .number ≡ 0 → ⊥)
-      → judged mem regs list items out ≡ refusal (judged mem regs list items out .number) (judged mem regs list items out .place)
+  pub refusal-counts : (answer .number ≡ 0 → ⊥)
+      → judged mem regs list items out ≡ refusal (answer .number) (answer .place)
   refusal-counts = refused-counts _ (verdict mem regs list items out)
 
 -- ---- a step
 
 module _ (mem : ℕ) (instruction : List ℕ) (items out : ℕ) where
-  abbrev StepGives : ℕ → ℕ → Type 0
-  StepGives n k = (judgedStep mem instruction items out .number ≡ n) × (judgedStep mem instruction items out .place ≡ k)
+  abbrev stepAnswer : Answer
+  stepAnswer = judgedStep mem instruction items out
 
   -- an instruction of 8 bytes is judged as a list of one, with registers of 96
   pub step-eight : length instruction ≡ 8 → judgedStep mem instruction items out ≡ judged mem 96 instruction items out
@@ -281,13 +266,13 @@ module _ (mem : ℕ) (instruction : List ℕ) (items out : ℕ) where
   unfolding judgedStep
   step-wrong u = simp (ne-eqb mem 8192 u)
 
-  pub step-1 : (k : ℕ) → StepGives 1 k ↔ (k ≡ 0) × (wrongMemory mem ≡ true)
+  pub step-1 : (k : ℕ) → Gives stepAnswer 1 k ↔ (k ≡ 0) × (wrongMemory mem ≡ true)
   step-1 k = go (ℕ-discrete mem 8192) (ℕ-discrete (length instruction) 8)
     where
-      same : judgedStep mem instruction items out ≡ judged mem 96 instruction items out → StepGives 1 k ↔ (k ≡ 0) × (wrongMemory mem ≡ true)
-      same e = subst (λ (a : Answer). ((a .number ≡ 1) × (a .place ≡ k)) ↔ (k ≡ 0) × (wrongMemory mem ≡ true)) (sym e) (number-1 mem 96 instruction items out k)
+      same : judgedStep mem instruction items out ≡ judged mem 96 instruction items out → Gives stepAnswer 1 k ↔ (k ≡ 0) × (wrongMemory mem ≡ true)
+      same e = subst (λ (a : Answer). Gives a 1 k ↔ (k ≡ 0) × (wrongMemory mem ≡ true)) (sym e) (number-1 mem 96 instruction items out k)
 
-      go : Dec (mem ≡ 8192) → Dec (length instruction ≡ 8) → StepGives 1 k ↔ (k ≡ 0) × (wrongMemory mem ≡ true)
+      go : Dec (mem ≡ 8192) → Dec (length instruction ≡ 8) → Gives stepAnswer 1 k ↔ (k ≡ 0) × (wrongMemory mem ≡ true)
       go (no u) d = same (step-wrong u)
       go (yes e) (yes h) = same (step-eight h)
       go (yes e) (no u) =
@@ -296,10 +281,10 @@ module _ (mem : ℕ) (instruction : List ℕ) (items out : ℕ) where
             λ f. absurd (true≢false (sym (f .1) ∙ ap not (eq-eqb mem 8192 e))),
           )
 
-  pub step-3 : (k : ℕ) → StepGives 3 k ↔ (k ≡ 0) × ((wrongMemory mem ≡ false) × (length instruction ≡ 8 → ⊥))
+  pub step-3 : (k : ℕ) → Gives stepAnswer 3 k ↔ (k ≡ 0) × ((wrongMemory mem ≡ false) × (length instruction ≡ 8 → ⊥))
   step-3 k = go (ℕ-discrete mem 8192) (ℕ-discrete (length instruction) 8)
     where
-      go : Dec (mem ≡ 8192) → Dec (length instruction ≡ 8) → StepGives 3 k ↔ (k ≡ 0) × ((wrongMemory mem ≡ false) × (length instruction ≡ 8 → ⊥))
+      go : Dec (mem ≡ 8192) → Dec (length instruction ≡ 8) → Gives stepAnswer 3 k ↔ (k ≡ 0) × ((wrongMemory mem ≡ false) × (length instruction ≡ 8 → ⊥))
       go (no u) d =
           let w : wrongMemory mem ≡ true = ap not (ne-eqb mem 8192 u) in
           let r = step-1 0 .1 (refl, w) .0 in (
@@ -316,8 +301,8 @@ module _ (mem : ℕ) (instruction : List ℕ) (items out : ℕ) where
         λ f. (ap (λ (a : Answer). a .number) (step-not-eight e u), ap (λ (a : Answer). a .place) (step-not-eight e u) ∙ sym (f .0)),
       )
 
-  pub step-refusal : (judgedStep mem instruction items out .number ≡ 0 → ⊥)
-      → judgedStep mem instruction items out ≡ refusal (judgedStep mem instruction items out .number) (judgedStep mem instruction items out .place)
+  pub step-refusal : (stepAnswer .number ≡ 0 → ⊥)
+      → judgedStep mem instruction items out ≡ refusal (stepAnswer .number) (stepAnswer .place)
   step-refusal = go (ℕ-discrete mem 8192) (ℕ-discrete (length instruction) 8)
     where
       Counts : Answer → Type 0

@@ -1,5 +1,5 @@
 // The judge: the number that a run gives back, with its place and its counts, from the lengths and the list alone. Document 01, Numbers given back.
-pub mod forms;
+mod forms;
 pub mod rows;
 pub mod searches;
 

@@ -1,6 +1,6 @@
 // Builders of lists of instructions: the sum and the difference of two fields. Document 01, Sum and difference lists.
 mod rounds;
-pub mod writing;
+mod writing;
 
 use judge::rows::number_or;
 ghost use mathlib.Core.Path.{_≡_};

@@ -1,5 +1,5 @@
 // The array module: a run of an instruction list, and a step for an operator's console. Document 01, Instructions and Numbers given back.
-pub mod acting;
+mod acting;
 pub mod parts;
 
 use acting::Acted;

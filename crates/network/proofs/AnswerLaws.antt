@@ -126,11 +126,7 @@ flip-undone l f q n b =
 
 -- ---- one answer
 
--- what meets the contract of either form is one
-pub answer-one : (l : List ℕ) (f c : ℕ) (r s : Passed) → r ≡ answer l f c → s ≡ answer l f c → r ≡ s
-answer-one l f c r s e d = e ∙ sym d
-
--- and an answer 0 that has each bit of the item at the line where the pass moves it is that one
+-- an answer 0 that has each bit of the item at the line where the pass moves it is that one
 pub answer-only : (l : List ℕ) (f c : ℕ) (r : List ℕ) → c < 256 → f < 256 → permitted c ≡ true → length r ≡ 32 → ((i : ℕ) → getD r i 0 < 256)
     → ((i : ℕ) → i < 256 → bitOf r (moved f (c / 16) (c % 16) i) ≡ bitOf l i) → _≡_ {A = Passed} (record { number = 0; item = r }) (answer l f c)
 answer-only l f c r b q t n bytes at =

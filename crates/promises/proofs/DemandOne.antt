@@ -1,218 +1,46 @@
--- Demand 1, on a page: "Every public entry takes arbitrary bytes and lengths, and ends. A list is judged whole before its first instruction acts. A refusal gives the number and place that document 01 fixes, exactly when it says, and no lent byte has changed."
--- A record states each table of document 01, row by row in its order; `DemandOne`, below them, has a field for each public entry. `After earlier row` says that none of the earlier rows holds and this one does. The names are those of specs/, and seven short ones that stand here above their first use; the proofs at the end cite the laws. Assumes nothing.
--- What is lent is any list of bytes, and a kind, a start or a width any number: no contract of an entry has a `requires`, so no field has a condition on them. That an entry ends is part of every check. A name with ′ is what a buffer lent for writing holds afterwards; one lent for reading cannot change. The equations before a field's last arrow are the clauses of the entry's contract, as they stand in its source.
+-- Demand 1 of specs/DemandOne.antt: its tables from the crates' laws, and its fields from the promises. Assumes nothing.
 use mathlib.Core.Path.{_≡_, refl, sym, ap, subst, _∙_}
-use mathlib.Core.Bool.{Bool, true, false, _||_}
+use mathlib.Core.Bool.{Bool}
 use mathlib.Core.List.{List, [], _∷_}
-use mathlib.Core.Logic.{_↔_, _⊎_}
-use Prim.Native.Nat.{ℕ, _*_, _/_, _<_, _≤_}
+use mathlib.Core.Logic.{_≢_}
+use Prim.Native.Nat.{ℕ}
 use native.Mathlib.Omega.{arith}
-use lib.Dec.{ltb}
-use lib.ListN.{length, drop, replicate}
+use lib.ListN.{length, drop}
 use Rattle.network.specs.declared.Passed.{Passed}
-use Rattle.network.specs.Shifts.{permitted}
 use Rattle.network.specs.Answer.{passedItem, answer}
 use Rattle.network.proofs.AnswerLaws.{pass-10, pass-0, given, refused}
 use Rattle.registers.specs.declared.Registers.{Registers}
-use Rattle.judge.specs.declared.Instruction.{Instruction}
 use Rattle.judge.specs.declared.Answer.{Answer}
-use Rattle.judge.specs.Judge.{instructionAt, takes, gives, wrongMemory, wrongRegisters, unfit, wrongKind, wrongSource, lacksTag, wrongTag, idleAccess, wrongPass, wrongLogic, lengthRows, refusal, done, judged, judgedStep}
-use Rattle.judge.specs.Table.{NoRow, After, Formed, Served, Lacks}
+use Rattle.judge.specs.Judge.{refusal, judged, judgedStep}
 use Rattle.judge.proofs.Table as numbers
 use Rattle.module.specs.Run.{Left, ran, Updated, stepped}
 use Rattle.module.proofs.RunLaws.{ran-answer, ran-refused}
-use Rattle.module.proofs.StepLaws.{stepped-answer, stepped-refused}
+use Rattle.module.proofs.StepLaws.{stepped-answer, stepped-refused, asRun, step-is-run, step-not-eight}
 use Rattle.lists.specs.declared.Built.{Built}
 use Rattle.lists.specs.Lists.{encoded}
-use Rattle.lists.specs.Fields as list
-use Rattle.lists.specs.Fields.{sumList, differenceList, wrongWidth, beyond, crosses, Fields, listLength, fieldsFault, builtWith, sumBuilt, differenceBuilt}
+use Rattle.lists.specs.Fields.{Left as Buffer, sumList, differenceList, listLength, fieldsFault, builtWith, sumBuilt, differenceBuilt}
 use Rattle.lists.proofs.ListLaws.{sum-length, difference-length}
 use Rattle.lists.proofs.Refusals.{built-row, built-0, built-count, built-unwritten}
-use Rattle.blocks.specs.Block.{sumsDiffer, otherKind, misplaced, misfilled}
-use Rattle.files.specs.declared.Answer as file
-use Rattle.files.specs.File.{blockAt, contentOf, kindRight, lengthRight, sizeFits, blockCount, blocksOf}
+use Rattle.files.specs.declared.Answer.{Answer as Moved}
+use Rattle.files.specs.File.{contentOf, blocksOf}
 use Rattle.files.specs.Content.{readAnswer, writeAnswer, changed, over, targetFits, contentFits}
-use Rattle.files.specs.Table.{GoodBelow}
 use Rattle.files.proofs.AnswerLaws.{changed-not}
 use Rattle.files.proofs.Table as blocks
 use Rattle.disk.specs.Picture.{pictureOf, scrambled, pictureFits}
-
--- ---- Numbers given back: what a run of a list answers, from the lengths of the memory and the registers, the list, and the lengths of items and out buffer
-
--- Number n, at place k.
-abbrev pub Gives : Answer → ℕ → ℕ → Type 0
-Gives a n k = (a .number ≡ n) × (a .place ≡ k)
-
--- None of 1 to 4 holds.
-abbrev pub Sized : ℕ → ℕ → List ℕ → ℕ → Type 0
-Sized mem regs list items = NoRow (lengthRows mem regs (length list) items)
-
--- The lengths are right, instruction k is there, none of 5 to 11 holds at one before it, and the row holds of it.
-abbrev pub Met : ℕ → ℕ → List ℕ → ℕ → ℕ → (Instruction → Type 0) → Type 0
-Met mem regs list items k row = Sized mem regs list items × (k < length list / 8) × Formed list k × row (instructionAt list k)
-
--- "Order: 1 to 4 (place 0); then each instruction in turn, 5 to 11; then 12; then 13. Place is the instruction's number; for 12 and 13 the first that lacks its item or room."
-pub record RunTable (mem regs : ℕ) (list : List ℕ) (items out : ℕ) (a : Answer) : Type 0 where
-  -- "1 / 2: memory is not 8,192 bytes / registers not 96"
-  pub row-1 : (k : ℕ) → Gives a 1 k ↔ (k ≡ 0) × After [] (wrongMemory mem)
-  pub row-2 : (k : ℕ) → Gives a 2 k ↔ (k ≡ 0) × After (wrongMemory mem ∷ []) (wrongRegisters regs)
-  -- "3: list not a multiple of 8, or over 32,768 bytes"
-  pub row-3 : (k : ℕ) → Gives a 3 k ↔ (k ≡ 0) × After (wrongMemory mem ∷ wrongRegisters regs ∷ []) (unfit 8 (length list))
-  -- "4: items not a multiple of 32, or over 32,768 bytes"
-  pub row-4 : (k : ℕ) → Gives a 4 k ↔ (k ≡ 0) × After (wrongMemory mem ∷ wrongRegisters regs ∷ unfit 8 (length list) ∷ []) (unfit 32 items)
-  -- "5: kind over 5"
-  pub row-5 : (k : ℕ) → Gives a 5 k ↔ Met mem regs list items k (λ i. After [] (wrongKind i))
-  -- "6: source over 4; 0 for kinds 2, 3; not 0 for kind 5"
-  pub row-6 : (k : ℕ) → Gives a 6 k ↔ Met mem regs list items k (λ i. After (wrongKind i ∷ []) (wrongSource i))
-  -- "7 / 8: memory touched and tag 0 / memory touched and tag over 1"
-  pub row-7 : (k : ℕ) → Gives a 7 k ↔ Met mem regs list items k (λ i. After (wrongKind i ∷ wrongSource i ∷ []) (lacksTag i))
-  pub row-8 : (k : ℕ) → Gives a 8 k ↔ Met mem regs list items k (λ i. After (wrongKind i ∷ wrongSource i ∷ lacksTag i ∷ []) (wrongTag i))
-  -- "9: memory not touched and byte 2, 3 or 4 not 0"
-  pub row-9 : (k : ℕ) → Gives a 9 k ↔ Met mem regs list items k (λ i. After (wrongKind i ∷ wrongSource i ∷ lacksTag i ∷ wrongTag i ∷ []) (idleAccess i))
-  -- "10: byte 6 is none of the 37; not 0 for kinds 2, 3; byte 5 or 6 not 0 for kind 5"
-  pub row-10 : (k : ℕ) → Gives a 10 k ↔ Met mem regs list items k (λ i. After (wrongKind i ∷ wrongSource i ∷ lacksTag i ∷ wrongTag i ∷ idleAccess i ∷ []) (wrongPass i))
-  -- "11: kind 0: choice over 4; other kinds: byte 7 not 0"
-  pub row-11 : (k : ℕ) → Gives a 11 k ↔ Met mem regs list items k (λ i. After (wrongKind i ∷ wrongSource i ∷ lacksTag i ∷ wrongTag i ∷ idleAccess i ∷ wrongPass i ∷ []) (wrongLogic i))
-  -- "12 / 13: items too few / out buffer too short"
-  pub row-12 : (k : ℕ) → Gives a 12 k
-      ↔ Sized mem regs list items × Formed list (length list / 8) × (k < length list / 8) × Served takes list items k × Lacks takes list items k
-  pub row-13 : (k : ℕ) → Gives a 13 k
-      ↔ Sized mem regs list items × Formed list (length list / 8) × Served takes list items (length list / 8)
-      × (k < length list / 8) × Served gives list out k × Lacks gives list out k
-  -- no row holds anywhere: "Done is 0, place 0; steps is the count of instructions, taken of source 4, given of kinds 4 and 5"
-  pub row-0 : (a .number ≡ 0)
-      ↔ Sized mem regs list items × Formed list (length list / 8) × Served takes list items (length list / 8) × Served gives list out (length list / 8)
-  pub done-is : a .number ≡ 0 → a ≡ done list
-  -- "A refusal has the last three 0"
-  pub refused-is : (a .number ≡ 0 → ⊥) → a ≡ refusal (a .number) (a .place)
-
--- "A step answers, refuses and leaves its buffers as a run of a list of that one instruction does. Its instruction is exactly 8 bytes, else 3."
-pub record StepTable (mem : ℕ) (instruction : List ℕ) (items out : ℕ) (a : Answer) : Type 0 where
-  pub row-1 : (k : ℕ) → Gives a 1 k ↔ (k ≡ 0) × (wrongMemory mem ≡ true)
-  pub row-3 : (k : ℕ) → Gives a 3 k ↔ (k ≡ 0) × ((wrongMemory mem ≡ false) × (length instruction ≡ 8 → ⊥))
-  pub as-run : length instruction ≡ 8 → RunTable mem 96 instruction items out a
-  pub refused-is : (a .number ≡ 0 → ⊥) → a ≡ refusal (a .number) (a .place)
-
--- ---- Network: "it gives 10 and a zero item where byte 6 is none of the 37, and otherwise 0 and the passed item"
-pub record PassTable (lines : List ℕ) (flip code : ℕ) (r : Passed) : Type 0 where
-  pub row-10 : (r .number ≡ 10) ↔ (permitted code ≡ false)
-  pub row-0 : (r .number ≡ 0) ↔ (permitted code ≡ true)
-  pub zero-item : permitted code ≡ false → r .item ≡ replicate 32 0
-  pub passed : permitted code ≡ true → r .item ≡ passedItem lines flip code
-
--- ---- Sum and difference lists: `lead` is 1 or 2, `have` the length of the list buffer. "In that order; nothing is written and the count is 0. Else .. their count is given"
-pub record ListTable (lead a b s n have : ℕ) (r : Built) : Type 0 where
-  -- "30 width not 1..64"
-  pub row-30 : (r .number ≡ 30) ↔ After [] (wrongWidth n)
-  -- "31 a start plus n over 256"
-  pub row-31 : (r .number ≡ 31) ↔ After (wrongWidth n ∷ []) (beyond a n || beyond b n || beyond s n)
-  -- "32 S overlaps A or B without having its start"
-  pub row-32 : (r .number ≡ 32) ↔ After (wrongWidth n ∷ (beyond a n || beyond b n || beyond s n) ∷ []) (crosses s a n || crosses s b n)
-  -- "33 list buffer under 8(1+5n) or, for a difference, 8(2+5n) bytes"
-  pub row-33 : (r .number ≡ 33) ↔ After (wrongWidth n ∷ (beyond a n || beyond b n || beyond s n) ∷ (crosses s a n || crosses s b n) ∷ []) (ltb have (listLength lead n))
-  pub row-0 : (r .number ≡ 0) ↔ Fields a b s n × (listLength lead n ≤ have)
-  pub done-is : r .number ≡ 0 → r .count ≡ listLength lead n
-  pub refused-is : (r .number ≡ 0 → ⊥) → r .count ≡ 0
-
--- ---- Blocks on disk: "Place is the block for 21 to 24, else 0"
-
--- Number n, at place k.
-abbrev pub Tells : file.Answer → ℕ → ℕ → Type 0
-Tells r n k = (r .number ≡ n) × (r .place ≡ k)
-
--- The kind asked and the length are right.
-abbrev pub Asked : ℕ → List ℕ → Type 0
-Asked kind bytes = (kindRight kind ≡ true) × (lengthRight (length bytes) ≡ true)
-
--- And block k is there, those before it are good at their places, and the row holds of it.
-abbrev pub MetBlock : ℕ → List ℕ → ℕ → (List ℕ → Type 0) → Type 0
-MetBlock kind bytes k row = Asked kind bytes × (k < length bytes / 512) × GoodBelow kind bytes (length bytes / 512) k × row (blockAt bytes k)
-
--- And every block is good at its place.
-abbrev pub Sound : ℕ → List ℕ → Type 0
-Sound kind bytes = Asked kind bytes × GoodBelow kind bytes (length bytes / 512) (length bytes / 512)
-
--- Reading; `fits` says whether the targets have the room, or for a picture the lengths, that 26 asks for.
-pub record ReadTable (kind : ℕ) (bytes : List ℕ) (fits : Bool) (r : file.Answer) : Type 0 where
-  -- "20 length 0, not a multiple of 512, or over 34,304"
-  pub row-20 : (k : ℕ) → Tells r 20 k ↔ (k ≡ 0) × (kindRight kind ≡ true) × (lengthRight (length bytes) ≡ false)
-  -- "then per block 21 sums differ"
-  pub row-21 : (k : ℕ) → Tells r 21 k ↔ MetBlock kind bytes k (λ b. After [] (sumsDiffer b))
-  -- "22 kind not the one asked"; and "a kind asked for that is not 1 to 3 is 22, place 0, before all else"
-  pub row-22 : (k : ℕ) → Tells r 22 k ↔ ((k ≡ 0) × (kindRight kind ≡ false)) ⊎ MetBlock kind bytes k (λ b. After (sumsDiffer b ∷ []) (otherKind b kind))
-  -- "23 number not its place or count not that of the blocks there"
-  pub row-23 : (k : ℕ) → Tells r 23 k ↔ MetBlock kind bytes k (λ b. After (sumsDiffer b ∷ otherKind b kind ∷ []) (misplaced b k (length bytes / 512)))
-  -- "24 used wrong or a byte not 0 that must be"
-  pub row-24 : (k : ℕ) → Tells r 24 k
-      ↔ MetBlock kind bytes k (λ b. After (sumsDiffer b ∷ otherKind b kind ∷ misplaced b k (length bytes / 512) ∷ []) (misfilled b k (length bytes / 512)))
-  -- "then 25 size unfit for the kind (8,288; a list or items as in 3 and 4)"
-  pub row-25 : (k : ℕ) → Tells r 25 k ↔ (k ≡ 0) × Sound kind bytes × (sizeFits kind (length (contentOf bytes)) ≡ false)
-  -- "26 target too short, or for a picture not exactly 8,192 and 96"
-  pub row-26 : (k : ℕ) → Tells r 26 k ↔ (k ≡ 0) × Sound kind bytes × (sizeFits kind (length (contentOf bytes)) ≡ true) × (fits ≡ false)
-  -- "Success gives 0, place 0 and the number of bytes put out; a refusal gives 0 bytes"
-  pub row-0 : (r .number ≡ 0) ↔ Sound kind bytes × (sizeFits kind (length (contentOf bytes)) ≡ true) × (fits ≡ true)
-  pub done-is : r .number ≡ 0 → r ≡ record { number = 0; place = 0; bytes = length (contentOf bytes) }
-  pub refused-is : (r .number ≡ 0 → ⊥) → r .bytes ≡ 0
-
--- Writing a content of `size` bytes to an output of `room`; `fits` says whether the content has the right size.
-pub record WriteTable (kind : ℕ) (fits : Bool) (size room : ℕ) (r : file.Answer) : Type 0 where
-  -- 22 of the kind asked, "before all else, in reading and writing"
-  pub row-22 : (k : ℕ) → Tells r 22 k ↔ (k ≡ 0) × (kindRight kind ≡ false)
-  -- "26 content of wrong size"
-  pub row-26 : (k : ℕ) → Tells r 26 k ↔ (k ≡ 0) × (kindRight kind ≡ true) × (fits ≡ false)
-  -- "27 output too short"
-  pub row-27 : (k : ℕ) → Tells r 27 k ↔ (k ≡ 0) × (kindRight kind ≡ true) × (fits ≡ true) × (room < 512 * blockCount size)
-  pub row-0 : (r .number ≡ 0) ↔ (kindRight kind ≡ true) × (fits ≡ true) × (512 * blockCount size ≤ room)
-  pub done-is : r .number ≡ 0 → r ≡ record { number = 0; place = 0; bytes = 512 * blockCount size }
-  pub refused-is : (r .number ≡ 0 → ⊥) → r .bytes ≡ 0
-
--- ---- the entries
-
-pub record DemandOne : Type 0 where
-  -- `run`: judged whole before its first instruction acts, since the answer is the judge's, of the lengths and the list alone, whatever the other bytes are
-  pub run : (mem regs list items out mem′ regs′ out′ : List ℕ) (a : Answer)
-      → _≡_ {A = Left} (record { mem = mem′; regs = regs′; out = out′; answer = a }) (ran mem regs list items out)
-      → (a ≡ judged (length mem) (length regs) list (length items) (length out))
-      × RunTable (length mem) (length regs) list (length items) (length out) a
-      × ((a .number ≡ 0 → ⊥) → (mem′ ≡ mem) × (regs′ ≡ regs) × (out′ ≡ out))
-  -- `step`, on the lent register record, and `advance`, on one by value
-  pub step : (mem : List ℕ) (r : Registers) (instruction items out mem′ : List ℕ) (r′ : Registers) (out′ : List ℕ) (a : Answer)
-      → _≡_ {A = Updated} (record { mem = mem′; regs = r′; out = out′; answer = a }) (stepped mem r instruction items out)
-      → (a ≡ judgedStep (length mem) instruction (length items) (length out))
-      × StepTable (length mem) instruction (length items) (length out) a
-      × ((a .number ≡ 0 → ⊥) → (mem′ ≡ mem) × (r′ ≡ r) × (out′ ≡ out))
-  -- `pass` and `wired_pass`, whose contracts are the same; nothing is lent for writing
-  pub pass : (lines : List ℕ) (flip code : ℕ) (r : Passed) → r ≡ answer lines flip code → PassTable lines flip code r
-  -- `sum_list` and `difference_list`
-  pub sum : (a b s n : ℕ) (buffer buffer′ : List ℕ) (r : Built)
-      → _≡_ {A = list.Left} (record { answer = r; list = buffer′ }) (sumBuilt a b s n buffer)
-      → ListTable 1 a b s n (length buffer) r × ((r .number ≡ 0 → ⊥) → buffer′ ≡ buffer)
-  pub difference : (a b s n : ℕ) (buffer buffer′ : List ℕ) (r : Built)
-      → _≡_ {A = list.Left} (record { answer = r; list = buffer′ }) (differenceBuilt a b s n buffer)
-      → ListTable 2 a b s n (length buffer) r × ((r .number ≡ 0 → ⊥) → buffer′ ≡ buffer)
-  -- `read_content`, of a list or items
-  pub readContent : (kind : ℕ) (bytes target target′ : List ℕ) (r : file.Answer)
-      → r ≡ readAnswer kind bytes (targetFits kind bytes target)
-      → target′ ≡ changed r (over (contentOf bytes) target) target
-      → ReadTable kind bytes (targetFits kind bytes target) r × ((r .number ≡ 0 → ⊥) → target′ ≡ target)
-  -- `read_picture`
-  pub readPicture : (kind : ℕ) (bytes memory registers memory′ registers′ : List ℕ) (r : file.Answer)
-      → r ≡ readAnswer kind bytes (pictureFits kind (length memory) (length registers))
-      → memory′ ≡ changed r (scrambled (contentOf bytes)) memory
-      → registers′ ≡ changed r (drop 8192 (contentOf bytes)) registers
-      → ReadTable kind bytes (pictureFits kind (length memory) (length registers)) r × ((r .number ≡ 0 → ⊥) → (memory′ ≡ memory) × (registers′ ≡ registers))
-  -- `write_content`
-  pub writeContent : (kind : ℕ) (content out out′ : List ℕ) (r : file.Answer)
-      → r ≡ writeAnswer kind (contentFits kind content) (length content) (length out)
-      → out′ ≡ changed r (over (blocksOf kind content) out) out
-      → WriteTable kind (contentFits kind content) (length content) (length out) r × ((r .number ≡ 0 → ⊥) → out′ ≡ out)
-  -- `write_picture`
-  pub writePicture : (kind : ℕ) (memory registers out out′ : List ℕ) (r : file.Answer)
-      → r ≡ writeAnswer kind (pictureFits kind (length memory) (length registers)) 8288 (length out)
-      → out′ ≡ changed r (over (blocksOf kind (pictureOf memory registers)) out) out
-      → WriteTable kind (pictureFits kind (length memory) (length registers)) 8288 (length out) r × ((r .number ≡ 0 → ⊥) → out′ ≡ out)
+use Rattle.staran.specs.Left.{five, three, RunLeft, runLeft, StepLeft, stepLeft, PassLeft, passLeft, BufferLeft, sumLeft, differenceLeft, readLeft, writeLeft, PictureLeft, readPictureLeft, writePictureLeft}
+use Rattle.promises.specs.Clauses.{Run, Step, SumList, DifferenceList, LibraryRun, LibraryStep, LibraryPass, LibraryBuffer, LibraryReadPicture}
+use Rattle.promises.specs.DemandOne.{RunTable, StepTable, PassTable, ListTable, ReadTable, WriteTable, Kept, DemandOne}
 
 -- ---- the tables, from the laws
+
+pass-table : (lines : List ℕ) (flip code : ℕ) → PassTable lines flip code (answer lines flip code)
+pass-table lines flip code =
+    record {
+      row-10 = pass-10 lines flip code;
+      row-0 = pass-0 lines flip code;
+      zero-item = λ t. sym (ap (λ (r : Passed). r .item) (refused lines flip code t));
+      passed = λ t. sym (ap (λ (r : Passed). r .item) (given lines flip code (passedItem lines flip code) t refl));
+    }
 
 run-table : (mem regs : ℕ) (list : List ℕ) (items out : ℕ) → RunTable mem regs list items out (judged mem regs list items out)
 run-table mem regs list items out =
@@ -244,15 +72,6 @@ step-table mem instruction items out =
       refused-is = numbers.step-refusal mem instruction items out;
     }
 
-pass-table : (lines : List ℕ) (flip code : ℕ) → PassTable lines flip code (answer lines flip code)
-pass-table lines flip code =
-    record {
-      row-10 = pass-10 lines flip code;
-      row-0 = pass-0 lines flip code;
-      zero-item = λ t. sym (ap (λ (r : Passed). r .item) (refused lines flip code t));
-      passed = λ t. sym (ap (λ (r : Passed). r .item) (given lines flip code (passedItem lines flip code) t refl));
-    }
-
 list-table : (lead a b s n : ℕ) (bytes buffer : List ℕ) → length bytes ≡ listLength lead n
     → ListTable lead a b s n (length buffer) (builtWith (fieldsFault lead a b s n (length buffer)) bytes buffer .answer)
 list-table lead a b s n bytes buffer size =
@@ -263,7 +82,7 @@ list-table lead a b s n bytes buffer size =
       row-33 = built-row lead a b s n bytes buffer 3 (omega arith);
       row-0 = built-0 lead a b s n bytes buffer;
       done-is = λ z. built-count lead a b s n bytes buffer z ∙ size;
-      refused-is = λ u. ap (λ (l : list.Left). l .answer .count) (built-unwritten lead a b s n bytes buffer u);
+      refused-is = λ u. ap (λ (l : Buffer). l .answer .count) (built-unwritten lead a b s n bytes buffer u);
     }
 
 read-table : (kind : ℕ) (bytes : List ℕ) (fits : Bool) → ReadTable kind bytes fits (readAnswer kind bytes fits)
@@ -292,71 +111,183 @@ write-table kind fits size room =
       refused-is = blocks.write-no-bytes kind fits size room;
     }
 
--- ---- what is lent, from the contracts
+-- ---- from the promises
 
-run-left : (mem regs list items out mem′ regs′ out′ : List ℕ) (a : Answer)
-    → _≡_ {A = Left} (record { mem = mem′; regs = regs′; out = out′; answer = a }) (ran mem regs list items out)
-    → a ≡ judged (length mem) (length regs) list (length items) (length out)
-    → (a .number ≡ 0 → ⊥) → (mem′ ≡ mem) × (regs′ ≡ regs) × (out′ ≡ out)
-run-left mem regs list items out mem′ regs′ out′ a h e u =
-    let same = h ∙ sym (ran-refused mem regs list items out a e u) in
-    (ap (λ (l : Left). l .mem) same, ap (λ (l : Left). l .regs) same, ap (λ (l : Left). l .out) same)
-
-step-left : (mem : List ℕ) (r : Registers) (instruction items out mem′ : List ℕ) (r′ : Registers) (out′ : List ℕ) (a : Answer)
-    → _≡_ {A = Updated} (record { mem = mem′; regs = r′; out = out′; answer = a }) (stepped mem r instruction items out)
-    → a ≡ judgedStep (length mem) instruction (length items) (length out)
-    → (a .number ≡ 0 → ⊥) → (mem′ ≡ mem) × (r′ ≡ r) × (out′ ≡ out)
-step-left mem r instruction items out mem′ r′ out′ a h e u =
-    let same = h ∙ sym (stepped-refused mem r instruction items out a e u) in
-    (ap (λ (l : Updated). l .mem) same, ap (λ (l : Updated). l .regs) same, ap (λ (l : Updated). l .out) same)
-
-built : (lead a b s n : ℕ) (bytes buffer buffer′ : List ℕ) (r : Built) → length bytes ≡ listLength lead n
-    → _≡_ {A = list.Left} (record { answer = r; list = buffer′ }) (builtWith (fieldsFault lead a b s n (length buffer)) bytes buffer)
-    → ListTable lead a b s n (length buffer) r × ((r .number ≡ 0 → ⊥) → buffer′ ≡ buffer)
-built lead a b s n bytes buffer buffer′ r size h =
-    let e = ap (λ (l : list.Left). l .answer) h in (
-      subst (ListTable lead a b s n (length buffer)) (sym e) (list-table lead a b s n bytes buffer size),
-      λ u. ap (λ (l : list.Left). l .list) (h ∙ built-unwritten lead a b s n bytes buffer (λ z. u (ap (λ (x : Built). x .number) e ∙ z))),
+run-meets : (mem regs list items out mem′ regs′ out′ : List ℕ) (a : Answer) → Run mem regs list items out mem′ regs′ out′ a
+    → (a ≡ judged (length mem) (length regs) list (length items) (length out))
+    × RunTable (length mem) (length regs) list (length items) (length out) a
+    × Kept (a .number) mem mem′ × Kept (a .number) regs regs′ × Kept (a .number) out out′
+run-meets mem regs list items out mem′ regs′ out′ a h =
+    let e = ap (λ (l : Left). l .answer) h ∙ ran-answer mem regs list items out in
+    let same : Kept {A = Left} (a .number) (record { mem = mem; regs = regs; out = out; answer = a }) (record { mem = mem′; regs = regs′; out = out′; answer = a })
+    = λ u. h ∙ sym (ran-refused mem regs list items out a e u) in (
+      e,
+      subst (RunTable (length mem) (length regs) list (length items) (length out)) (sym e) (run-table (length mem) (length regs) list (length items) (length out)),
+      λ u. ap (λ (l : Left). l .mem) (same u),
+      λ u. ap (λ (l : Left). l .regs) (same u),
+      λ u. ap (λ (l : Left). l .out) (same u),
     )
 
-kept : (r : file.Answer) (new old after : List ℕ) → after ≡ changed r new old → (r .number ≡ 0 → ⊥) → after ≡ old
+module _ (mem : List ℕ) (r : Registers) (instruction items out mem′ : List ℕ) (r′ : Registers) (out′ : List ℕ) (a : Answer) where
+  step-meets : Step mem r instruction items out mem′ r′ out′ a
+      → (a ≡ judgedStep (length mem) instruction (length items) (length out))
+      × StepTable (length mem) instruction (length items) (length out) a
+      × Kept (a .number) mem mem′ × Kept (a .number) r r′ × Kept (a .number) out out′
+  step-meets h =
+      let e = ap (λ (l : Updated). l .answer) h ∙ stepped-answer mem r instruction items out in
+      let same : Kept {A = Updated} (a .number) (record { mem = mem; regs = r; out = out; answer = a }) (record { mem = mem′; regs = r′; out = out′; answer = a })
+      = λ u. h ∙ sym (stepped-refused mem r instruction items out a e u) in (
+        e,
+        subst (StepTable (length mem) instruction (length items) (length out)) (sym e) (step-table (length mem) instruction (length items) (length out)),
+        λ u. ap (λ (l : Updated). l .mem) (same u),
+        λ u. ap (λ (l : Updated). l .regs) (same u),
+        λ u. ap (λ (l : Updated). l .out) (same u),
+      )
+
+  not-eight : length mem ≡ 8192 → length instruction ≢ 8 → Step mem r instruction items out mem′ r′ out′ a
+      → (a ≡ refusal 3 0) × (mem′ ≡ mem) × (r′ ≡ r) × (out′ ≡ out)
+  not-eight m u h =
+      let e = h ∙ step-not-eight mem r instruction items out m u in
+      (ap (λ (l : Updated). l .answer) e, ap (λ (l : Updated). l .mem) e, ap (λ (l : Updated). l .regs) e, ap (λ (l : Updated). l .out) e)
+
+built : (lead a b s n : ℕ) (bytes list list′ : List ℕ) (r : Built) → length bytes ≡ listLength lead n
+    → _≡_ {A = Buffer} (record { answer = r; list = list′ }) (builtWith (fieldsFault lead a b s n (length list)) bytes list)
+    → ListTable lead a b s n (length list) r × Kept (r .number) list list′
+built lead a b s n bytes list list′ r size h =
+    let e = ap (λ (l : Buffer). l .answer) h in (
+      subst (ListTable lead a b s n (length list)) (sym e) (list-table lead a b s n bytes list size),
+      λ u. ap (λ (l : Buffer). l .list) (h ∙ built-unwritten lead a b s n bytes list (λ z. u (ap (λ (x : Built). x .number) e ∙ z))),
+    )
+
+module _ (a b s n : ℕ) (list list′ : List ℕ) (r : Built) where
+  sum-meets : SumList a b s n list list′ r → ListTable 1 a b s n (length list) r × Kept (r .number) list list′
+  unfolding sumBuilt
+  sum-meets h = built 1 a b s n (encoded (sumList a b s n)) list list′ r (sum-length a b s n) h
+
+  difference-meets : DifferenceList a b s n list list′ r → ListTable 2 a b s n (length list) r × Kept (r .number) list list′
+  unfolding differenceBuilt
+  difference-meets h = built 2 a b s n (encoded (differenceList a b s n)) list list′ r (difference-length a b s n) h
+
+kept : (r : Moved) (new old after : List ℕ) → after ≡ changed r new old → Kept (r .number) old after
 kept r new old after h u = h ∙ sym (changed-not r new old u)
 
-sum-built : (a b s n : ℕ) (buffer buffer′ : List ℕ) (r : Built)
-    → _≡_ {A = list.Left} (record { answer = r; list = buffer′ }) (sumBuilt a b s n buffer)
-    → ListTable 1 a b s n (length buffer) r × ((r .number ≡ 0 → ⊥) → buffer′ ≡ buffer)
-unfolding sumBuilt
-sum-built a b s n buffer buffer′ r h = built 1 a b s n (encoded (sumList a b s n)) buffer buffer′ r (sum-length a b s n) h
+read-meets : (kind : ℕ) (bytes : List ℕ) (fits : Bool) (r : Moved) → r ≡ readAnswer kind bytes fits → ReadTable kind bytes fits r
+read-meets kind bytes fits r e = subst (ReadTable kind bytes fits) (sym e) (read-table kind bytes fits)
 
-difference-built : (a b s n : ℕ) (buffer buffer′ : List ℕ) (r : Built)
-    → _≡_ {A = list.Left} (record { answer = r; list = buffer′ }) (differenceBuilt a b s n buffer)
-    → ListTable 2 a b s n (length buffer) r × ((r .number ≡ 0 → ⊥) → buffer′ ≡ buffer)
-unfolding differenceBuilt
-difference-built a b s n buffer buffer′ r h = built 2 a b s n (encoded (differenceList a b s n)) buffer buffer′ r (difference-length a b s n) h
+write-meets : (kind : ℕ) (fits : Bool) (size room : ℕ) (r : Moved) → r ≡ writeAnswer kind fits size room → WriteTable kind fits size room r
+write-meets kind fits size room r e = subst (WriteTable kind fits size room) (sym e) (write-table kind fits size room)
+
+-- ---- a function of the library: what it leaves is what the entry leaves, and the numbers of the entry's answer
+
+library-pass : (item : List ℕ) (flip code : ℕ) (passed′ answer′ : List ℕ) → LibraryPass item flip code passed′ answer′
+    → (r : Passed) × (answer′ ≡ r .number ∷ []) × (passed′ ≡ r .item) × PassTable item flip code r
+unfolding passLeft
+library-pass item flip code passed′ answer′ h =
+    (answer item flip code, ap (λ (l : PassLeft). l .answer) h, ap (λ (l : PassLeft). l .passed) h, pass-table item flip code)
+
+library-run : (memory registers list items out memory′ registers′ out′ answer′ : List ℕ) → LibraryRun memory registers list items out memory′ registers′ out′ answer′
+    → (a : Answer) × (answer′ ≡ five a) × RunTable (length memory) (length registers) list (length items) (length out) a
+    × Kept (a .number) memory memory′ × Kept (a .number) registers registers′ × Kept (a .number) out out′
+unfolding runLeft
+library-run memory registers list items out memory′ registers′ out′ answer′ h =
+    let a = ran memory registers list items out .answer in
+    let m = run-meets memory registers list items out memory′ registers′ out′ a (λ t. record { mem = h t .memory; regs = h t .registers; out = h t .out; answer = a }) in
+    (a, ap (λ (l : RunLeft). l .answer) h, m .1, m .2, m .3, m .4)
+
+library-step : (memory : List ℕ) (r : Registers) (items out instruction memory′ : List ℕ) (r′ : Registers) (out′ answer′ : List ℕ)
+    → LibraryStep memory r items out instruction memory′ r′ out′ answer′
+    → (a : Answer) × (answer′ ≡ five a) × StepTable (length memory) instruction (length items) (length out) a
+    × Kept (a .number) memory memory′ × Kept (a .number) r r′ × Kept (a .number) out out′
+unfolding stepLeft
+library-step memory r items out instruction memory′ r′ out′ answer′ h =
+    let a = stepped memory r instruction items out .answer in
+    let m = step-meets memory r instruction items out memory′ r′ out′ a (λ t. record { mem = h t .memory; regs = h t .registers; out = h t .out; answer = a }) in
+    (a, ap (λ (l : StepLeft). l .answer) h, m .1, m .2, m .3, m .4)
+
+module _ (a b s n : ℕ) (list list′ answer′ : List ℕ) where
+  library-sum : LibraryBuffer (sumLeft a b s n list) list′ answer′
+      → (r : Built) × (answer′ ≡ r .number ∷ r .count ∷ []) × ListTable 1 a b s n (length list) r × Kept (r .number) list list′
+  unfolding sumLeft
+  library-sum h =
+      let r = sumBuilt a b s n list .answer in
+      let m = sum-meets a b s n list list′ r (λ t. record { answer = r; list = h t .buffer }) in
+      (r, ap (λ (l : BufferLeft). l .answer) h, m .0, m .1)
+
+  library-difference : LibraryBuffer (differenceLeft a b s n list) list′ answer′
+      → (r : Built) × (answer′ ≡ r .number ∷ r .count ∷ []) × ListTable 2 a b s n (length list) r × Kept (r .number) list list′
+  unfolding differenceLeft
+  library-difference h =
+      let r = differenceBuilt a b s n list .answer in
+      let m = difference-meets a b s n list list′ r (λ t. record { answer = r; list = h t .buffer }) in
+      (r, ap (λ (l : BufferLeft). l .answer) h, m .0, m .1)
+
+library-read : (kind : ℕ) (bytes target target′ answer′ : List ℕ) → LibraryBuffer (readLeft kind bytes target) target′ answer′
+    → (r : Moved) × (answer′ ≡ three r) × ReadTable kind bytes (targetFits kind bytes target) r × Kept (r .number) target target′
+unfolding readLeft
+library-read kind bytes target target′ answer′ h =
+    let fits = targetFits kind bytes target in
+    let r = readAnswer kind bytes fits in
+    (r, ap (λ (l : BufferLeft). l .answer) h, read-table kind bytes fits, kept r (over (contentOf bytes) target) target target′ (ap (λ (l : BufferLeft). l .buffer) h))
+
+library-write : (kind : ℕ) (content out out′ answer′ : List ℕ) → LibraryBuffer (writeLeft kind content out) out′ answer′
+    → (r : Moved) × (answer′ ≡ three r) × WriteTable kind (contentFits kind content) (length content) (length out) r × Kept (r .number) out out′
+unfolding writeLeft
+library-write kind content out out′ answer′ h =
+    let fits = contentFits kind content in
+    let r = writeAnswer kind fits (length content) (length out) in
+    (r, ap (λ (l : BufferLeft). l .answer) h, write-table kind fits (length content) (length out), kept r (over (blocksOf kind content) out) out out′ (ap (λ (l : BufferLeft). l .buffer) h))
+
+library-read-picture : (kind : ℕ) (bytes memory registers memory′ registers′ answer′ : List ℕ) → LibraryReadPicture kind bytes memory registers memory′ registers′ answer′
+    → (r : Moved) × (answer′ ≡ three r) × ReadTable kind bytes (pictureFits kind (length memory) (length registers)) r
+    × Kept (r .number) memory memory′ × Kept (r .number) registers registers′
+unfolding readPictureLeft
+library-read-picture kind bytes memory registers memory′ registers′ answer′ h =
+    let fits = pictureFits kind (length memory) (length registers) in
+    let r = readAnswer kind bytes fits in (
+      r,
+      ap (λ (l : PictureLeft). l .answer) h,
+      read-table kind bytes fits,
+      kept r (scrambled (contentOf bytes)) memory memory′ (ap (λ (l : PictureLeft). l .memory) h),
+      kept r (drop 8192 (contentOf bytes)) registers registers′ (ap (λ (l : PictureLeft). l .registers) h),
+    )
+
+library-write-picture : (kind : ℕ) (memory registers out out′ answer′ : List ℕ) → LibraryBuffer (writePictureLeft kind memory registers out) out′ answer′
+    → (r : Moved) × (answer′ ≡ three r) × WriteTable kind (pictureFits kind (length memory) (length registers)) 8288 (length out) r
+    × Kept (r .number) out out′
+unfolding writePictureLeft
+library-write-picture kind memory registers out out′ answer′ h =
+    let fits = pictureFits kind (length memory) (length registers) in
+    let r = writeAnswer kind fits 8288 (length out) in
+    (r, ap (λ (l : BufferLeft). l .answer) h, write-table kind fits 8288 (length out), kept r (over (blocksOf kind (pictureOf memory registers)) out) out out′ (ap (λ (l : BufferLeft). l .buffer) h))
 
 pub demand-one : DemandOne
 demand-one =
     record {
-      run = λ mem regs list items out mem′ regs′ out′ a h.
-          let e = ap (λ (l : Left). l .answer) h ∙ ran-answer mem regs list items out in
-          (e, subst (RunTable (length mem) (length regs) list (length items) (length out)) (sym e) (run-table (length mem) (length regs) list (length items) (length out)), run-left mem regs list items out mem′ regs′ out′ a h e);
-      step = λ mem r instruction items out mem′ r′ out′ a h.
-          let e = ap (λ (l : Updated). l .answer) h ∙ stepped-answer mem r instruction items out in
-          (e, subst (StepTable (length mem) instruction (length items) (length out)) (sym e) (step-table (length mem) instruction (length items) (length out)), step-left mem r instruction items out mem′ r′ out′ a h e);
       pass = λ lines flip code r e. subst (PassTable lines flip code) (sym e) (pass-table lines flip code);
-      sum = sum-built;
-      difference = difference-built;
+      run = run-meets;
+      step = step-meets;
+      stepIsRun = λ mem r instruction items out mem′ r′ out′ a hm hx hy h s. ap asRun s ∙ sym (step-is-run mem r instruction items out hm hx hy h);
+      stepNotEight = not-eight;
+      sumList = sum-meets;
+      differenceList = difference-meets;
       readContent = λ kind bytes target target′ r e h.
-          (subst (ReadTable kind bytes (targetFits kind bytes target)) (sym e) (read-table kind bytes (targetFits kind bytes target)), kept r (over (contentOf bytes) target) target target′ h);
-      readPicture = λ kind bytes memory registers memory′ registers′ r e h g.
-          let fits = pictureFits kind (length memory) (length registers) in (
-            subst (ReadTable kind bytes fits) (sym e) (read-table kind bytes fits),
-            λ u. (kept r (scrambled (contentOf bytes)) memory memory′ h u, kept r (drop 8192 (contentOf bytes)) registers registers′ g u),
-          );
+          (read-meets kind bytes (targetFits kind bytes target) r e, kept r (over (contentOf bytes) target) target target′ h);
       writeContent = λ kind content out out′ r e h.
-          let fits = contentFits kind content in
-          (subst (WriteTable kind fits (length content) (length out)) (sym e) (write-table kind fits (length content) (length out)), kept r (over (blocksOf kind content) out) out out′ h);
+          (write-meets kind (contentFits kind content) (length content) (length out) r e, kept r (over (blocksOf kind content) out) out out′ h);
+      readPicture = λ kind bytes memory registers memory′ registers′ r e h g. (
+        read-meets kind bytes (pictureFits kind (length memory) (length registers)) r e,
+        kept r (scrambled (contentOf bytes)) memory memory′ h,
+        kept r (drop 8192 (contentOf bytes)) registers registers′ g,
+      );
       writePicture = λ kind memory registers out out′ r e h.
-          let fits = pictureFits kind (length memory) (length registers) in
-          (subst (WriteTable kind fits 8288 (length out)) (sym e) (write-table kind fits 8288 (length out)), kept r (over (blocksOf kind (pictureOf memory registers)) out) out out′ h);
+          (write-meets kind (pictureFits kind (length memory) (length registers)) 8288 (length out) r e, kept r (over (blocksOf kind (pictureOf memory registers)) out) out out′ h);
+      libraryPass = library-pass;
+      libraryRun = library-run;
+      libraryStep = library-step;
+      librarySumList = library-sum;
+      libraryDifferenceList = library-difference;
+      libraryReadContent = library-read;
+      libraryWriteContent = library-write;
+      libraryReadPicture = library-read-picture;
+      libraryWritePicture = library-write-picture;
     }

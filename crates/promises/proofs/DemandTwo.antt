@@ -1,169 +1,30 @@
--- Demand 2, on a page: "Storage, access, flips, shifts, register logic and resolver follow Batcher's published rules as document 01 states them. What is stored under one mode reads, under each of the 256 modes, as from an unscrambled table. Pictures, lists and items come back from disk as they were written."
--- The names are those of specs/. `Memory`, `Network` and `Logic` say what the parts do; `Acts` that an instruction does this and nothing else, by its source and its kind; `Runs` that a run is all of its instructions, one after the other, and so that `run`, which promises `ran`, does it; `Returns` is the disk. Assumes nothing.
+-- Demand 2 of specs/DemandTwo.antt: the laws that prove its fields. Assumes nothing.
 use mathlib.Core.Path.{_≡_, refl, sym, ap, _∙_}
-use mathlib.Core.Bool.{true, cond}
-use mathlib.Core.List.{List, _∷_}
-use mathlib.Core.Logic.{_⊎_, _≢_}
-use Prim.Native.Nat.{ℕ, suc, _+_, _*_, _/_, _%_, _^_, _<_, _≤_}
-use lib.Dec.{eqb}
-use lib.ListN.{length, take, replicate}
-use Rattle.bits.specs.Bits.{bitOf, item}
+use mathlib.Core.List.{List}
+use Prim.Native.Nat.{ℕ, _/_, _%_, _<_}
+use lib.ListN.{length}
+use Rattle.bits.specs.Bits.{bitOf}
 use Rattle.bits.proofs.Items.{bitOf-bit}
-use Rattle.memory.specs.Access.{wordAt, readBit}
-use Rattle.memory.specs.Table.{table, lineBit, lineWord, Updated}
-use Rattle.memory.specs.Memory.{cell, stored, every, maskOf}
+use Rattle.memory.specs.Memory.{cell}
 use Rattle.memory.proofs.AccessLaws.{table-storage}
 use Rattle.memory.proofs.TableDemand.{load-reads, distinct-lines, store-updates-table, store-then-load}
-use Rattle.network.specs.Shifts.{permitted}
 use Rattle.network.specs.Pass.{moved}
-use Rattle.network.specs.Wired.{wired, wiredItem}
-use Rattle.network.specs.Answer.{passedItem}
 use Rattle.network.proofs.PassLaws.{moved-onto, moved-injective, passed-at}
 use Rattle.network.proofs.Agreement.{agree, agree-item}
 use Rattle.network.proofs.TableRules.{none-permitted, pair-permitted, permitted-pair, shift}
 use Rattle.network.proofs.AnswerLaws.{passedItem-is}
 use Rattle.registers.specs.declared.Registers.{Registers}
-use Rattle.registers.specs.Rows.{registersOf, bytesOf, withM}
-use Rattle.registers.specs.Logic.{functionBit, newX, newY, logicOf}
-use Rattle.registers.specs.Resolver.{resolved}
+use Rattle.registers.specs.Rows.{registersOf, bytesOf}
+use Rattle.registers.specs.Logic.{logicOf}
 use Rattle.registers.proofs.LogicLaws.{logic-X, logic-Y, choice-X, choice-Y}
 use Rattle.registers.proofs.ResolverLaws.{resolved-first, resolved-none}
-use Rattle.judge.specs.declared.Instruction.{Instruction}
 use Rattle.judge.specs.declared.Answer.{Answer}
-use Rattle.judge.specs.Judge.{instructionAt, takes, gives, done, judged}
-use Rattle.module.specs.Act.{State, partAt, putPart, passedBy, acted}
-use Rattle.module.specs.Run.{begun, ranBy, ran}
+use Rattle.judge.specs.Judge.{judged}
+use Rattle.module.specs.Run.{begun, ranBy}
 use Rattle.module.proofs.ActLaws.{passed-source, acted-kind}
 use Rattle.module.proofs.RunLaws.{run-accepted, ran-done, ran-refused}
-use Rattle.blocks.specs.Sums.{at}
-use Rattle.files.specs.File.{done as put}
-use Rattle.files.specs.Content.{over}
-use Rattle.disk.specs.Entries.{contentAnswer, contentTarget, contentWritten, contentOut, pictureAnswer, pictureMemory, pictureRegisters, pictureWritten, pictureOut}
 use Rattle.disk.proofs.RoundTripDemand.{content-back, content-again, picture-back, picture-again}
-
--- ---- storage, access, and the unscrambled table
-
-pub record Memory : Type 0 where
-  -- "Location B of chip C holds bit B of word B xor C."
-  pub storage : (mem : List ℕ) (c b : ℕ) → table (cell mem) (wordAt b c) b ≡ cell mem c b
-  -- under mode M and address G, "line P meets bit ((not M) and G) xor (M and P) of word (M and G) xor ((not M) and P)", and no two lines meet one bit
-  pub access : (mem : List ℕ) (m g : ℕ) → m < 256 → g < 256
-      → item (readBit (cell mem) m g) ≡ item (λ p. table (cell mem) (lineWord 8 m g p) (lineBit 8 m g p))
-  pub distinct : (m g p q : ℕ) → m < 256 → g < 256 → p < 256 → q < 256
-      → lineWord 8 m g p ≡ lineWord 8 m g q → lineBit 8 m g p ≡ lineBit 8 m g q → p ≡ q
-  -- a store of the item l updates the table where the lines point whose mask bit is 1, and nowhere else
-  pub stores : (mem l : List ℕ) (m g : ℕ) (mask : ℕ → ℕ) → m < 256 → g < 256
-      → Updated 8 m g mask (bitOf l) (table (cell mem)) (table (cell (stored mem m g mask (bitOf l))))
-  -- "What is stored under one mode reads, under each of the 256 modes, as from an unscrambled table": whatever table is the updated one
-  pub everyMode : (mem l : List ℕ) (m g : ℕ) (mask : ℕ → ℕ) → m < 256 → g < 256
-      → (t : ℕ → ℕ → ℕ) → Updated 8 m g mask (bitOf l) (table (cell mem)) t → (m′ g′ : ℕ) → m′ < 256 → g′ < 256
-      → item (readBit (cell (stored mem m g mask (bitOf l))) m′ g′) ≡ item (λ p. t (lineWord 8 m′ g′ p) (lineBit 8 m′ g′ p))
-
--- ---- flips and shifts
-
-pub record Network : Type 0 where
-  -- the shifts of 2^m modulo 2^p are those with 0 ≤ m < p ≤ 8, and none
-  pub none : permitted 0 ≡ true
-  pub shifts : (p m : ℕ) → m < p → p ≤ 8 → permitted (16 * p + m) ≡ true
-  pub noOthers : (c : ℕ) → c < 256 → permitted c ≡ true → (c ≡ 0) ⊎ ((c % 16 < c / 16) × (c / 16 ≤ 8))
-  -- a pass takes the bit of line I to the line where flip and shift move I; no two lines meet, and each line is reached
-  pub moves : (l : List ℕ) (f c i : ℕ) → f < 256 → c < 256 → permitted c ≡ true → i < 256
-      → bitOf (passedItem l f c) (moved f (c / 16) (c % 16) i) ≡ bitOf l i
-  pub apart : (f c i j : ℕ) → c < 256 → permitted c ≡ true → moved f (c / 16) (c % 16) i ≡ moved f (c / 16) (c % 16) j → i ≡ j
-  pub reaches : (f c k : ℕ) → f < 256 → c < 256 → permitted c ≡ true → k < 256 → (i : ℕ) × (i < 256) × (moved f (c / 16) (c % 16) i ≡ k)
-  -- "The wired form must also be there and agree": line by line over the number of levels, so for 3 and 8, and for an item
-  pub wiredLine : (n f p m i : ℕ) → p ≤ n → f < 2 ^ n → i < 2 ^ n → wired n f p m i ≡ moved f p m i
-  pub wiredPass : (l : List ℕ) (f c : ℕ) → f < 256 → c < 256 → permitted c ≡ true → wiredItem 8 f (c / 16) (c % 16) l ≡ passedItem l f c
-
--- ---- logic and the resolver
-
--- The function n, by choice: "function bit 2r+f is the new register bit for old bit r and passed bit f".
-pub record Choices (n x y f : ℕ) : Type 0 where
-  -- "Choice 0: X"
-  pub zeroth : (newX (16 * 0 + n) x y f ≡ functionBit n x f) × (newY (16 * 0 + n) y f ≡ y)
-  -- "1: Y"
-  pub first : (newX (16 * 1 + n) x y f ≡ x) × (newY (16 * 1 + n) y f ≡ functionBit n y f)
-  -- "2: both"
-  pub second : (newX (16 * 2 + n) x y f ≡ functionBit n x f) × (newY (16 * 2 + n) y f ≡ functionBit n y f)
-  -- "3: X where Y is 1"
-  pub third : (newX (16 * 3 + n) x y f ≡ cond (eqb y 1) (functionBit n x f) x) × (newY (16 * 3 + n) y f ≡ y)
-  -- "4: X where the old Y is 1, and Y everywhere"
-  pub fourth : (newX (16 * 4 + n) x y f ≡ cond (eqb y 1) (functionBit n x f) x) × (newY (16 * 4 + n) y f ≡ functionBit n y f)
-
-pub record Logic : Type 0 where
-  pub choices : (n x y f : ℕ) → n < 16 → Choices n x y f
-  -- each line by itself, and "all read the old state"; M stays
-  pub lineX : (r : Registers) (l : List ℕ) (t k : ℕ) → k < 256 → bitOf (logicOf r l t .x) k ≡ newX t (bitOf (r .x) k) (bitOf (r .y) k) (bitOf l k)
-  pub lineY : (r : Registers) (l : List ℕ) (t k : ℕ) → k < 256 → bitOf (logicOf r l t .y) k ≡ newY t (bitOf (r .y) k) (bitOf l k)
-  pub keepsM : (r : Registers) (l : List ℕ) (t : ℕ) → logicOf r l t .m ≡ r .m
-  -- "1 if any Y bit is set, else 0; the smallest set Y number, 0 if none; thirty zeros"
-  pub resolves : (y : ℕ → ℕ) (k : ℕ) → k < 256 → y k ≡ 1 → ((j : ℕ) → j < k → y j ≢ 1) → resolved y ≡ 1 ∷ k ∷ replicate 30 0
-  pub resolvesNone : (y : ℕ → ℕ) → ((k : ℕ) → k < 256 → y k ≢ 1) → resolved y ≡ replicate 32 0
-
--- ---- an instruction
-
--- "The source item, unscrambled if from memory, makes one pass": what instruction i has of the memory, the items, the registers and the count of items taken.
-pub record Sources (i : Instruction) (mem items : List ℕ) (r : Registers) (taken : ℕ) : Type 0 where
-  pub fromMemory : i .source ≡ 0 → passedBy i mem items r taken ≡ passedItem (item (readBit (cell mem) (i .mode) (i .addr))) (i .flip) (i .code)
-  pub fromM : i .source ≡ 1 → passedBy i mem items r taken ≡ passedItem (r .m) (i .flip) (i .code)
-  pub fromX : i .source ≡ 2 → passedBy i mem items r taken ≡ passedItem (r .x) (i .flip) (i .code)
-  pub fromY : i .source ≡ 3 → passedBy i mem items r taken ≡ passedItem (r .y) (i .flip) (i .code)
-  pub fromOutside : i .source ≡ 4 → passedBy i mem items r taken ≡ passedItem (partAt items taken) (i .flip) (i .code)
-
--- The state s with this memory, out buffer and register record, and with what i takes and gives counted.
-abbrev left : Instruction → State → List ℕ → List ℕ → Registers → State
-left i s mem out regs = record { mem = mem; out = out; regs = regs; taken = s .taken + cond (takes i) 1 0; given = s .given + cond (gives i) 1 0 }
-
--- What instruction i, whose passed item is f, leaves of the state s, by its kind.
-pub record Acts (i : Instruction) (items f : List ℕ) (s : State) : Type 0 where
-  pub logic : i .kind ≡ 0 → acted i items s ≡ left i s (s .mem) (s .out) (logicOf (s .regs) f (i .logic))
-  pub setM : i .kind ≡ 1 → acted i items s ≡ left i s (s .mem) (s .out) (withM (s .regs) f)
-  pub store : i .kind ≡ 2 → acted i items s ≡ left i s (stored (s .mem) (i .mode) (i .addr) every (bitOf f)) (s .out) (s .regs)
-  pub maskedStore : i .kind ≡ 3 → acted i items s ≡ left i s (stored (s .mem) (i .mode) (i .addr) (maskOf (s .regs .m) (i .flip)) (bitOf f)) (s .out) (s .regs)
-  pub deliver : i .kind ≡ 4 → acted i items s ≡ left i s (s .mem) (putPart (s .out) (s .given) f) (s .regs)
-  pub resolve : i .kind ≡ 5 → acted i items s ≡ left i s (s .mem) (putPart (s .out) (s .given) (resolved (bitOf (s .regs .y)))) (s .regs)
-
--- ---- a run
-
--- Judged whole; then refused, and every buffer as it was, or each instruction of the list in turn.
-pub record Runs (mem regs list items out : List ℕ) : Type 0 where
-  pub refused : judged (length mem) (length regs) list (length items) (length out) .number ≢ 0
-      → ran mem regs list items out ≡ record { mem = mem; regs = regs; out = out; answer = judged (length mem) (length regs) list (length items) (length out) }
-  pub accepted : judged (length mem) (length regs) list (length items) (length out) .number ≡ 0
-      → (let s = ranBy list items (begun mem out (registersOf regs)) (length list / 8) in
-      ran mem regs list items out ≡ record { mem = s .mem; regs = bytesOf (s .regs); out = s .out; answer = done list })
-  pub before : (s : State) → ranBy list items s 0 ≡ s
-  pub oneMore : (s : State) (n : ℕ) → ranBy list items s (suc n) ≡ acted (instructionAt list n) items (ranBy list items s n)
-
--- ---- the disk
-
--- "Pictures, lists and items come back from disk as they were written", and a file that is read and written again is the same bytes.
-pub record Returns : Type 0 where
-  pub content : (kind : ℕ) (content out target : List ℕ) → contentWritten kind content out .number ≡ 0 → length content ≤ length target
-      → (let file = take (contentWritten kind content out .bytes) (contentOut kind content out) in
-      (contentAnswer kind file target ≡ put (length content)) × (contentTarget kind file target ≡ over content target))
-  pub contentAgain : (kind : ℕ) (bytes target out : List ℕ) → ((k : ℕ) → at bytes k < 256) → contentAnswer kind bytes target .number ≡ 0 → length bytes ≤ length out
-      → (let content = take (contentAnswer kind bytes target .bytes) (contentTarget kind bytes target) in
-      (contentWritten kind content out ≡ put (length bytes)) × (contentOut kind content out ≡ over bytes out))
-  pub picture : (kind : ℕ) (memory registers out memory′ registers′ : List ℕ) → ((k : ℕ) → at memory k < 256) → pictureWritten kind memory registers out .number ≡ 0
-      → length memory′ ≡ 8192 → length registers′ ≡ 96
-      → (let file = take (pictureWritten kind memory registers out .bytes) (pictureOut kind memory registers out) in
-      (pictureAnswer 1 file memory′ registers′ ≡ put 8288) × (pictureMemory 1 file memory′ registers′ ≡ memory) × (pictureRegisters 1 file memory′ registers′ ≡ registers))
-  pub pictureAgain : (kind : ℕ) (bytes memory registers out : List ℕ) → ((k : ℕ) → at bytes k < 256) → pictureAnswer kind bytes memory registers .number ≡ 0 → length bytes ≤ length out
-      → (let memory′ = pictureMemory kind bytes memory registers in
-      let registers′ = pictureRegisters kind bytes memory registers in
-      (pictureWritten 1 memory′ registers′ out ≡ put (length bytes)) × (pictureOut 1 memory′ registers′ out ≡ over bytes out))
-
--- ---- the demand
-
-pub record DemandTwo : Type 0 where
-  pub memory : Memory
-  pub network : Network
-  pub registers : Logic
-  pub sources : (i : Instruction) (mem items : List ℕ) (r : Registers) (taken : ℕ) → Sources i mem items r taken
-  pub acts : (i : Instruction) (items : List ℕ) (s : State) → Acts i items (passedBy i (s .mem) items (s .regs) (s .taken)) s
-  pub runs : (mem regs list items out : List ℕ) → Runs mem regs list items out
-  pub disk : Returns
+use Rattle.promises.specs.DemandTwo.{Choices, Runs, DemandTwo}
 
 chosen : (n x y f : ℕ) → n < 16 → Choices n x y f
 chosen n x y f h =

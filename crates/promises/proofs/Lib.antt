@@ -1,7 +1,7 @@
--- The pages: what is promised, each in a file of its own.
+-- The proofs of the pages of specs/, each in a file of the page's name.
+pub mod Clauses
 pub mod DemandOne
 pub mod DemandTwo
 pub mod DemandThree
 pub mod Examples
 pub mod Uniqueness
-pub mod Clauses

@@ -1,1 +1,1 @@
-// The three demands, each stated on a page of its own in names that specs/ defines, with proofs that cite the laws; the starred examples as one table; and that each contract leaves one outcome: theory alone.
+// The pages: the three demands, the starred examples as one table, and that each contract leaves one outcome, stated in specs/ in names that the crates define and proved in proofs/ by their laws: theory alone.

@@ -1,0 +1,101 @@
+-- The promises of the public entries: the clauses of each contract as types, in the source's words, the buffers at entry first and those at exit, primed, and the answer behind them. proofs/Clauses.antt shows that they are the contracts' own, and that no such contract has a `requires`; the page of demand 1 starts from them.
+use mathlib.Core.Path.{_≡_}
+use mathlib.Core.List.{List}
+use Prim.Native.Nat.{ℕ}
+use lib.ListN.{length, drop}
+use Rattle.network.specs.declared.Passed.{Passed}
+use Rattle.network.specs.Answer.{answer}
+use Rattle.registers.specs.declared.Registers.{Registers}
+use Rattle.judge.specs.declared.Answer.{Answer}
+use Rattle.module.specs.Run.{Left, ran, Updated, stepped}
+use Rattle.lists.specs.declared.Built.{Built}
+use Rattle.lists.specs.Fields.{sumBuilt, differenceBuilt, Left as Buffer}
+use Rattle.files.specs.declared.Answer.{Answer as Moved}
+use Rattle.files.specs.File.{contentOf, blocksOf}
+use Rattle.files.specs.Content.{readAnswer, writeAnswer, changed, over, targetFits, contentFits}
+use Rattle.disk.specs.Picture.{pictureOf, scrambled, pictureFits}
+use Rattle.staran.specs.Left.{RunLeft, runLeft, StepLeft, stepLeft, PassLeft, passLeft, BufferLeft, PictureLeft, readPictureLeft}
+
+-- ---- the array
+
+-- `module::run`
+abbrev pub Run : (mem regs list items out mem′ regs′ out′ : List ℕ) → Answer → Type 0
+Run mem regs list items out mem′ regs′ out′ a = _≡_ {A = Left} (record { mem = mem′; regs = regs′; out = out′; answer = a }) (ran mem regs list items out)
+
+-- `module::step` on the record that it is lent, and `module::advance` on one by value
+abbrev pub Step : (mem : List ℕ) → Registers → (instruction items out mem′ : List ℕ) → Registers → (out′ : List ℕ) → Answer → Type 0
+Step mem r instruction items out mem′ r′ out′ a = _≡_ {A = Updated} (record { mem = mem′; regs = r′; out = out′; answer = a }) (stepped mem r instruction items out)
+
+-- ---- the network
+
+-- `network::pass` and `network::wired_pass`
+abbrev pub Pass : (lines : List ℕ) (flip code : ℕ) → Passed → Type 0
+Pass lines flip code r = r ≡ answer lines flip code
+
+-- ---- lists
+
+-- `lists::sum_list`
+abbrev pub SumList : (a b s n : ℕ) (list list′ : List ℕ) → Built → Type 0
+SumList a b s n list list′ r = _≡_ {A = Buffer} (record { answer = r; list = list′ }) (sumBuilt a b s n list)
+
+-- `lists::difference_list`
+abbrev pub DifferenceList : (a b s n : ℕ) (list list′ : List ℕ) → Built → Type 0
+DifferenceList a b s n list list′ r = _≡_ {A = Buffer} (record { answer = r; list = list′ }) (differenceBuilt a b s n list)
+
+-- ---- the disk: the answer's clause, and one for each target
+
+-- `disk::read_content`
+abbrev pub ReadContent-answer : (kind : ℕ) (bytes target : List ℕ) → Moved → Type 0
+ReadContent-answer kind bytes target r = r ≡ readAnswer kind bytes (targetFits kind bytes target)
+
+abbrev pub ReadContent-target : (bytes target target′ : List ℕ) → Moved → Type 0
+ReadContent-target bytes target target′ r = target′ ≡ changed r (over (contentOf bytes) target) target
+
+-- `disk::write_content`
+abbrev pub WriteContent-answer : (kind : ℕ) (content out : List ℕ) → Moved → Type 0
+WriteContent-answer kind content out r = r ≡ writeAnswer kind (contentFits kind content) (length content) (length out)
+
+abbrev pub WriteContent-out : (kind : ℕ) (content out out′ : List ℕ) → Moved → Type 0
+WriteContent-out kind content out out′ r = out′ ≡ changed r (over (blocksOf kind content) out) out
+
+-- `disk::read_picture`
+abbrev pub ReadPicture-answer : (kind : ℕ) (bytes memory registers : List ℕ) → Moved → Type 0
+ReadPicture-answer kind bytes memory registers r = r ≡ readAnswer kind bytes (pictureFits kind (length memory) (length registers))
+
+abbrev pub ReadPicture-memory : (bytes memory memory′ : List ℕ) → Moved → Type 0
+ReadPicture-memory bytes memory memory′ r = memory′ ≡ changed r (scrambled (contentOf bytes)) memory
+
+abbrev pub ReadPicture-registers : (bytes registers registers′ : List ℕ) → Moved → Type 0
+ReadPicture-registers bytes registers registers′ r = registers′ ≡ changed r (drop 8192 (contentOf bytes)) registers
+
+-- `disk::write_picture`
+abbrev pub WritePicture-answer : (kind : ℕ) (memory registers out : List ℕ) → Moved → Type 0
+WritePicture-answer kind memory registers out r = r ≡ writeAnswer kind (pictureFits kind (length memory) (length registers)) 8288 (length out)
+
+abbrev pub WritePicture-out : (kind : ℕ) (memory registers out out′ : List ℕ) → Moved → Type 0
+WritePicture-out kind memory registers out out′ r = out′ ≡ changed r (over (blocksOf kind (pictureOf memory registers)) out) out
+
+-- ---- the library for C: each contract is one equation of all that a function leaves, its answer's numbers included
+
+-- `staran_run`
+abbrev pub LibraryRun : (memory registers list items out memory′ registers′ out′ answer′ : List ℕ) → Type 0
+LibraryRun memory registers list items out memory′ registers′ out′ answer′ =
+    _≡_ {A = RunLeft} (record { memory = memory′; registers = registers′; out = out′; answer = answer′ }) (runLeft memory registers list items out)
+
+-- `staran_step`
+abbrev pub LibraryStep : (memory : List ℕ) → Registers → (items out instruction memory′ : List ℕ) → Registers → (out′ answer′ : List ℕ) → Type 0
+LibraryStep memory r items out instruction memory′ r′ out′ answer′ =
+    _≡_ {A = StepLeft} (record { memory = memory′; registers = r′; out = out′; answer = answer′ }) (stepLeft memory r items out instruction)
+
+-- `staran_pass` and `staran_wired_pass`
+abbrev pub LibraryPass : (item : List ℕ) (flip code : ℕ) (passed′ answer′ : List ℕ) → Type 0
+LibraryPass item flip code passed′ answer′ = _≡_ {A = PassLeft} (record { passed = passed′; answer = answer′ }) (passLeft item flip code)
+
+-- `staran_sum_list`, `staran_difference_list`, `staran_read_content`, `staran_write_content` and `staran_write_picture`, which write one buffer: l is what the function leaves
+abbrev pub LibraryBuffer : BufferLeft → (buffer′ answer′ : List ℕ) → Type 0
+LibraryBuffer l buffer′ answer′ = _≡_ {A = BufferLeft} (record { buffer = buffer′; answer = answer′ }) l
+
+-- `staran_read_picture`
+abbrev pub LibraryReadPicture : (kind : ℕ) (bytes memory registers memory′ registers′ answer′ : List ℕ) → Type 0
+LibraryReadPicture kind bytes memory registers memory′ registers′ answer′ =
+    _≡_ {A = PictureLeft} (record { memory = memory′; registers = registers′; answer = answer′ }) (readPictureLeft kind bytes memory registers)

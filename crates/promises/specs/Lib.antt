@@ -1,0 +1,7 @@
+-- The pages: what is promised, each in a file of its own. proofs/ has a file of the same name for each.
+pub mod Clauses
+pub mod DemandOne
+pub mod DemandTwo
+pub mod DemandThree
+pub mod Examples
+pub mod Uniqueness
