@@ -108,3 +108,13 @@ int as_expected(int k)
 {
     return memcmp(buffers[k].bytes, buffers[k].expected, buffers[k].length) == 0;
 }
+
+static void set_rooms(int protection)
+{
+    for (int k = 0; k < BUFFERS; k++)
+        if (k != ANSWER && mprotect(buffers[k].room, buffers[k].room_length, protection) != 0)
+            must(NULL);
+}
+
+void shut_rooms(void) { set_rooms(PROT_READ); }
+void open_rooms(void) { set_rooms(PROT_READ | PROT_WRITE); }

@@ -37,6 +37,10 @@ void lend_bytes(int k, const uint8_t *bytes, size_t length, int end);
 /* Lends an answer of `count` numbers, each poisoned. */
 uint32_t *lend_answer(size_t count, int end);
 
+/* Every room but the answer's can be read and not written, from here to `open_rooms`. */
+void shut_rooms(void);
+void open_rooms(void);
+
 /* Are the guard bytes of buffer k as they were, and does the buffer hold what is expected? */
 int guarded(int k);
 int as_expected(int k);

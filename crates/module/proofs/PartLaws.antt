@@ -4,7 +4,7 @@ use mathlib.Core.List.{List, [], _++_, append-assoc, append-nil}
 use Prim.Native.Nat.{ℕ, _+_, _-_, _*_}
 use native.Mathlib.Nat.{le-of-eq}
 use native.Mathlib.Omega.{arith}
-use lib.ListN.{length, take, drop, length-append, length-drop, drop-of-length-le}
+use lib.ListN.{length, take, drop, length-append, length-drop, drop-of-length-le, take-append-drop}
 use lib.Seq.{take-at, drop-at, take-all, drop-drop}
 use borrow.Rule.Slice.PartMut.{putMid, post-is}
 use Rattle.registers.specs.declared.Registers.{Registers}
@@ -53,6 +53,13 @@ registers-bytes r hm hx hy =
       x = (ap (take 32) e ∙ take-at (r .x) (r .y) 32 hx) j;
       y = (ap (take 32) d ∙ take-all 32 (r .y) (le-of-eq hy)) j;
     }
+
+-- and 96 bytes from their record
+pub bytes-registers : (l : List ℕ) → length l ≡ 96 → bytesOf (registersOf l) ≡ l
+bytes-registers l h =
+    ap (λ (z : List ℕ). take 32 l ++ (take 32 (drop 32 l) ++ z)) (take-all 32 (drop 64 l) (simp length-drop (omega arith)) ∙ sym (drop-drop 32 32 l))
+    ∙ ap (λ (z : List ℕ). take 32 l ++ z) (take-append-drop 32 (drop 32 l))
+    ∙ take-append-drop 32 l
 
 pub length-bytes : (r : Registers) → length (r .m) ≡ 32 → length (r .x) ≡ 32 → length (r .y) ≡ 32 → length (bytesOf r) ≡ 96
 length-bytes r hm hx hy = length-append (r .m) (r .x ++ r .y) ∙ ap₂ (λ (x y : ℕ). x + y) hm (length-append (r .x) (r .y) ∙ ap₂ (λ (x y : ℕ). x + y) hx hy)

@@ -17,9 +17,11 @@ use Rattle.judge.specs.declared.Answer.{Answer}
 use Rattle.judge.specs.Judge.{instructionAt, faultOf, takes, gives, judged}
 use Rattle.judge.specs.Steps.{Accepted}
 use Rattle.judge.proofs.Accepted.{accepted-done}
+use Rattle.judge.proofs.Table.{refusal-counts}
 use Rattle.module.specs.Act.{State, acted}
 use Rattle.module.specs.Ready.{Ready}
 use Rattle.module.specs.Run.{begun, ranBy, Left, ran}
+use Rattle.module.proofs.PartLaws.{bytes-registers}
 
 -- how many of the first k instructions want one
 abbrev pub usedBy : (Instruction → Bool) → List ℕ → ℕ → ℕ
@@ -86,6 +88,27 @@ module _ (mem regs list items out : List ℕ) (a : Answer) (judge : a ≡ judged
   ran-refused h =
       ap (λ (b : Answer). record { mem = mem; regs = regs; out = out; answer = b }) judge
       ∙ simp (ne-eqb _ _ (λ q. h (ap (λ (x : Answer). x .number) judge ∙ q)))
+
+  -- a run that has steps is done
+  pub steps-done : (a .steps ≡ 0 → ⊥) → a .number ≡ 0
+  steps-done u = go (ℕ-discrete (a .number) 0)
+    where
+      go : Dec (a .number ≡ 0) → a .number ≡ 0
+      go (yes z) = z
+      go (no v) =
+          absurd (u (ap (λ (x : Answer). x .steps) (judge ∙ refusal-counts (length mem) (length regs) list (length items) (length out) (λ z. v (ap (λ (x : Answer). x .number) judge ∙ z)))))
+
+  -- and one that has none leaves every buffer: it is refused, or its list is empty
+  pub ran-still : a .steps ≡ 0 → _≡_ {A = Left} (record { mem = mem; regs = regs; out = out; answer = a }) (ran mem regs list items out)
+  unfolding ranBy
+  ran-still z = go (ℕ-discrete (a .number) 0)
+    where
+      go : Dec (a .number ≡ 0) → _≡_ {A = Left} (record { mem = mem; regs = regs; out = out; answer = a }) (ran mem regs list items out)
+      go (no u) = ran-refused u
+      go (yes e) =
+          let none : 0 ≡ length list / 8 = sym z ∙ ap (λ (x : Answer). x .steps) (judge ∙ run-accepted e .answer) in
+          let start : State = begun mem out (registersOf regs) in
+          ran-done e (registersOf regs) start regs refl (ap (ranBy list items start) none) (sym (bytes-registers regs (run-accepted e .registers)))
 
 -- the answer is the judge's, of the lengths and the list alone
 pub ran-answer : (mem regs list items out : List ℕ) → ran mem regs list items out .answer ≡ judged (length mem) (length regs) list (length items) (length out)

@@ -41,12 +41,12 @@ fn run_list(mem: &mut [u8], out: &mut [u8], items: &[u8], list: &[u8], r: Regist
     }
 }
 
-// A run: the whole list is judged before its first instruction acts, and nothing moves where it is refused.
+// A run: the whole list is judged before its first instruction acts. Where it is refused, or there is no instruction, it has no steps, and nothing is written, not even the same bytes.
 pub fn run(mem: &mut [u8], regs: &mut [u8], list: &[u8], items: &[u8], out: &mut [u8]) -> Answer
     ensures { λ a. ⌜ record { mem = now (mem .exit); regs = now (regs .exit); out = now (out .exit); answer = a } ≡ ran (now (mem .entry)) (now (regs .entry)) (now (list .entry)) (now (items .entry)) (now (out .entry)) ⌝ }
 {
     let verdict = judge::judge(mem.len(), regs.len(), list, items.len(), out.len());
-    if verdict.number == 0 {
+    if verdict.steps != 0 {
         let r = parts::registers_of(regs);
         let d = run_list(mem, out, items, list, r);
         let t = d.regs;

@@ -2,7 +2,7 @@
 ghost use Prim.Native.Nat.{_<_, _≤_};
 
 // `n`, or `most` where that is less.
-pub fn clamp(n: usize, most: usize) -> usize
+pub(crate) fn clamp(n: usize, most: usize) -> usize
     ensures { λ r. ⌜ r ≤ most ⌝ }
 {
     if n < most { n } else { most }
@@ -26,7 +26,7 @@ fn drawn(x: u32, zeros: bool) -> u8 {
 }
 
 // The buffer filled from the generator at `x`, or with zeros; answers the generator's number afterwards.
-pub fn fill(buffer: &mut [u8], x: u32, zeros: bool) -> u32 {
+pub(crate) fn fill(buffer: &mut [u8], x: u32, zeros: bool) -> u32 {
     let mut now = x;
     let mut i: usize = 0;
     while i < buffer.len() {
@@ -106,7 +106,7 @@ fn shape_one(part: &mut [u8], which: u8) {
 }
 
 // Every whole instruction of a list made good; shape 0 leaves the list as it is.
-pub fn shape(list: &mut [u8], which: u8) {
+pub(crate) fn shape(list: &mut [u8], which: u8) {
     if which == 0 {
         return;
     }
@@ -156,7 +156,7 @@ fn seal_block(block: &mut [u8]) {
 }
 
 // The file's block of this number sealed, where it has one.
-pub fn seal(file: &mut [u8], number: usize) {
+pub(crate) fn seal(file: &mut [u8], number: usize) {
     if number < 100 {
         if 512 * number + 512 <= file.len() {
             seal_block(&mut file[512 * number..512 * number + 512]);
@@ -206,7 +206,7 @@ fn used_by(n: usize, count: usize, used: usize) -> usize
 }
 
 // Every whole block of a file made good, the last using `used` bytes.
-pub fn format(file: &mut [u8], kind: usize, used: usize)
+pub(crate) fn format(file: &mut [u8], kind: usize, used: usize)
     requires { ⌜ used < 65536 ⌝ }
 {
     let count = file.len() / 512;
@@ -228,7 +228,7 @@ fn put(buffer: &mut [u8], to: usize, record: &[u8], from: usize) {
 }
 
 // `n` bytes of the record from `from` on, put into the buffer at `to`, where both have room.
-pub fn patch(buffer: &mut [u8], to: usize, record: &[u8], from: usize, n: usize)
+pub(crate) fn patch(buffer: &mut [u8], to: usize, record: &[u8], from: usize, n: usize)
     requires { ⌜ (to < 65536) × (from < 1000) × (n < 256) ⌝ }
 {
     let mut i: usize = 0;
@@ -253,7 +253,7 @@ fn second(d: u32, x: u8) -> u32
 }
 
 // Two remainders to primes, under which a single changed byte shows.
-pub fn digest(buffer: &[u8]) -> u32 {
+pub(crate) fn digest(buffer: &[u8]) -> u32 {
     let mut d1: u32 = 1;
     let mut d2: u32 = 1;
     let mut i: usize = 0;

@@ -218,7 +218,7 @@ fn call_module(
 }
 
 // The entry that the case names.
-pub fn call(
+pub(crate) fn call(
     record: &[u8],
     memory: &mut [u8],
     registers: &mut [u8],

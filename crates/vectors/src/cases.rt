@@ -152,7 +152,7 @@ fn case(
 }
 
 // One case on the first bytes of large buffers, as many as it says.
-pub fn run_case(
+pub(crate) fn run_case(
     record: &[u8],
     memory: &mut [u8],
     registers: &mut [u8],

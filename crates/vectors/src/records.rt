@@ -77,7 +77,7 @@ fn read_rest(record: &mut [u8]) {
 }
 
 // The next line of standard input put into the record. Is there one?
-pub fn read_record(record: &mut [u8]) -> bool {
+pub(crate) fn read_record(record: &mut [u8]) -> bool {
     let first = next_byte();
     if first == 10 {
         return false;
@@ -88,12 +88,12 @@ pub fn read_record(record: &mut [u8]) -> bool {
 }
 
 // The record's byte at `at`, or 0 behind its end.
-pub fn byte(record: &[u8], at: usize) -> u8 {
+pub(crate) fn byte(record: &[u8], at: usize) -> u8 {
     if at < record.len() { record[at] } else { 0 }
 }
 
 // The number of two bytes, low byte first, or 0 where they do not stand in the record.
-pub fn half(record: &[u8], at: usize) -> usize
+pub(crate) fn half(record: &[u8], at: usize) -> usize
     requires { ⌜ at < 1000 ⌝ }
     ensures { λ r. ⌜ r < 65536 ⌝ }
 {
@@ -105,7 +105,7 @@ pub fn half(record: &[u8], at: usize) -> usize
 }
 
 // The number of four bytes, low byte first.
-pub fn word(record: &[u8], at: usize) -> u32
+pub(crate) fn word(record: &[u8], at: usize) -> u32
     requires { ⌜ at < 900 ⌝ }
 {
     (half(record, at) as u32) + 65536 * (half(record, at + 2) as u32)
@@ -134,7 +134,7 @@ fn put_word(text: &mut [u8], at: usize, x: u32)
 }
 
 // The answer's line: eight hex digits for each number, a space between them, and a line feed.
-pub fn answer_line(answer: Words) -> [u8; 99] {
+pub(crate) fn answer_line(answer: Words) -> [u8; 99] {
     let mut text = [32u8; 99];
     let mut k: usize = 0;
     while k < 11 {
