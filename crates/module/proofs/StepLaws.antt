@@ -48,6 +48,23 @@ stepped-answer mem r instruction items out = go (ℕ-discrete (a .number) 0)
         sym (ap (λ (l : Updated). l .answer) (stepped-done mem r instruction items out a refl z (ranBy instruction items (begun mem out r) (length instruction / 8)) refl))
     go (no u) = sym (ap (λ (l : Updated). l .answer) (stepped-refused mem r instruction items out a refl u))
 
+-- a record that is stored only where the answer is done is the step's: a refused step leaves it
+pub stored-if-done : (mem : List ℕ) (r : Registers) (instruction items out : List ℕ) (u : Updated) → u ≡ stepped mem r instruction items out
+    → _≡_ {A = Updated} (record { mem = u .mem; regs = cond (eqb (u .answer .number) 0) (u .regs) r; out = u .out; answer = u .answer }) (stepped mem r instruction items out)
+stored-if-done mem r instruction items out u e = ap (λ (q : Registers). record { mem = u .mem; regs = q; out = u .out; answer = u .answer }) (sym (go (ℕ-discrete (u .answer .number) 0))) ∙ e
+  where
+    a : Answer
+    a = judgedStep (length mem) instruction (length items) (length out)
+
+    same : u .answer ≡ a
+    same = ap (λ (l : Updated). l .answer) e ∙ stepped-answer mem r instruction items out
+
+    go : Dec (u .answer .number ≡ 0) → u .regs ≡ cond (eqb (u .answer .number) 0) (u .regs) r
+    go (yes z) = simp (eq-eqb _ _ z)
+    go (no n) =
+        ap (λ (l : Updated). l .regs) (e ∙ sym (stepped-refused mem r instruction items out (u .answer) same n))
+        ∙ simp (ne-eqb _ _ n)
+
 -- ---- "A step answers, refuses and leaves its buffers as a run of a list of that one instruction does."
 
 -- what a step leaves, with its record as the 96 bytes of a run

@@ -81,7 +81,7 @@ pub fn advance(
     }
 }
 
-// A step: an operator's console lends the register record and finds it updated there.
+// A step: an operator's console lends the register record and finds it updated there; a refused step writes nothing to it.
 pub fn step(
     mem: &mut [u8],
     r: &mut Registers,
@@ -93,6 +93,9 @@ pub fn step(
 {
     let old = *r;
     let done = advance(mem, out, items, old, instruction);
-    *r = done.regs;
-    done.answer
+    let a = done.answer;
+    if a.number == 0 {
+        *r = done.regs;
+    }
+    a
 }

@@ -20,6 +20,14 @@ pub fn five(a: judge::Answer) -> [u32; 5]
     ]
 }
 
+// The same five, put into the lent array: `staran_step` hands its own on to here.
+pub fn put_five(a: judge::Answer, answer: &mut [u32; 5])
+    requires { ⌜ (a .place ≤ 4096) × (a .steps ≤ 4096) × (a .taken ≤ 4096) × (a .given ≤ 4096) ⌝ }
+    ensures { λ _. ⌜ now (answer .exit) ≡ five a ⌝ }
+{
+    *answer = five(a);
+}
+
 // Number, place, bytes put out.
 pub fn three(a: Answer) -> [u32; 3]
     requires { ⌜ (a .place ≤ 67) × (a .bytes ≤ 34304) ⌝ }

@@ -23,23 +23,6 @@ pub extern "C" fn staran_run(
     *answer = answers::five(a);
 }
 
-// A step on the record by value: what `staran_step` does to the record that it is lent.
-fn advance(
-    memory: &mut [u8],
-    out: &mut [u8],
-    items: &[u8],
-    r: Registers,
-    instruction: &[u8],
-    answer: &mut [u32; 5],
-) -> Registers
-    ensures { λ s. ⌜ record { memory = now (memory .exit); registers = s; out = now (out .exit); answer = now (answer .exit) } ≡ stepLeft (now (memory .entry)) r (now (items .entry)) (now (out .entry)) (now (instruction .entry)) ⌝ }
-{
-    let done = module::advance(memory, out, items, r, instruction);
-    let a = done.answer;
-    *answer = answers::five(a);
-    done.regs
-}
-
 // A step: an operator's console lends the register record and finds it updated there.
 #[no_mangle]
 pub extern "C" fn staran_step(
@@ -52,8 +35,8 @@ pub extern "C" fn staran_step(
 )
     ensures { λ _. ⌜ record { memory = now (memory .exit); registers = now (registers .exit); out = now (out .exit); answer = now (answer .exit) } ≡ stepLeft (now (memory .entry)) (now (registers .entry)) (now (items .entry)) (now (out .entry)) (now (instruction .entry)) ⌝ }
 {
-    let old = *registers;
-    *registers = advance(memory, out, items, old, instruction, answer);
+    let a = module::step(memory, registers, items, out, instruction);
+    answers::put_five(a, answer);
 }
 
 // A pass of the network in arithmetic form.
