@@ -7,7 +7,7 @@
  * - It gives nothing back as a function. It writes its answer, numbers of 32 bits, to the array `answer` that the caller lends: every one of them on
  *   every call, whatever stood there. answer[0] is always the number: 0 (done), or the refusal from the table below.
  * - Lengths are counted in bytes. Any length and any bytes may be lent: what does not fit is refused, with a number.
- * - A refusal changes no lent byte but the answer's. (staran_pass and staran_wired_pass also give a zero item.)
+ * - A refusal writes no lent byte but the answer's, not even the same one. (staran_pass and staran_wired_pass also give a zero item.)
  * - What is done changes only what is said here to change. A buffer marked const is never written.
  * - Each pointer leads to as many bytes as its length says, or as its type says where it has no length. NO POINTER MAY BE NULL, also where its length
  *   is 0: then it may lead to any byte at all, which is not touched. `answer` is aligned as uint32_t is; bytes need no alignment.
