@@ -1,6 +1,6 @@
 /* The library for C of the STARAN array: one module of 256 words by 256 bits, with its registers, its network, lists and disk blocks.
  *
- * Build it with `rt staticlib staran`, which proves it and writes target/staticlib/libstaran.a, for x86-64. Link that file; no other is needed.
+ * Build it with `make library`, which proves it and writes target/staticlib/libstaran.a, for x86-64. Link that file; no other is needed.
  *
  * WHAT HOLDS FOR EVERY FUNCTION
  *

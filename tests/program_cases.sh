@@ -11,7 +11,7 @@ passed=0 failed=0
 die() { printf 'tests/program_cases.sh: %s\n' "$*" >&2; exit 2; }
 
 # A fresh folder with the document's example: an all-zero picture, no items, and a list of two instructions.
-fresh() { rm -rf "$work/f"; mkdir "$work/f"; cp "$here"/crates/staran_run/data/* "$work/f"; cd "$work/f" || exit 2; }
+fresh() { rm -rf "$work/f"; mkdir "$work/f"; cp "$here"/crates/program/data/* "$work/f"; cd "$work/f" || exit 2; }
 
 # Runs the program in the folder, and keeps what it says.
 run() { timeout 20 "$here/staran" "$work/f" >"$work/out" 2>"$work/err"; }
@@ -113,7 +113,7 @@ room=$work
 for name in one two; do "$compiler" -std=gnu11 -Wall -Wextra -Werror -O2 -shared -fPIC -nostdlib -DNAME="\"$name\"" -o "$work/$name.so" "$here/tests/program/pause.c" || die "tests/program/pause.c does not build"; done
 hold() { # NAME: starts a run in the folder, and comes back when it has made its new file and written nothing
     rm -f "$work/$1".{reached,go,fail}
-    (cd "$work/f" && exec ${emulator:+"$emulator"} "$loader" --library-path "$tools/lib" --preload "$work/$1.so" "$here/target/bin/staran_run" >"$work/$1.out" 2>"$work/$1.err") &
+    (cd "$work/f" && exec ${emulator:+"$emulator"} "$loader" --library-path "$tools/lib" --preload "$work/$1.so" "$here/target/bin/program" >"$work/$1.out" 2>"$work/$1.err") &
     eval "$1=$!"
     for _ in $(seq 500); do [ ! -e "$work/$1.reached" ] || return 0; sleep 0.02; done
     return 1

@@ -30,9 +30,9 @@ use Rattle.judge.specs.declared.Instruction.{Instruction}
 use Rattle.judge.specs.Judge.{instructionAt, takes}
 use Rattle.module.specs.Act.{State, partAt, held, heldItem, sourceItem, passedBy, regsAfter, memAfter, acted}
 use Rattle.module.specs.Run.{ranBy}
-use Rattle.lists.specs.Lists.{decoded}
-use Rattle.lists.specs.Word.{Word, heldBit, sourceBit, afterBit, actedWord, folded, ranWord, Each, none, more}
-use Rattle.lists.proofs.Folds.{folded-append}
+use Rattle.builders.specs.Lists.{decoded}
+use Rattle.builders.specs.Word.{Word, heldBit, sourceBit, afterBit, actedWord, folded, ranWord, Each, none, more}
+use Rattle.builders.proofs.Folds.{folded-append}
 use Rattle.fields.specs.Line.{At, wordOf, outsideAt, Local}
 
 -- ---- mode 0 is a bit slice: line p meets bit g of word p

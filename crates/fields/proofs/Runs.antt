@@ -17,11 +17,11 @@ use Rattle.module.specs.Act.{State, passedBy, acted}
 use Rattle.module.specs.Run.{begun, ran}
 use Rattle.module.proofs.ActLaws.{no-out}
 use Rattle.module.proofs.RunLaws.{ran-done}
-use Rattle.lists.specs.Lists.{encoded, decoded}
-use Rattle.lists.proofs.ListLaws.{length-encoded, decoded-encoded}
-use Rattle.lists.specs.Word.{folded, Each, none, more}
+use Rattle.builders.specs.Lists.{encoded, decoded}
+use Rattle.builders.proofs.ListLaws.{length-encoded, decoded-encoded}
+use Rattle.builders.specs.Word.{folded, Each, none, more}
 use Rattle.fields.specs.Line.{Local}
-use Rattle.lists.proofs.Folds.{each-at}
+use Rattle.builders.proofs.Folds.{each-at}
 use Rattle.fields.proofs.LineLaws.{ran-folded}
 
 -- An instruction that keeps to its line, takes and gives nothing, and that no row refuses.

@@ -11,15 +11,15 @@ use Rattle.bits.proofs.Digits.{digitsOf-lt, digitsOf-ext}
 use Rattle.bits.proofs.Items.{bitOf-bit}
 use Rattle.judge.specs.Judge.{unfit}
 use Rattle.module.specs.Run.{ran}
-use Rattle.lists.specs.declared.Built.{Built}
-use Rattle.lists.specs.Lists.{encoded}
-use Rattle.lists.specs.Fields.{sumByte, differenceByte, sumList, differenceList, Fields, Apart, listLength, fieldsFault, sumBuilt, differenceBuilt, builtWith}
-use Rattle.lists.proofs.ListLaws.{length-bits, sum-length, difference-length}
-use Rattle.lists.proofs.Refusals.{no-fault}
+use Rattle.builders.specs.declared.Built.{Built}
+use Rattle.builders.specs.Lists.{encoded}
+use Rattle.builders.specs.Fields.{sumByte, differenceByte, sumList, differenceList, Fields, Apart, listLength, fieldsFault, sumBuilt, differenceBuilt, builtWith}
+use Rattle.builders.proofs.ListLaws.{length-bits, sum-length, difference-length}
+use Rattle.builders.proofs.Refusals.{no-fault}
 use Rattle.fields.specs.Line.{outsideAt}
 use Rattle.fields.specs.Value.{wordBit, value, listOf, Bytes, Put, sumRun, differenceRun, TakenOff}
-use Rattle.lists.proofs.Carries.{turned, no-borrow, put-back}
-use Rattle.lists.proofs.Adder.{sum-word, difference-word}
+use Rattle.builders.proofs.Carries.{turned, no-borrow, put-back}
+use Rattle.builders.proofs.Adder.{sum-word, difference-word}
 use Rattle.fields.proofs.Sums.{sum-plain, difference-plain, list-built, put-plain, put-unique}
 
 -- ---- the list is written

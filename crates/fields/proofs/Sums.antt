@@ -20,15 +20,15 @@ use Rattle.judge.specs.Judge.{unfit, wrongKind, wrongSource, lacksTag, wrongTag
 use Rattle.module.specs.Act.{State, acted}
 use Rattle.module.specs.Run.{begun, Left, ran}
 use Rattle.module.proofs.PartLaws.{registers-bytes}
-use Rattle.lists.specs.Lists.{logicFrom, logicAt, storeAt, encoded}
-use Rattle.lists.specs.Fields.{bitRound, bitRounds, sumByte, differenceByte, carryByte, moveByte, sumList, differenceList, Fields, builtWith}
-use Rattle.lists.specs.Word.{Word, folded, ranWord, Each, none, more}
+use Rattle.builders.specs.Lists.{logicFrom, logicAt, storeAt, encoded}
+use Rattle.builders.specs.Fields.{bitRound, bitRounds, sumByte, differenceByte, carryByte, moveByte, sumList, differenceList, Fields, builtWith}
+use Rattle.builders.specs.Word.{Word, folded, ranWord, Each, none, more}
 use Rattle.fields.specs.Line.{wordOf, outsideAt, At, Local}
 use Rattle.fields.specs.Value.{wordBit, value, listOf, Bytes, Put}
-use Rattle.lists.proofs.Folds.{each-rounds, each-map}
+use Rattle.builders.proofs.Folds.{each-rounds, each-map}
 use Rattle.fields.proofs.LineLaws.{ran-at, at-self}
-use Rattle.lists.proofs.Carries.{quotient, rest}
-use Rattle.lists.proofs.Adder.{After}
+use Rattle.builders.proofs.Carries.{quotient, rest}
+use Rattle.builders.proofs.Adder.{After}
 use Rattle.fields.proofs.Whole.{bytes-ext, pack-bytes, part-bytes, Good, begun-good, registers-ok, folded-good, memory-ext}
 use Rattle.fields.proofs.Runs.{Plain, ran-plain}
 

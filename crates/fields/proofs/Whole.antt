@@ -27,7 +27,7 @@ use Rattle.registers.proofs.LogicLaws.{newX-bit, newY-bit}
 use Rattle.judge.specs.declared.Instruction.{Instruction}
 use Rattle.module.specs.Act.{State, sourceItem, passedBy, regsAfter, memAfter, acted}
 use Rattle.module.specs.Run.{begun}
-use Rattle.lists.specs.Word.{folded}
+use Rattle.builders.specs.Word.{folded}
 use Rattle.fields.specs.Value.{Bytes}
 
 -- ---- bytes

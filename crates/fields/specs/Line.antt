@@ -7,7 +7,7 @@ use Rattle.memory.specs.Table.{table}
 use Rattle.memory.specs.Memory.{cell}
 use Rattle.judge.specs.declared.Instruction.{Instruction}
 use Rattle.module.specs.Act.{State, partAt}
-use Rattle.lists.specs.Word.{Word}
+use Rattle.builders.specs.Word.{Word}
 
 -- Line p of a state is v.
 pub record At (p : ℕ) (s : State) (v : Word) : Type 0 where

@@ -9,7 +9,7 @@ use Rattle.memory.specs.Table.{table}
 use Rattle.memory.specs.Memory.{cell}
 use Rattle.registers.specs.Rows.{registersOf}
 use Rattle.module.specs.Run.{Left, ran}
-use Rattle.lists.specs.Fields.{sumBuilt, differenceBuilt, Left as Buffer}
+use Rattle.builders.specs.Fields.{sumBuilt, differenceBuilt, Left as Buffer}
 
 -- Bit b of word w of the lent memory.
 abbrev pub wordBit : List ℕ → ℕ → ℕ → ℕ

@@ -1,8 +1,8 @@
 // Tries sums and differences against outside answers. Standard input has a memory of 8,192 bytes, registers of 96, and up to 64 cases of 19 bytes: 0 for a sum or 1 for a difference, the starts of A, B and S and the width, four bytes each, and the length of the list buffer, two bytes, all low first.
 // For each case it writes the builder's number, its count and the buffer, and runs the list where there is one; at the end it writes the memory and the registers. All is held to the file stdout, which tests/fields_cases.py made with whole numbers.
+use builders::Built;
 use libc::STDIN_FILENO;
 use libc::STDOUT_FILENO;
-use lists::Built;
 ghost use mathlib.Core.Path.{_≡_};
 ghost use Prim.Native.Nat.{_+_, _<_, _≤_};
 ghost use lib.ListN.{length};
@@ -29,9 +29,9 @@ fn build(case: &[u8], list: &mut [u8]) -> Built
     let s = number(case, 9);
     let n = number(case, 13);
     if case[0] == 0 {
-        lists::sum_list(a, b, s, n, list)
+        builders::sum_list(a, b, s, n, list)
     } else {
-        lists::difference_list(a, b, s, n, list)
+        builders::difference_list(a, b, s, n, list)
     }
 }
 

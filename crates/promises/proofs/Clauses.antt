@@ -17,23 +17,23 @@ use Rattle.module.proofs.step as step
 use Rattle.module.proofs.advance as advance
 use Rattle.network.proofs.pass as pass
 use Rattle.network.proofs.wired_pass as wired_pass
-use Rattle.lists.proofs.sum_list as sum_list
-use Rattle.lists.proofs.difference_list as difference_list
-use Rattle.files.proofs.read_content as read_content
-use Rattle.files.proofs.write_content as write_content
-use Rattle.disk.proofs.read_picture as read_picture
-use Rattle.disk.proofs.write_picture as write_picture
-use Rattle.staran.specs.Left.{sumLeft, differenceLeft, readLeft, writeLeft, writePictureLeft}
-use Rattle.staran.proofs.staran_run as staran_run
-use Rattle.staran.proofs.staran_step as staran_step
-use Rattle.staran.proofs.staran_pass as staran_pass
-use Rattle.staran.proofs.staran_wired_pass as staran_wired_pass
-use Rattle.staran.proofs.staran_sum_list as staran_sum_list
-use Rattle.staran.proofs.staran_difference_list as staran_difference_list
-use Rattle.staran.proofs.staran_read_content as staran_read_content
-use Rattle.staran.proofs.staran_write_content as staran_write_content
-use Rattle.staran.proofs.staran_read_picture as staran_read_picture
-use Rattle.staran.proofs.staran_write_picture as staran_write_picture
+use Rattle.builders.proofs.sum_list as sum_list
+use Rattle.builders.proofs.difference_list as difference_list
+use Rattle.contents.proofs.read_content as read_content
+use Rattle.contents.proofs.write_content as write_content
+use Rattle.pictures.proofs.read_picture as read_picture
+use Rattle.pictures.proofs.write_picture as write_picture
+use Rattle.library.specs.Left.{sumLeft, differenceLeft, readLeft, writeLeft, writePictureLeft}
+use Rattle.library.proofs.staran_run as staran_run
+use Rattle.library.proofs.staran_step as staran_step
+use Rattle.library.proofs.staran_pass as staran_pass
+use Rattle.library.proofs.staran_wired_pass as staran_wired_pass
+use Rattle.library.proofs.staran_sum_list as staran_sum_list
+use Rattle.library.proofs.staran_difference_list as staran_difference_list
+use Rattle.library.proofs.staran_read_content as staran_read_content
+use Rattle.library.proofs.staran_write_content as staran_write_content
+use Rattle.library.proofs.staran_read_picture as staran_read_picture
+use Rattle.library.proofs.staran_write_picture as staran_write_picture
 use Rattle.promises.specs.Clauses.{Run, Step, Pass, SumList, DifferenceList, ReadContent-answer, ReadContent-target, WriteContent-answer, WriteContent-out, ReadPicture-answer, ReadPicture-memory, ReadPicture-registers, WritePicture-answer, WritePicture-out, LibraryRun, LibraryStep, LibraryPass, LibraryBuffer, LibraryReadPicture}
 
 module _ {M : Type 1} (𝓤 : URA M) (H : Heap 𝓤) (A : Atoms 𝓤) (memory : Memory → SProp 𝓤) (runs : Routine → Fun 𝓤) where

@@ -16,18 +16,18 @@ use Rattle.judge.proofs.Table as numbers
 use Rattle.module.specs.Run.{Left, ran, Updated, stepped}
 use Rattle.module.proofs.RunLaws.{ran-answer, ran-refused}
 use Rattle.module.proofs.StepLaws.{stepped-answer, stepped-refused, asRun, step-is-run, step-not-eight}
-use Rattle.lists.specs.declared.Built.{Built}
-use Rattle.lists.specs.Lists.{encoded}
-use Rattle.lists.specs.Fields.{Left as Buffer, sumList, differenceList, listLength, fieldsFault, builtWith, sumBuilt, differenceBuilt}
-use Rattle.lists.proofs.ListLaws.{sum-length, difference-length}
-use Rattle.lists.proofs.Refusals.{built-row, built-0, built-count, built-unwritten}
-use Rattle.files.specs.declared.Answer.{Answer as Moved}
-use Rattle.files.specs.File.{contentOf, blocksOf}
-use Rattle.files.specs.Content.{readAnswer, writeAnswer, changed, over, targetFits, contentFits}
-use Rattle.files.proofs.AnswerLaws.{changed-not}
-use Rattle.files.proofs.Table as blocks
-use Rattle.disk.specs.Picture.{pictureOf, scrambled, pictureFits}
-use Rattle.staran.specs.Left.{five, three, RunLeft, runLeft, StepLeft, stepLeft, PassLeft, passLeft, BufferLeft, sumLeft, differenceLeft, readLeft, writeLeft, PictureLeft, readPictureLeft, writePictureLeft}
+use Rattle.builders.specs.declared.Built.{Built}
+use Rattle.builders.specs.Lists.{encoded}
+use Rattle.builders.specs.Fields.{Left as Buffer, sumList, differenceList, listLength, fieldsFault, builtWith, sumBuilt, differenceBuilt}
+use Rattle.builders.proofs.ListLaws.{sum-length, difference-length}
+use Rattle.builders.proofs.Refusals.{built-row, built-0, built-count, built-unwritten}
+use Rattle.contents.specs.declared.Answer.{Answer as Moved}
+use Rattle.contents.specs.File.{contentOf, blocksOf}
+use Rattle.contents.specs.Content.{readAnswer, writeAnswer, changed, over, targetFits, contentFits}
+use Rattle.contents.proofs.AnswerLaws.{changed-not}
+use Rattle.contents.proofs.Table as blocks
+use Rattle.pictures.specs.Picture.{pictureOf, scrambled, pictureFits}
+use Rattle.library.specs.Left.{five, three, RunLeft, runLeft, StepLeft, stepLeft, PassLeft, passLeft, BufferLeft, sumLeft, differenceLeft, readLeft, writeLeft, PictureLeft, readPictureLeft, writePictureLeft}
 use Rattle.promises.specs.Clauses.{Run, Step, SumList, DifferenceList, LibraryRun, LibraryStep, LibraryPass, LibraryBuffer, LibraryReadPicture}
 use Rattle.promises.specs.DemandOne.{RunTable, StepTable, PassTable, ListTable, ReadTable, WriteTable, Kept, DemandOne}
 

@@ -23,7 +23,7 @@ use Rattle.judge.specs.Judge.{judged}
 use Rattle.module.specs.Run.{begun, ranBy}
 use Rattle.module.proofs.ActLaws.{passed-source, acted-kind}
 use Rattle.module.proofs.RunLaws.{run-accepted, ran-done, ran-refused}
-use Rattle.disk.proofs.RoundTripDemand.{content-back, content-again, picture-back, picture-again}
+use Rattle.pictures.proofs.RoundTripDemand.{content-back, content-again, picture-back, picture-again}
 use Rattle.promises.specs.DemandTwo.{Choices, Runs, DemandTwo}
 
 chosen : (n x y f : ℕ) → n < 16 → Choices n x y f

@@ -5,7 +5,7 @@ use Prim.Native.Nat.{ℕ, _+_, _-_, _*_, _/_, _%_}
 use lib.ListN.{take, drop}
 use Rattle.memory.proofs.Examples.{mode-seven, mode-zero, mode-all}
 use Rattle.network.proofs.Examples.{passed-48, one-mod-8, eight-mod-256, back-31, half-is-flip, refused-136, refused-1}
-use Rattle.lists.proofs.Examples.{one-bit, the-fourth, stands, overlaps, reaches, goes-beyond}
+use Rattle.builders.proofs.Examples.{one-bit, the-fourth, stands, overlaps, reaches, goes-beyond}
 use Rattle.fields.proofs.SumRuns.{sum-built, difference-built, sum-listed}
 use Rattle.promises.proofs.DemandThree.{demand-three}
 use Rattle.promises.specs.Examples.{Starred}

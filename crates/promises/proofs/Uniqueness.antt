@@ -14,14 +14,14 @@ use denote.Ref.{now}
 use denote.Triple.Entry.{Args, Res}
 use denote.Triple.Clauses.{Ended, Clauses, AtExit}
 use lib.ListN.{length, drop}
-use Rattle.files.specs.File.{contentOf, blocksOf}
-use Rattle.files.specs.Content.{changed, over}
-use Rattle.disk.specs.Picture.{pictureOf, scrambled}
+use Rattle.contents.specs.File.{contentOf, blocksOf}
+use Rattle.contents.specs.Content.{changed, over}
+use Rattle.pictures.specs.Picture.{pictureOf, scrambled}
 use Rattle.report.specs.Report.{printed}
 use Rattle.session.specs.declared.Counts.{Counts}
 use Rattle.session.specs.Session.{Outcome}
 use Rattle.session.specs.Shown.{Shown}
-use Rattle.promises.specs.Uniqueness.{Sight, OneOutcome, Same, Entries, Library, Program, OfBits, OfMemory, OfNetwork, OfRegisters, OfJudge, OfModule, OfBlocks, OfFiles, Uniqueness}
+use Rattle.promises.specs.Uniqueness.{Sight, OneOutcome, Same, Entries, Library, Program, OfBits, OfMemory, OfNetwork, OfRegisters, OfJudge, OfModule, OfBlocks, OfContents, Uniqueness}
 
 -- ---- the laws
 
@@ -185,8 +185,8 @@ module _ {M : Type 1} (𝓤 : URA M) (H : Heap 𝓤) (A : Atoms 𝓤) (memory : 
         seal = equation 𝓤 _ (λ κs a g r e. refl);
       }
 
-  of-files : OfFiles 𝓤 H A memory runs
-  of-files =
+  of-contents : OfContents 𝓤 H A memory runs
+  of-contents =
       record {
         refuse = equation 𝓤 _ (λ κs a g r e. refl);
         finish = equation 𝓤 _ (λ κs a g r e. refl);
@@ -211,5 +211,5 @@ module _ {M : Type 1} (𝓤 : URA M) (H : Heap 𝓤) (A : Atoms 𝓤) (memory : 
         ofJudge = of-judge;
         ofModule = of-module;
         ofBlocks = of-blocks;
-        ofFiles = of-files;
+        ofContents = of-contents;
       }

@@ -8,13 +8,13 @@ use Rattle.network.specs.Answer.{answer}
 use Rattle.registers.specs.declared.Registers.{Registers}
 use Rattle.judge.specs.declared.Answer.{Answer}
 use Rattle.module.specs.Run.{Left, ran, Updated, stepped}
-use Rattle.lists.specs.declared.Built.{Built}
-use Rattle.lists.specs.Fields.{sumBuilt, differenceBuilt, Left as Buffer}
-use Rattle.files.specs.declared.Answer.{Answer as Moved}
-use Rattle.files.specs.File.{contentOf, blocksOf}
-use Rattle.files.specs.Content.{readAnswer, writeAnswer, changed, over, targetFits, contentFits}
-use Rattle.disk.specs.Picture.{pictureOf, scrambled, pictureFits}
-use Rattle.staran.specs.Left.{RunLeft, runLeft, StepLeft, stepLeft, PassLeft, passLeft, BufferLeft, PictureLeft, readPictureLeft}
+use Rattle.builders.specs.declared.Built.{Built}
+use Rattle.builders.specs.Fields.{sumBuilt, differenceBuilt, Left as Buffer}
+use Rattle.contents.specs.declared.Answer.{Answer as Moved}
+use Rattle.contents.specs.File.{contentOf, blocksOf}
+use Rattle.contents.specs.Content.{readAnswer, writeAnswer, changed, over, targetFits, contentFits}
+use Rattle.pictures.specs.Picture.{pictureOf, scrambled, pictureFits}
+use Rattle.library.specs.Left.{RunLeft, runLeft, StepLeft, stepLeft, PassLeft, passLeft, BufferLeft, PictureLeft, readPictureLeft}
 
 -- ---- the array
 
@@ -34,31 +34,31 @@ Pass lines flip code r = r ≡ answer lines flip code
 
 -- ---- lists
 
--- `lists::sum_list`
+-- `builders::sum_list`
 abbrev pub SumList : (a b s n : ℕ) (list list′ : List ℕ) → Built → Type 0
 SumList a b s n list list′ r = _≡_ {A = Buffer} (record { answer = r; list = list′ }) (sumBuilt a b s n list)
 
--- `lists::difference_list`
+-- `builders::difference_list`
 abbrev pub DifferenceList : (a b s n : ℕ) (list list′ : List ℕ) → Built → Type 0
 DifferenceList a b s n list list′ r = _≡_ {A = Buffer} (record { answer = r; list = list′ }) (differenceBuilt a b s n list)
 
 -- ---- the disk: the answer's clause, and one for each target
 
--- `disk::read_content`
+-- `pictures::read_content`
 abbrev pub ReadContent-answer : (kind : ℕ) (bytes target : List ℕ) → Moved → Type 0
 ReadContent-answer kind bytes target r = r ≡ readAnswer kind bytes (targetFits kind bytes target)
 
 abbrev pub ReadContent-target : (bytes target target′ : List ℕ) → Moved → Type 0
 ReadContent-target bytes target target′ r = target′ ≡ changed r (over (contentOf bytes) target) target
 
--- `disk::write_content`
+-- `pictures::write_content`
 abbrev pub WriteContent-answer : (kind : ℕ) (content out : List ℕ) → Moved → Type 0
 WriteContent-answer kind content out r = r ≡ writeAnswer kind (contentFits kind content) (length content) (length out)
 
 abbrev pub WriteContent-out : (kind : ℕ) (content out out′ : List ℕ) → Moved → Type 0
 WriteContent-out kind content out out′ r = out′ ≡ changed r (over (blocksOf kind content) out) out
 
--- `disk::read_picture`
+-- `pictures::read_picture`
 abbrev pub ReadPicture-answer : (kind : ℕ) (bytes memory registers : List ℕ) → Moved → Type 0
 ReadPicture-answer kind bytes memory registers r = r ≡ readAnswer kind bytes (pictureFits kind (length memory) (length registers))
 
@@ -68,7 +68,7 @@ ReadPicture-memory bytes memory memory′ r = memory′ ≡ changed r (scrambled
 abbrev pub ReadPicture-registers : (bytes registers registers′ : List ℕ) → Moved → Type 0
 ReadPicture-registers bytes registers registers′ r = registers′ ≡ changed r (drop 8192 (contentOf bytes)) registers
 
--- `disk::write_picture`
+-- `pictures::write_picture`
 abbrev pub WritePicture-answer : (kind : ℕ) (memory registers out : List ℕ) → Moved → Type 0
 WritePicture-answer kind memory registers out r = r ≡ writeAnswer kind (pictureFits kind (length memory) (length registers)) 8288 (length out)
 

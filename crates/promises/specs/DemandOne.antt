@@ -16,15 +16,15 @@ use Rattle.registers.specs.Rows.{bytesOf}
 use Rattle.judge.specs.declared.Answer.{Answer}
 use Rattle.judge.specs.Judge.{takes, gives, wrongMemory, wrongRegisters, unfit, wrongKind, wrongSource, lacksTag, wrongTag, idleAccess, wrongPass, wrongLogic, refusal, done, judged, judgedStep}
 use Rattle.judge.specs.Table.{Gives, After, Sized, Formed, Met, Served, Lacks}
-use Rattle.lists.specs.declared.Built.{Built}
-use Rattle.lists.specs.Fields.{wrongWidth, beyond, crosses, Fields, listLength}
+use Rattle.builders.specs.declared.Built.{Built}
+use Rattle.builders.specs.Fields.{wrongWidth, beyond, crosses, Fields, listLength}
 use Rattle.blocks.specs.Block.{sumsDiffer, otherKind, misplaced, misfilled}
-use Rattle.files.specs.declared.Answer.{Answer as Moved}
-use Rattle.files.specs.File.{contentOf, kindRight, lengthRight, sizeFits, blockCount}
-use Rattle.files.specs.Content.{targetFits, contentFits}
-use Rattle.files.specs.Table.{Gives as MovedGives, Met as MetBlock, Sound}
-use Rattle.disk.specs.Picture.{pictureFits}
-use Rattle.staran.specs.Left.{five, three, sumLeft, differenceLeft, readLeft, writeLeft, writePictureLeft}
+use Rattle.contents.specs.declared.Answer.{Answer as Moved}
+use Rattle.contents.specs.File.{contentOf, kindRight, lengthRight, sizeFits, blockCount}
+use Rattle.contents.specs.Content.{targetFits, contentFits}
+use Rattle.contents.specs.Table.{Gives as MovedGives, Met as MetBlock, Sound}
+use Rattle.pictures.specs.Picture.{pictureFits}
+use Rattle.library.specs.Left.{five, three, sumLeft, differenceLeft, readLeft, writeLeft, writePictureLeft}
 use Rattle.promises.specs.Clauses.{Run, Step, Pass, SumList, DifferenceList, ReadContent-answer, ReadContent-target, WriteContent-answer, WriteContent-out, ReadPicture-answer, ReadPicture-memory, ReadPicture-registers, WritePicture-answer, WritePicture-out, LibraryRun, LibraryStep, LibraryPass, LibraryBuffer, LibraryReadPicture}
 
 -- ---- Network: "it gives 10 and a zero item where byte 6 is none of the 37, and otherwise 0 and the passed item"

@@ -24,9 +24,9 @@ use Rattle.judge.specs.Judge.{instructionAt, takes, gives, done, judged}
 use Rattle.module.specs.Act.{State, partAt, putPart, passedBy, acted}
 use Rattle.module.specs.Run.{begun, ranBy, ran}
 use Rattle.blocks.specs.Sums.{at}
-use Rattle.files.specs.File.{done as put}
-use Rattle.files.specs.Content.{over}
-use Rattle.disk.specs.Entries.{contentAnswer, contentTarget, contentWritten, contentOut, pictureAnswer, pictureMemory, pictureRegisters, pictureWritten, pictureOut}
+use Rattle.contents.specs.File.{done as put}
+use Rattle.contents.specs.Content.{over}
+use Rattle.pictures.specs.Entries.{contentAnswer, contentTarget, contentWritten, contentOut, pictureAnswer, pictureMemory, pictureRegisters, pictureWritten, pictureOut}
 
 -- ---- storage, access, and the unscrambled table
 

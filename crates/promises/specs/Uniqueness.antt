@@ -54,36 +54,36 @@ use Rattle.module.proofs.advance as advance
 use Rattle.module.proofs.parts.write_item as write_item
 use Rattle.module.proofs.parts.registers_of as registers_of
 use Rattle.module.proofs.parts.write_registers as write_registers
-use Rattle.lists.specs.Fields.{Left as Buffer}
-use Rattle.lists.proofs.sum_list as sum_list
-use Rattle.lists.proofs.difference_list as difference_list
+use Rattle.builders.specs.Fields.{Left as Buffer}
+use Rattle.builders.proofs.sum_list as sum_list
+use Rattle.builders.proofs.difference_list as difference_list
 use Rattle.blocks.proofs.two_at as two_at
 use Rattle.blocks.proofs.fault as block_fault
 use Rattle.blocks.proofs.copy as copy
 use Rattle.blocks.proofs.seal as seal
-use Rattle.files.specs.declared.Answer.{Answer as Moved}
-use Rattle.files.proofs.refuse as refuse
-use Rattle.files.proofs.finish as finish
-use Rattle.files.proofs.kind_right as kind_right
-use Rattle.files.proofs.judge as judge_file
-use Rattle.files.proofs.part_of as part_of
-use Rattle.files.proofs.put_part as put_part
-use Rattle.files.proofs.seal_all as seal_all
-use Rattle.files.proofs.read_content as read_content
-use Rattle.files.proofs.write_content as write_content
-use Rattle.disk.proofs.read_picture as read_picture
-use Rattle.disk.proofs.write_picture as write_picture
-use Rattle.staran.specs.Left.{RunLeft, StepLeft, PassLeft, BufferLeft, PictureLeft}
-use Rattle.staran.proofs.staran_run as staran_run
-use Rattle.staran.proofs.staran_step as staran_step
-use Rattle.staran.proofs.staran_pass as staran_pass
-use Rattle.staran.proofs.staran_wired_pass as staran_wired_pass
-use Rattle.staran.proofs.staran_sum_list as staran_sum_list
-use Rattle.staran.proofs.staran_difference_list as staran_difference_list
-use Rattle.staran.proofs.staran_read_content as staran_read_content
-use Rattle.staran.proofs.staran_write_content as staran_write_content
-use Rattle.staran.proofs.staran_read_picture as staran_read_picture
-use Rattle.staran.proofs.staran_write_picture as staran_write_picture
+use Rattle.contents.specs.declared.Answer.{Answer as Moved}
+use Rattle.contents.proofs.refuse as refuse
+use Rattle.contents.proofs.finish as finish
+use Rattle.contents.proofs.kind_right as kind_right
+use Rattle.contents.proofs.judge as judge_file
+use Rattle.contents.proofs.part_of as part_of
+use Rattle.contents.proofs.put_part as put_part
+use Rattle.contents.proofs.seal_all as seal_all
+use Rattle.contents.proofs.read_content as read_content
+use Rattle.contents.proofs.write_content as write_content
+use Rattle.pictures.proofs.read_picture as read_picture
+use Rattle.pictures.proofs.write_picture as write_picture
+use Rattle.library.specs.Left.{RunLeft, StepLeft, PassLeft, BufferLeft, PictureLeft}
+use Rattle.library.proofs.staran_run as staran_run
+use Rattle.library.proofs.staran_step as staran_step
+use Rattle.library.proofs.staran_pass as staran_pass
+use Rattle.library.proofs.staran_wired_pass as staran_wired_pass
+use Rattle.library.proofs.staran_sum_list as staran_sum_list
+use Rattle.library.proofs.staran_difference_list as staran_difference_list
+use Rattle.library.proofs.staran_read_content as staran_read_content
+use Rattle.library.proofs.staran_write_content as staran_write_content
+use Rattle.library.proofs.staran_read_picture as staran_read_picture
+use Rattle.library.proofs.staran_write_picture as staran_write_picture
 use Rattle.report.proofs.report as report
 use Rattle.session.specs.declared.Counts.{Counts}
 use Rattle.session.proofs.session as session
@@ -118,17 +118,17 @@ module _ {M : Type 1} (𝓤 : URA M) (H : Heap 𝓤) (A : Atoms 𝓤) (memory : 
     pub step : OneOutcome 𝓤 step.ended (step.clauses 𝓤 H A memory runs) {O = Updated} (λ κs r e. record { mem = now (e .0); regs = now (e .1 .0); out = now (e .1 .1 .1 .0); answer = r })
     -- `module::advance`
     pub advance : OneOutcome 𝓤 advance.ended (advance.clauses 𝓤 H A memory runs) {O = Updated} (λ κs r e. record { mem = now (e .0); regs = r .regs; out = now (e .1 .0); answer = r .answer })
-    -- `lists::sum_list`
+    -- `builders::sum_list`
     pub sumList : OneOutcome 𝓤 sum_list.ended (sum_list.clauses 𝓤 H A memory runs) {O = Buffer} (λ κs r e. record { answer = r; list = now (e .1 .1 .1 .1 .0) })
-    -- `lists::difference_list`
+    -- `builders::difference_list`
     pub differenceList : OneOutcome 𝓤 difference_list.ended (difference_list.clauses 𝓤 H A memory runs) {O = Buffer} (λ κs r e. record { answer = r; list = now (e .1 .1 .1 .1 .0) })
-    -- `disk::read_content`
+    -- `pictures::read_content`
     pub readContent : OneOutcome 𝓤 read_content.ended (read_content.clauses 𝓤 H A memory runs) {O = Moved × List ℕ} (λ κs r e. (r, now (e .1 .1 .0)))
-    -- `disk::write_content`
+    -- `pictures::write_content`
     pub writeContent : OneOutcome 𝓤 write_content.ended (write_content.clauses 𝓤 H A memory runs) {O = Moved × List ℕ} (λ κs r e. (r, now (e .1 .1 .0)))
-    -- `disk::read_picture`
+    -- `pictures::read_picture`
     pub readPicture : OneOutcome 𝓤 read_picture.ended (read_picture.clauses 𝓤 H A memory runs) {O = Moved × List ℕ × List ℕ} (λ κs r e. (r, now (e .1 .1 .0), now (e .1 .1 .1 .0)))
-    -- `disk::write_picture`
+    -- `pictures::write_picture`
     pub writePicture : OneOutcome 𝓤 write_picture.ended (write_picture.clauses 𝓤 H A memory runs) {O = Moved × List ℕ} (λ κs r e. (r, now (e .1 .1 .1 .0)))
 
   -- ---- the library for C
@@ -212,8 +212,8 @@ module _ {M : Type 1} (𝓤 : URA M) (H : Heap 𝓤) (A : Atoms 𝓤) (memory : 
     pub copy : OneOutcome 𝓤 copy.ended (copy.clauses 𝓤 H A memory runs) (λ κs r e. now (e .1 .0))
     pub seal : OneOutcome 𝓤 seal.ended (seal.clauses 𝓤 H A memory runs) (λ κs r e. now (e .1 .1 .1 .1 .0))
 
-  -- `files`
-  pub record OfFiles : Type 2 where
+  -- `contents`
+  pub record OfContents : Type 2 where
     pub refuse : OneOutcome 𝓤 refuse.ended (refuse.clauses 𝓤 H A memory runs) (λ κs r e. r)
     pub finish : OneOutcome 𝓤 finish.ended (finish.clauses 𝓤 H A memory runs) (λ κs r e. r)
     pub kindRight : OneOutcome 𝓤 kind_right.ended (kind_right.clauses 𝓤 H A memory runs) (λ κs r e. r)
@@ -237,4 +237,4 @@ module _ {M : Type 1} (𝓤 : URA M) (H : Heap 𝓤) (A : Atoms 𝓤) (memory : 
     pub ofJudge : OfJudge
     pub ofModule : OfModule
     pub ofBlocks : OfBlocks
-    pub ofFiles : OfFiles
+    pub ofContents : OfContents

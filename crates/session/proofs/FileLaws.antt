@@ -10,13 +10,13 @@ use lib.ListN.{length, take, drop, length-append}
 use lib.Seq.{take-at}
 use borrow.Author.Tests.{eq-eqb, lt-ltb, le-ltb, le-leb, ltb-false}
 use Rattle.blocks.specs.Block.{fault}
-use Rattle.files.specs.declared.Answer.{Answer}
-use Rattle.files.specs.File.{done, refused, blockAt, contentOf, Verdict, good, bad, verdict, next, judged, kindRight, lengthRight, sizeFits, settled, judge}
-use Rattle.files.specs.Content.{readAnswer, changed, over, targetFits}
-use Rattle.disk.specs.Picture.{scrambled, pictureFits}
-use Rattle.files.proofs.FileLaws.{Stands, judge-stands}
-use Rattle.files.proofs.OneForm.{size-is, count-is}
-use Rattle.files.proofs.AnswerLaws.{read-refused, read-done, changed-not, changed-done, refused-not}
+use Rattle.contents.specs.declared.Answer.{Answer}
+use Rattle.contents.specs.File.{done, refused, blockAt, contentOf, Verdict, good, bad, verdict, next, judged, kindRight, lengthRight, sizeFits, settled, judge}
+use Rattle.contents.specs.Content.{readAnswer, changed, over, targetFits}
+use Rattle.pictures.specs.Picture.{scrambled, pictureFits}
+use Rattle.contents.proofs.FileLaws.{Stands, judge-stands}
+use Rattle.contents.proofs.OneForm.{size-is, count-is}
+use Rattle.contents.proofs.AnswerLaws.{read-refused, read-done, changed-not, changed-done, refused-not}
 use Rattle.session.specs.declared.Found.{Found}
 use Rattle.session.specs.declared.Found.the-variants.{Bytes}
 use Rattle.session.specs.Session.{File, absent, failed, bytes, fileOf, read, fileAnswer, pictureAnswer, contentAnswer, contentIn}

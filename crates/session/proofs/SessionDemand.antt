@@ -4,11 +4,11 @@ use mathlib.Core.List.{List, []}
 use Prim.Native.Nat.{ℕ, _*_}
 use native.Mathlib.Omega.{arith}
 use lib.ListN.{length}
-use Rattle.files.specs.File.{done, refused, blockCount, blocksOf}
-use Rattle.files.specs.Content.{over}
-use Rattle.disk.specs.Picture.{pictureOf}
-use Rattle.files.proofs.RoundTrip.{all-length}
-use Rattle.disk.proofs.PictureLaws.{length-picture}
+use Rattle.contents.specs.File.{done, refused, blockCount, blocksOf}
+use Rattle.contents.specs.Content.{over}
+use Rattle.pictures.specs.Picture.{pictureOf}
+use Rattle.contents.proofs.RoundTrip.{all-length}
+use Rattle.pictures.proofs.PictureLaws.{length-picture}
 use Rattle.module.specs.Run.{Left}
 use Rattle.report.proofs.ReportLaws.{report-unique}
 use Rattle.session.specs.declared.Counts.{Counts}

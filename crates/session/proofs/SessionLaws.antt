@@ -14,13 +14,13 @@ use Rattle.judge.proofs.RowLaws.{none-numbered, fit-size}
 use Rattle.judge.proofs.Verdicts.{Verdict, wrong-length, wrong-instruction, no-item, no-room, accepted, verdict, verdict-is}
 use Rattle.judge.proofs.Accepted.{accepted-done, room-fits}
 use Rattle.module.specs.Run.{Left, ran}
-use Rattle.files.specs.declared.Answer as disk
-use Rattle.files.specs.File.{done, kindRight, blockCount, blocksOf}
-use Rattle.files.specs.Content.{writeAnswer, changed, over}
-use Rattle.disk.specs.Picture.{pictureOf, scrambled, pictureFits}
-use Rattle.files.proofs.AnswerLaws.{changed-done, write-done}
-use Rattle.files.proofs.RoundTrip.{all-length}
-use Rattle.disk.proofs.PictureLaws.{length-picture}
+use Rattle.contents.specs.declared.Answer as disk
+use Rattle.contents.specs.File.{done, kindRight, blockCount, blocksOf}
+use Rattle.contents.specs.Content.{writeAnswer, changed, over}
+use Rattle.pictures.specs.Picture.{pictureOf, scrambled, pictureFits}
+use Rattle.contents.proofs.AnswerLaws.{changed-done, write-done}
+use Rattle.contents.proofs.RoundTrip.{all-length}
+use Rattle.pictures.proofs.PictureLaws.{length-picture}
 use Rattle.report.specs.Report.{itemLines, printed}
 use Rattle.session.specs.declared.Counts.{Counts}
 use Rattle.session.specs.Session.{File, Outcome, pictureAnswer, contentAnswer, contentIn, refusal, afterOf, finished, outBytes, outcome}

@@ -4,9 +4,9 @@ use mathlib.Core.List.{List, [], replicate}
 use Prim.Native.Nat.{ℕ}
 use lib.Dec.{eqb, ltb}
 use lib.ListN.{length, take, drop}
-use Rattle.files.specs.declared.Answer.{Answer}
-use Rattle.files.specs.File.{done, refused, contentOf, judge, blocksOf}
-use Rattle.disk.specs.Picture.{pictureOf, scrambled}
+use Rattle.contents.specs.declared.Answer.{Answer}
+use Rattle.contents.specs.File.{done, refused, contentOf, judge, blocksOf}
+use Rattle.pictures.specs.Picture.{pictureOf, scrambled}
 use Rattle.module.specs.Run.{Left, ran}
 use Rattle.report.specs.Report.{printed}
 use Rattle.session.specs.declared.Found.{Found}

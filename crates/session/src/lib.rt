@@ -1,12 +1,12 @@
 // All of the program but the system's calls: what it prints and writes, from what was found of its three files. Document 01, The program.
-use files::Answer;
+use contents::Answer;
 ghost use mathlib.Core.Path.{_≡_};
 ghost use mathlib.Core.List.{_++_};
 ghost use Prim.Native.Nat.{_<_, _≤_};
 ghost use lib.ListN.{length, take, drop};
-ghost use Rattle.files.specs.File.{refused};
-ghost use Rattle.disk.specs.Picture.{scrambled};
-ghost use Rattle.files.specs.Content.{changed, over};
+ghost use Rattle.contents.specs.File.{refused};
+ghost use Rattle.pictures.specs.Picture.{scrambled};
+ghost use Rattle.contents.specs.Content.{changed, over};
 ghost use Rattle.module.specs.Run.{ran};
 ghost use Rattle.report.specs.Report.{printed};
 ghost use Rattle.session.specs.Session.{fileOf, pictureAnswer, contentAnswer, contentIn, refusal, afterOf, finished, outBytes, outcome};
@@ -69,7 +69,7 @@ fn take_picture(found: Found, buffer: &[u8], memory: &mut [u8], registers: &mut 
             if bytes.len() > 8704 {
                 return refused();
             }
-            disk::read_picture(1, bytes, memory, registers)
+            pictures::read_picture(1, bytes, memory, registers)
         }
     }
 }
@@ -92,7 +92,7 @@ fn take_content(found: Found, kind: usize, buffer: &[u8], target: &mut [u8]) -> 
             if bytes.len() > 8192 {
                 return refused();
             }
-            files::read_content(kind, bytes, target)
+            contents::read_content(kind, bytes, target)
         }
     }
 }
@@ -143,7 +143,7 @@ fn keep(number: u8, memory: &[u8], registers: &[u8], after: &mut [u8]) -> usize
     if number != 0 {
         return 0;
     }
-    let written = disk::write_picture(1, memory, registers, after);
+    let written = pictures::write_picture(1, memory, registers, after);
     written.bytes
 }
 

@@ -3,14 +3,14 @@ use super::buffers::clamp;
 use super::buffers::patch;
 use super::records::byte;
 use super::records::word;
-use disk::read_picture;
-use disk::write_picture;
-use files::read_content;
-use files::write_content;
-use lists::difference_list;
-use lists::sum_list;
+use builders::difference_list;
+use builders::sum_list;
+use contents::read_content;
+use contents::write_content;
 use module::advance;
 use module::run;
+use pictures::read_picture;
+use pictures::write_picture;
 
 // What an entry answered: up to five numbers.
 pub struct Five {
@@ -166,7 +166,7 @@ fn call_both(
 }
 
 // What an entry of the disk answered.
-fn of_disk(r: files::Answer) -> Five {
+fn of_disk(r: contents::Answer) -> Five {
     Five {
         a: r.number as u32,
         b: narrow(r.place),

@@ -4,7 +4,7 @@ use mathlib.Core.List.{List}
 use native.Mathlib.Omega.{arith}
 use denote.Ref.{now}
 use lib.ListN.{length}
-use Rattle.files.specs.Content.{over}
+use Rattle.contents.specs.Content.{over}
 use Rattle.session.proofs.SessionLaws.{after-none, kept}
 use borrow.Author.Needs.{needs}
 use Rattle.session.proofs.keep.Statement.{statement}

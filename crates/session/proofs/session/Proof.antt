@@ -3,9 +3,9 @@ use mathlib.Core.Path.{_≡_, refl, sym, ap, _∙_}
 use native.Mathlib.Omega.{arith}
 use denote.Ref.{now}
 use lib.Seq.{length-take-le}
-use Rattle.files.specs.declared.Answer.{Answer}
-use Rattle.files.specs.File.{done, refused}
-use Rattle.files.proofs.AnswerLaws.{changed-done}
+use Rattle.contents.specs.declared.Answer.{Answer}
+use Rattle.contents.specs.File.{done, refused}
+use Rattle.contents.proofs.AnswerLaws.{changed-done}
 use Rattle.session.specs.Session.{fileOf, pictureAnswer, contentAnswer}
 use Rattle.session.proofs.FileLaws.{place-small}
 use Rattle.session.proofs.SessionLaws.{outcome-p, outcome-l, outcome-i, outcome-r, refusal-shown, finished-as}

@@ -1,7 +1,7 @@
 -- `take_content`: each arm of the match is a law of FileLaws.
 use mathlib.Core.Path.{sym, ap}
 use denote.Ref.{now}
-use Rattle.files.specs.File.{done}
+use Rattle.contents.specs.File.{done}
 use Rattle.session.specs.declared.Found.{Found}
 use Rattle.session.specs.Session.{fileOf, contentAnswer}
 use Rattle.session.proofs.FileLaws.{found-bytes, found-long, content-absent, content-refused, content-taken}

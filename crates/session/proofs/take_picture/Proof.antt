@@ -1,7 +1,7 @@
 -- `take_picture`: each arm of the match is a law of FileLaws.
 use mathlib.Core.Path.{sym, ap}
 use denote.Ref.{now}
-use Rattle.files.specs.File.{refused}
+use Rattle.contents.specs.File.{refused}
 use Rattle.session.specs.declared.Found.{Found}
 use Rattle.session.specs.Session.{fileOf, pictureAnswer}
 use Rattle.session.proofs.FileLaws.{found-bytes, found-long, picture-refused, picture-taken}

@@ -1,0 +1,42 @@
+-- `builders::rounds::put_difference`: the leading instructions and the rounds one behind the other, by `put-more`. Assumes nothing.
+use mathlib.Core.Path.{refl}
+use mathlib.Core.List.{[], _∷_}
+use native.Mathlib.Omega.{arith}
+use denote.Ref.{now}
+use Rattle.builders.specs.Fields.{clear, setY, bitRounds, differenceByte}
+use Rattle.builders.proofs.PutLaws.{put-more}
+use borrow.Author.Needs.{needs}
+use Rattle.builders.proofs.rounds.put_difference.Statement.{statement}
+use Rattle.builders.proofs.rounds.put_difference.Tie as tie
+
+put-logic-from-requires : tie.Need-put-logic-from-requires
+put-logic-from-requires c κs = search needs
+
+put-logic-from-requires-2 : tie.Need-put-logic-from-requires-2
+put-logic-from-requires-2 c κs = search needs
+
+put-rounds-requires : tie.Need-put-rounds-requires
+put-rounds-requires c κs = search needs
+
+same-length : tie.Need-same-length
+same-length c = search needs
+
+returns : tie.Need-returns
+returns c =
+    let a = c .before .before .before .before .before .before .before .before .before .before .before .before .before .args in
+    let p₀ = c .before .before .before .before .before .before .before .before .before .before .put-logic-from in
+    let p₁ = c .before .before .before .before .before .before .put-logic-from2 in
+    let q = c .before .before .put-rounds in
+    put-more 0 2 (clear ∷ setY ∷ []) (bitRounds differenceByte (a .a) (a .b) (a .s) (a .n)) (now (a .list)) (p₁ .last .0) (q .last .0) (omega arith) refl
+    (put-more 0 1 (clear ∷ []) (setY ∷ []) (now (a .list)) (p₀ .last .0) (p₁ .last .0) (omega arith) refl (p₀ .ensures) (p₁ .ensures))
+    (q .ensures)
+
+pub put-difference-spec : {M : Type 1} → statement M
+put-difference-spec =
+    tie.close
+    (tie.spec
+    put-logic-from-requires
+    put-logic-from-requires-2
+    put-rounds-requires
+    same-length
+    returns)

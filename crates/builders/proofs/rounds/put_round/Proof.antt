@@ -1,0 +1,81 @@
+-- `builders::rounds::put_round`: five instructions one behind the other, by `put-more`. Assumes nothing.
+use mathlib.Core.Path.{refl}
+use mathlib.Core.List.{[], _∷_}
+use Prim.Native.Nat.{_≤_, _+_, _*_}
+use native.Mathlib.Omega.{arith}
+use denote.Ref.{now}
+use lib.ListN.{length}
+use borrow.Author.Needs.{needs}
+use Rattle.builders.specs.Lists.{logicFrom, logicAt, storeAt}
+use Rattle.builders.specs.Fields.{sumByte, carryByte, moveByte}
+use Rattle.builders.proofs.PutLaws.{put-more}
+use Rattle.builders.proofs.rounds.put_round.Statement.{statement}
+use Rattle.builders.proofs.rounds.put_round.Tie as tie
+
+put-logic-at-requires : tie.Need-put-logic-at-requires
+put-logic-at-requires c κs = search needs
+
+add-put-logic-at : tie.Need-add-put-logic-at
+add-put-logic-at c = search needs
+
+put-logic-at-requires-2 : tie.Need-put-logic-at-requires-2
+put-logic-at-requires-2 c κs = search needs
+
+add-put-store-at : tie.Need-add-put-store-at
+add-put-store-at c = search needs
+
+put-store-at-requires : tie.Need-put-store-at-requires
+put-store-at-requires c κs = search needs
+
+add-put-logic-from : tie.Need-add-put-logic-from
+add-put-logic-from c = search needs
+
+put-logic-from-requires : tie.Need-put-logic-from-requires
+put-logic-from-requires c κs = search needs
+
+add-put-logic-from-2 : tie.Need-add-put-logic-from-2
+add-put-logic-from-2 c = search needs
+
+put-logic-from-requires-2 : tie.Need-put-logic-from-requires-2
+put-logic-from-requires-2 c κs = search needs
+
+same-length : tie.Need-same-length
+same-length c = search needs
+
+returns : tie.Need-returns
+returns c =
+    let e = c .before .before .before .before .before .before .before .before .before .before .before .before .before .before .before .before .before .before .before .before .before in
+    let at = e .args .at in
+    let xs = now (e .args .list) in
+    let h : 8 * at ≤ length xs = omega arith in
+    let i₀ = logicAt (e .args .a) sumByte in
+    let i₁ = logicAt (e .args .b) (e .args .byte7) in
+    let i₂ = storeAt 3 (e .args .s) in
+    let i₃ = logicFrom 2 carryByte in
+    let i₄ = logicFrom 2 moveByte in
+    let p₀ = c .before .before .before .before .before .before .before .before .before .before .before .before .before .before .before .before .before .before .put-logic-at in
+    let p₁ = c .before .before .before .before .before .before .before .before .before .before .before .before .before .before .put-logic-at2 in
+    let p₂ = c .before .before .before .before .before .before .before .before .before .before .put-store-at in
+    let p₃ = c .before .before .before .before .before .before .put-logic-from in
+    let p₄ = c .before .before .put-logic-from2 in
+    put-more at (at + 4) (i₀ ∷ i₁ ∷ i₂ ∷ i₃ ∷ []) (i₄ ∷ []) xs (p₃ .last .0) (p₄ .last .0) h refl
+    (put-more at (at + 3) (i₀ ∷ i₁ ∷ i₂ ∷ []) (i₃ ∷ []) xs (p₂ .last .0) (p₃ .last .0) h refl
+    (put-more at (at + 2) (i₀ ∷ i₁ ∷ []) (i₂ ∷ []) xs (p₁ .last .0) (p₂ .last .0) h refl
+    (put-more at (at + 1) (i₀ ∷ []) (i₁ ∷ []) xs (p₀ .last .0) (p₁ .last .0) h refl (p₀ .ensures) (p₁ .ensures))
+    (p₂ .ensures)) (p₃ .ensures)) (p₄ .ensures)
+
+pub put-round-spec : {M : Type 1} → statement M
+put-round-spec =
+    tie.close
+    (tie.spec
+    put-logic-at-requires
+    add-put-logic-at
+    put-logic-at-requires-2
+    add-put-store-at
+    put-store-at-requires
+    add-put-logic-from
+    put-logic-from-requires
+    add-put-logic-from-2
+    put-logic-from-requires-2
+    same-length
+    returns)

@@ -1,0 +1,91 @@
+// Instructions put into a list's buffer, for every builder of lists. `at` is the instruction's number.
+use judge::Instruction;
+ghost use mathlib.Core.Path.{_≡_};
+ghost use mathlib.Core.List.{[], _∷_};
+ghost use Prim.Native.Nat.{_+_, _*_, _≤_};
+ghost use lib.ListN.{length};
+ghost use Rattle.bits.specs.Steps.{putAt};
+ghost use Rattle.builders.specs.Lists.{encoded, logicFrom, logicAt, storeAt};
+
+fn write_eight(part: &mut [u8], bytes: &[u8; 8])
+    requires { ⌜ (length (now part) ≡ 8) × (length (now bytes) ≡ 8) ⌝ }
+    ensures { λ r. ⌜ now (part .exit) ≡ now (bytes .entry) ⌝ }
+{
+    let mut j: usize = 0;
+    while j < 8 {
+        part[j] = bytes[j];
+        j += 1;
+    }
+}
+
+// Any instruction.
+pub fn put(list: &mut [u8], at: usize, i: Instruction)
+    requires { ⌜ 8 * at + 8 ≤ length (now list) ⌝ }
+    ensures { λ r. ⌜ now (list .exit) ≡ putAt (8 * at) (encoded (i ∷ [])) (now (list .entry)) ⌝ }
+{
+    let bytes = [
+        i.kind,
+        i.source,
+        i.tag,
+        i.mode,
+        i.addr,
+        i.flip,
+        i.code,
+        i.logic,
+    ];
+    write_eight(&mut list[8 * at..8 * at + 8], &bytes);
+}
+
+// Logic with a register as its source.
+pub fn put_logic_from(list: &mut [u8], at: usize, source: u8, byte7: u8)
+    requires { ⌜ 8 * at + 8 ≤ length (now list) ⌝ }
+    ensures { λ r. ⌜ now (list .exit) ≡ putAt (8 * at) (encoded (logicFrom source byte7 ∷ [])) (now (list .entry)) ⌝ }
+{
+    let i = Instruction {
+        kind: 0,
+        source: source,
+        tag: 0,
+        mode: 0,
+        addr: 0,
+        flip: 0,
+        code: 0,
+        logic: byte7,
+    };
+    put(list, at, i);
+}
+
+// Logic with one bit of every word as its source.
+pub fn put_logic_at(list: &mut [u8], at: usize, addr: u8, byte7: u8)
+    requires { ⌜ 8 * at + 8 ≤ length (now list) ⌝ }
+    ensures { λ r. ⌜ now (list .exit) ≡ putAt (8 * at) (encoded (logicAt addr byte7 ∷ [])) (now (list .entry)) ⌝ }
+{
+    let i = Instruction {
+        kind: 0,
+        source: 0,
+        tag: 1,
+        mode: 0,
+        addr: addr,
+        flip: 0,
+        code: 0,
+        logic: byte7,
+    };
+    put(list, at, i);
+}
+
+// The store of a register to one bit of every word.
+pub fn put_store_at(list: &mut [u8], at: usize, source: u8, addr: u8)
+    requires { ⌜ 8 * at + 8 ≤ length (now list) ⌝ }
+    ensures { λ r. ⌜ now (list .exit) ≡ putAt (8 * at) (encoded (storeAt source addr ∷ [])) (now (list .entry)) ⌝ }
+{
+    let i = Instruction {
+        kind: 2,
+        source: source,
+        tag: 1,
+        mode: 0,
+        addr: addr,
+        flip: 0,
+        code: 0,
+        logic: 0,
+    };
+    put(list, at, i);
+}

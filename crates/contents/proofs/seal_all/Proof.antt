@@ -1,0 +1,111 @@
+-- `seal_all`: the first i blocks stand at the start of the output, and behind them what was there.
+use mathlib.Core.List.{_++_}
+use mathlib.Core.Path.{_≡_, refl, sym, ap, _∙_}
+use Prim.Native.Nat.{_≤_, _-_, _+_, _*_}
+use native.Mathlib.Omega.{arith}
+use lib.ListN.{length, drop}
+use denote.Ref.{now}
+use borrow.Author.Needs.{needs}
+use borrow.Rule.Slice.PartMut.{mid-len, same-len-mid}
+use Rattle.blocks.specs.Block.{block}
+use Rattle.bits.proofs.Items.{length-listed}
+use Rattle.contents.specs.File.{blockCount, firstBlocks}
+use Rattle.contents.specs.Payloads.{payloads}
+use Rattle.contents.proofs.PayloadLaws.{sealed-part}
+use Rattle.contents.proofs.WriteLaws.{blocks-more, blocks-done}
+use Rattle.contents.proofs.seal_all.Statement.{statement}
+use Rattle.contents.proofs.seal_all.Tie as tie
+
+abbrev Inv-loop : tie.InvT-loop
+Inv-loop kind size count out₀ i₀ out i = (i ≤ count) × (length out ≡ length out₀) × (out ≡ firstBlocks kind (payloads out₀ 0 size) count i ++ drop (512 * i) out₀)
+
+abbrev μ-loop : tie.MeasureT-loop
+μ-loop kind size count out₀ i₀ out i = count - i
+
+loop-holds : tie.Need-loop-holds Inv-loop μ-loop
+unfolding firstBlocks
+loop-holds c = (omega arith, refl, refl)
+
+mul-lesser : tie.Need-mul-lesser Inv-loop μ-loop
+mul-lesser c = search needs
+
+sub-lesser : tie.Need-sub-lesser Inv-loop μ-loop
+sub-lesser c = search needs
+
+lesser-requires : tie.Need-lesser-requires Inv-loop μ-loop
+lesser-requires c κs = search needs
+
+mul-seal : tie.Need-mul-seal Inv-loop μ-loop
+mul-seal c = search needs
+
+mul-seal-2 : tie.Need-mul-seal-2 Inv-loop μ-loop
+mul-seal-2 c = search needs
+
+add-seal : tie.Need-add-seal Inv-loop μ-loop
+add-seal c = search needs
+
+sub-seal : tie.Need-sub-seal Inv-loop μ-loop
+sub-seal c = search needs
+
+part-seal-start : tie.Need-part-seal-start Inv-loop μ-loop
+part-seal-start c = search needs
+
+part-seal-end : tie.Need-part-seal-end Inv-loop μ-loop
+part-seal-end c = search needs
+
+seal-requires : tie.Need-seal-requires Inv-loop μ-loop
+seal-requires c κs =
+    let l = c .before .before .before .loop in
+    (omega arith, omega arith, omega arith, omega arith, mid-len (512 * l .i) (512 * l .i + 512) (l .out) (omega arith) ∙ omega arith)
+
+add-i : tie.Need-add-i Inv-loop μ-loop
+add-i c = search needs
+
+loop-less : tie.Need-loop-less Inv-loop μ-loop
+loop-less c = search needs
+
+loop-again : tie.Need-loop-again Inv-loop μ-loop
+loop-again c =
+    let u = c .before .before .before .before in
+    let s = u .before .before .before .before in
+    let a = s .args in
+    let l = u .before .before .loop in
+    let p = c .before .before .seal in (
+      omega arith,
+      same-len-mid (512 * l .i) (512 * l .i + 512 - 512 * l .i) (l .out) (p .last .1 .1 .1 .1 .0) (p .kept .1 .1 .1 .1 .0) ∙ l .inv .1,
+      blocks-more (a .kind) (payloads (now (a .out)) 0 (a .size)) (a .count) (l .i) (l .out) (now (a .out)) _ (l .inv .2)
+          (p .ensures ∙ ap (block (a .kind) (l .i) (a .count)) (sealed-part (a .kind) (a .size) (a .count) (l .i) (u .lesser .result) (l .out) (now (a .out)) (u .lesser .ensures) (omega arith) (l .inv .2))),
+    )
+
+same-length : tie.Need-same-length Inv-loop μ-loop
+same-length c = search needs
+
+returns : tie.Need-returns Inv-loop μ-loop
+returns c =
+    let s = c .before .before .before in
+    let a = s .args in
+    let l = c .before .loop in
+    blocks-done (a .kind) (payloads (now (a .out)) 0 (a .size)) (a .count) (l .i) _ (now (a .out)) (s .pre .2 ∙ ap blockCount (sym (length-listed _ (a .size)))) (omega arith) (l .inv .2)
+
+pub seal-all-spec : {M : Type 1} → statement M
+seal-all-spec =
+    tie.close
+    (tie.spec
+    Inv-loop
+    μ-loop
+    loop-holds
+    mul-lesser
+    sub-lesser
+    lesser-requires
+    mul-seal
+    mul-seal-2
+    add-seal
+    sub-seal
+    part-seal-start
+    part-seal-end
+    seal-requires
+    add-i
+    loop-less
+    loop-again
+    same-length
+    returns)

@@ -1,0 +1,40 @@
+-- Reading and writing: the answer, and what a target holds afterwards. Document 01, Blocks on disk. The answers serve every kind; what a list's or items' one target must be stands here, what a picture's two must be in Picture.
+use mathlib.Core.Bool.{Bool, cond, not, _&&_}
+use mathlib.Core.List.{List, _++_}
+use Prim.Native.Nat.{ℕ, _*_}
+use lib.Dec.{eqb, leb, ltb}
+use lib.ListN.{length, drop}
+use Rattle.contents.specs.declared.Answer.{Answer}
+use Rattle.contents.specs.File.{done, refused, contentOf, kindRight, sizeFits, judge, blockCount}
+
+-- Reading: a file that stands when judged is refused with 26 if its targets do not fit.
+unfoldable pub readAnswer : ℕ → List ℕ → Bool → Answer
+readAnswer kind bytes fits =
+    cond (not (eqb (judge kind bytes .number) 0)) (judge kind bytes)
+    (cond (not fits) (refused 26 0) (judge kind bytes))
+
+-- "Writing: 26 content of wrong size; 27 output too short", after 22 for the kind asked.
+unfoldable pub writeAnswer : ℕ → Bool → ℕ → ℕ → Answer
+writeAnswer kind fits size room =
+    cond (not (kindRight kind)) (refused 22 0)
+    (cond (not fits) (refused 26 0)
+    (cond (ltb room (512 * blockCount size)) (refused 27 0)
+    (done (512 * blockCount size))))
+
+-- "Targets change only on success": what a target holds after an answer, new or old.
+abbrev pub changed : Answer → List ℕ → List ℕ → List ℕ
+changed a new old = cond (eqb (a .number) 0) new old
+
+-- "And only where content goes": a target with a content in the place of its first bytes.
+abbrev pub over : List ℕ → List ℕ → List ℕ
+over new old = new ++ drop (length new) old
+
+-- ---- a list or items: one target, one content. A picture asked for here has no target that fits (docs/DECISIONS.md).
+
+-- The target is not too short.
+abbrev pub targetFits : ℕ → List ℕ → List ℕ → Bool
+targetFits kind bytes target = ltb 1 kind && leb (length (contentOf bytes)) (length target)
+
+-- The content is of the right size.
+abbrev pub contentFits : ℕ → List ℕ → Bool
+contentFits kind content = ltb 1 kind && sizeFits kind (length content)

@@ -1,0 +1,24 @@
+-- `staran_write_picture`: what the entry leaves, and its answer as three numbers. Assumes nothing.
+use borrow.Author.Needs.{needs}
+use Rattle.library.proofs.LeftLaws.{write-picture-small, write-picture-left}
+use Rattle.library.proofs.staran_write_picture.Statement.{statement}
+use Rattle.library.proofs.staran_write_picture.Tie as tie
+
+write-picture-requires : tie.Need-write-picture-requires
+write-picture-requires c κs = search needs
+
+three-requires : tie.Need-three-requires
+three-requires c κs =
+    write-picture-small _ _ _ _ (c .before .before .write-picture .ensures .0)
+
+same-length : tie.Need-same-length
+same-length c = search needs
+
+returns : tie.Need-returns
+returns c =
+    let k = c .before .before .before in
+    write-picture-left _ _ _ _ _ _ _ (k .write-picture .ensures .0) (k .write-picture .ensures .1) (c .three .ensures)
+
+pub staran-write-picture-spec : {M : Type 1} → statement M
+staran-write-picture-spec =
+    tie.close (tie.spec write-picture-requires three-requires same-length returns)

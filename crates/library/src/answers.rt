@@ -1,0 +1,45 @@
+// Answers as 32-bit numbers: the entries' own, each small enough.
+use builders::Built;
+use contents::Answer;
+ghost use mathlib.Core.Path.{_≡_};
+ghost use mathlib.Core.List.{[], _∷_};
+ghost use Prim.Native.Nat.{_≤_};
+ghost use Rattle.library.specs.Left.{five, three};
+
+// Number, place, steps, taken, given.
+pub fn five(a: judge::Answer) -> [u32; 5]
+    requires { ⌜ (a .place ≤ 4096) × (a .steps ≤ 4096) × (a .taken ≤ 4096) × (a .given ≤ 4096) ⌝ }
+    ensures { λ r. ⌜ r ≡ five a ⌝ }
+{
+    [
+        a.number as u32,
+        a.place as u32,
+        a.steps as u32,
+        a.taken as u32,
+        a.given as u32,
+    ]
+}
+
+// The same five, put into the lent array: `staran_step` hands its own on to here.
+pub fn put_five(a: judge::Answer, answer: &mut [u32; 5])
+    requires { ⌜ (a .place ≤ 4096) × (a .steps ≤ 4096) × (a .taken ≤ 4096) × (a .given ≤ 4096) ⌝ }
+    ensures { λ _. ⌜ now (answer .exit) ≡ five a ⌝ }
+{
+    *answer = five(a);
+}
+
+// Number, place, bytes put out.
+pub fn three(a: Answer) -> [u32; 3]
+    requires { ⌜ (a .place ≤ 67) × (a .bytes ≤ 34304) ⌝ }
+    ensures { λ r. ⌜ r ≡ three a ⌝ }
+{
+    [a.number as u32, a.place as u32, a.bytes as u32]
+}
+
+// Number and count of bytes.
+pub fn two(b: Built) -> [u32; 2]
+    requires { ⌜ b .count ≤ 2576 ⌝ }
+    ensures { λ r. ⌜ r ≡ b .number ∷ b .count ∷ [] ⌝ }
+{
+    [b.number as u32, b.count as u32]
+}

@@ -1,0 +1,164 @@
+// The library that others link: the public entries under C names, with their answers in a lent array of 32-bit numbers. include/staran.h says each contract in words.
+//
+// A slice passes as a pointer and a length; an array and the register record, as a pointer. No function asks anything of its bytes and lengths.
+mod answers;
+
+use registers::Registers;
+ghost use mathlib.Core.Path.{_≡_};
+ghost use Rattle.library.specs.Left.{runLeft, stepLeft, passLeft, sumLeft, differenceLeft, readLeft, writeLeft, readPictureLeft, writePictureLeft};
+
+// A run of an instruction list.
+#[no_mangle]
+pub extern "C" fn staran_run(
+    memory: &mut [u8],
+    registers: &mut [u8],
+    list: &[u8],
+    items: &[u8],
+    out: &mut [u8],
+    answer: &mut [u32; 5],
+)
+    ensures { λ _. ⌜ record { memory = now (memory .exit); registers = now (registers .exit); out = now (out .exit); answer = now (answer .exit) } ≡ runLeft (now (memory .entry)) (now (registers .entry)) (now (list .entry)) (now (items .entry)) (now (out .entry)) ⌝ }
+{
+    let a = module::run(memory, registers, list, items, out);
+    *answer = answers::five(a);
+}
+
+// A step: an operator's console lends the register record and finds it updated there.
+#[no_mangle]
+pub extern "C" fn staran_step(
+    memory: &mut [u8],
+    registers: &mut Registers,
+    items: &[u8],
+    out: &mut [u8],
+    instruction: &[u8],
+    answer: &mut [u32; 5],
+)
+    ensures { λ _. ⌜ record { memory = now (memory .exit); registers = now (registers .exit); out = now (out .exit); answer = now (answer .exit) } ≡ stepLeft (now (memory .entry)) (now (registers .entry)) (now (items .entry)) (now (out .entry)) (now (instruction .entry)) ⌝ }
+{
+    let a = module::step(memory, registers, items, out, instruction);
+    answers::put_five(a, answer);
+}
+
+// A pass of the network in arithmetic form.
+#[no_mangle]
+pub extern "C" fn staran_pass<'a>(
+    item: &'a [u8; 32],
+    flip: u8,
+    code: u8,
+    passed: &'a mut [u8; 32],
+    answer: &'a mut [u32; 1],
+)
+    ensures { λ _. ⌜ record { passed = now (passed .exit); answer = now (answer .exit) } ≡ passLeft (now (item .entry)) flip code ⌝ }
+{
+    let r = network::pass(item, flip, code);
+    let out = r.item;
+    *passed = out;
+    *answer = [r.number as u32];
+}
+
+// The same pass in wired form.
+#[no_mangle]
+pub extern "C" fn staran_wired_pass<'a>(
+    item: &'a [u8; 32],
+    flip: u8,
+    code: u8,
+    passed: &'a mut [u8; 32],
+    answer: &'a mut [u32; 1],
+)
+    ensures { λ _. ⌜ record { passed = now (passed .exit); answer = now (answer .exit) } ≡ passLeft (now (item .entry)) flip code ⌝ }
+{
+    let r = network::wired_pass(item, flip, code);
+    let out = r.item;
+    *passed = out;
+    *answer = [r.number as u32];
+}
+
+// The list that adds two fields.
+#[no_mangle]
+pub extern "C" fn staran_sum_list(
+    a: u32,
+    b: u32,
+    s: u32,
+    n: u32,
+    list: &mut [u8],
+    answer: &mut [u32; 2],
+)
+    ensures { λ _. ⌜ record { buffer = now (list .exit); answer = now (answer .exit) } ≡ sumLeft a b s n (now (list .entry)) ⌝ }
+{
+    let r = builders::sum_list(a, b, s, n, list);
+    *answer = answers::two(r);
+}
+
+// The list that takes a field off another.
+#[no_mangle]
+pub extern "C" fn staran_difference_list(
+    a: u32,
+    b: u32,
+    s: u32,
+    n: u32,
+    list: &mut [u8],
+    answer: &mut [u32; 2],
+)
+    ensures { λ _. ⌜ record { buffer = now (list .exit); answer = now (answer .exit) } ≡ differenceLeft a b s n (now (list .entry)) ⌝ }
+{
+    let r = builders::difference_list(a, b, s, n, list);
+    *answer = answers::two(r);
+}
+
+// Reads the blocks of a list or of items.
+#[no_mangle]
+pub extern "C" fn staran_read_content(
+    kind: usize,
+    bytes: &[u8],
+    target: &mut [u8],
+    answer: &mut [u32; 3],
+)
+    ensures { λ _. ⌜ record { buffer = now (target .exit); answer = now (answer .exit) } ≡ readLeft kind (now (bytes .entry)) (now (target .entry)) ⌝ }
+{
+    let r = pictures::read_content(kind, bytes, target);
+    *answer = answers::three(r);
+}
+
+// Writes a list or items as blocks.
+#[no_mangle]
+pub extern "C" fn staran_write_content(
+    kind: usize,
+    content: &[u8],
+    out: &mut [u8],
+    answer: &mut [u32; 3],
+)
+    ensures { λ _. ⌜ record { buffer = now (out .exit); answer = now (answer .exit) } ≡ writeLeft kind (now (content .entry)) (now (out .entry)) ⌝ }
+{
+    let r = pictures::write_content(kind, content, out);
+    *answer = answers::three(r);
+}
+
+// Reads a picture into a memory and registers.
+#[no_mangle]
+pub extern "C" fn staran_read_picture(
+    kind: usize,
+    bytes: &[u8],
+    memory: &mut [u8],
+    registers: &mut [u8],
+    answer: &mut [u32; 3],
+)
+    ensures { λ _. ⌜ record { memory = now (memory .exit); registers = now (registers .exit); answer = now (answer .exit) } ≡ readPictureLeft kind (now (bytes .entry)) (now (memory .entry)) (now (registers .entry)) ⌝ }
+{
+    let r = pictures::read_picture(kind, bytes, memory, registers);
+    *answer = answers::three(r);
+}
+
+// Writes a memory and registers as a picture.
+#[no_mangle]
+pub extern "C" fn staran_write_picture(
+    kind: usize,
+    memory: &[u8],
+    registers: &[u8],
+    out: &mut [u8],
+    answer: &mut [u32; 3],
+)
+    ensures { λ _. ⌜ record { buffer = now (out .exit); answer = now (answer .exit) } ≡ writePictureLeft kind (now (memory .entry)) (now (registers .entry)) (now (out .entry)) ⌝ }
+{
+    let r = pictures::write_picture(kind, memory, registers, out);
+    *answer = answers::three(r);
+}

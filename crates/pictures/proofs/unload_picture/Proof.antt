@@ -1,0 +1,122 @@
+-- `unload_picture`: each turn puts eight words more of the content into the memory.
+use mathlib.Core.Path.{_≡_, ap, _∙_}
+use Prim.Native.Nat.{ℕ, _≤_, _<_, _-_, _*_}
+use native.Mathlib.Omega.{arith}
+use lib.ListN.{length, getD}
+use denote.Ref.{now}
+use Rattle.contents.specs.File.{contentOf}
+use Rattle.contents.specs.Payloads.{payloads}
+use Rattle.contents.proofs.OneForm.{content-bytes}
+use Rattle.contents.proofs.PayloadLaws.{payloads-content, payloads-room}
+use Rattle.pictures.proofs.PictureLaws.{picture-stands, picture-size, registers-rest, withWords, words-start, words-put, words-done}
+use borrow.Author.Needs.{needs}
+use Rattle.pictures.proofs.unload_picture.Statement.{statement}
+use Rattle.pictures.proofs.unload_picture.Tie as tie
+
+abbrev Inv-loop : tie.InvT-loop
+Inv-loop bytes memory₀ registers v₀ memory v = (v ≤ 32) × (length memory ≡ 8192) × (memory ≡ withWords (contentOf bytes) memory₀ v)
+
+abbrev μ-loop : tie.MeasureT-loop
+μ-loop bytes memory₀ registers v₀ memory v = 32 - v
+
+-- the content is one of bytes
+small : (c : tie.After-slice-known2 Inv-loop μ-loop) → (i : ℕ) → getD (contentOf (now (c .before .before .before .args .bytes))) i 0 < 256
+small c =
+    let s = c .before .before .before in
+    let b = now (s .args .bytes) in
+    content-bytes 1 b (picture-stands b (s .pre .0)) (λ i. c .before .before .shared-slice-known .given i .fits)
+
+loop-holds : tie.Need-loop-holds Inv-loop μ-loop
+loop-holds c =
+    let s = c .before .before .before in
+    (omega arith, s .pre .1, words-start (contentOf (now (s .args .bytes))) (now (s .args .memory)) (s .pre .1) (λ i. c .before .slice-known .given i .fits))
+
+mul-part-of : tie.Need-mul-part-of Inv-loop μ-loop
+mul-part-of c = search needs
+
+slice-aggregate-part-of : tie.Need-slice-aggregate-part-of Inv-loop μ-loop
+slice-aggregate-part-of c = search needs
+
+part-of-requires : tie.Need-part-of-requires Inv-loop μ-loop
+part-of-requires c κs =
+    let s = c .before .before .before .before .before .before in
+    let b = now (s .args .bytes) in
+    payloads-room 1 b (picture-stands b (s .pre .0)) _ (omega (arith, picture-size b (s .pre .0)))
+
+slice-aggregate-words-in : tie.Need-slice-aggregate-words-in Inv-loop μ-loop
+slice-aggregate-words-in c = search needs
+
+words-in-requires : tie.Need-words-in-requires Inv-loop μ-loop
+words-in-requires c κs = search needs
+
+add-v : tie.Need-add-v Inv-loop μ-loop
+add-v c = search needs
+
+loop-less : tie.Need-loop-less Inv-loop μ-loop
+loop-less c = search needs
+
+loop-again : tie.Need-loop-again Inv-loop μ-loop
+loop-again c =
+    let k = c .before .before .before .before .before .before .before .before .before .before in
+    let s = k .before .before .before in
+    let b = now (s .args .bytes) in
+    let q = s .pre .0 in
+    let n = picture-size b q in
+    let l = c .before .before .before .before .before .before .before .before .before .loop in
+    let p = c .before .before .before .before .before .before .part-of in
+    let w = c .before .before .words-in in (
+      omega arith,
+      w .kept .0 ∙ l .inv .1,
+      w .ensures ∙ words-put (contentOf b) (now (s .args .memory)) (omega arith) (small k) (l .memory) _ (l .v) (omega arith) (l .inv .2)
+          (p .ensures ∙ payloads-content 1 b (picture-stands b q) (256 * l .v) 256 (omega arith)),
+    )
+
+part-of-requires-2 : tie.Need-part-of-requires-2 Inv-loop μ-loop
+part-of-requires-2 c κs =
+    let s = c .before .before .before .before .before .before in
+    let b = now (s .args .bytes) in
+    payloads-room 1 b (picture-stands b (s .pre .0)) _ (omega (arith, picture-size b (s .pre .0)))
+
+same-length : tie.Need-same-length Inv-loop μ-loop
+same-length c = search needs
+
+same-length-2 : tie.Need-same-length-2 Inv-loop μ-loop
+same-length-2 c = search needs
+
+returns : tie.Need-returns Inv-loop μ-loop
+returns c =
+    let l = c .before .before .before .before .before .loop in
+    let k = c .before .before .before .before .before .before in
+    let s = k .before .before .before in
+    let b = now (s .args .bytes) in
+    let q = s .pre .0 in
+    let n = picture-size b q in
+    let e : l .v ≡ 32 = omega arith in (
+      l .inv .2
+          ∙ ap (withWords (contentOf b) (now (s .args .memory))) e
+          ∙ words-done (contentOf b) (now (s .args .memory)) (omega arith) (small k),
+      c .before .before .part-of2 .ensures
+          ∙ ap (λ (m : ℕ). payloads b 8192 m) (s .pre .2)
+          ∙ payloads-content 1 b (picture-stands b q) 8192 96 (omega arith)
+          ∙ registers-rest (contentOf b) n,
+    )
+
+pub unload-picture-spec : {M : Type 1} → statement M
+unload-picture-spec =
+    tie.close
+    (tie.spec
+    Inv-loop
+    μ-loop
+    loop-holds
+    mul-part-of
+    slice-aggregate-part-of
+    part-of-requires
+    slice-aggregate-words-in
+    words-in-requires
+    add-v
+    loop-less
+    loop-again
+    part-of-requires-2
+    same-length
+    same-length-2
+    returns)
