@@ -11,7 +11,7 @@ use Rattle.network.specs.Answer.{answer}
 use Rattle.registers.specs.declared.Registers.{Registers}
 use Rattle.judge.specs.declared.Answer.{Answer as Verdict}
 use Rattle.judge.proofs.Bounds.{Bounded as Bounded5, judged-bounds, step-bounds}
-use Rattle.module.specs.Run.{Left, ran, Updated, stepped}
+use Rattle.module.specs.Run.{Lent, Left, runLengths, stepLengths, ran, stepped}
 use Rattle.module.proofs.RunLaws.{ran-answer}
 use Rattle.module.proofs.StepLaws.{stepped-answer}
 use Rattle.builders.specs.declared.Built.{Built}
@@ -22,38 +22,41 @@ use Rattle.contents.specs.File.{contentOf, blocksOf}
 use Rattle.contents.specs.Content.{readAnswer, writeAnswer, changed, over, targetFits, contentFits}
 use Rattle.contents.proofs.Bounds.{Bounded as Bounded3, read-bounds, write-bounds, write-content-bounds}
 use Rattle.pictures.specs.Picture.{pictureOf, scrambled, pictureFits}
-use Rattle.library.specs.Left.{five, three, RunLeft, runLeft, StepLeft, stepLeft, PassLeft, passLeft, BufferLeft, builtLeft, sumLeft, differenceLeft, readLeft, writeLeft, PictureLeft, readPictureLeft, writePictureLeft}
+use Rattle.library.specs.Left.{five, three, runLeft, stepLeft, PassLeft, passLeft, BufferLeft, builtLeft, sumLeft, differenceLeft, readLeft, writeLeft, PictureLeft, readPictureLeft, writePictureLeft}
 
 -- ---- the array
 
 small-five : (a b : Verdict) → a ≡ b → Bounded5 b → (a .place ≤ 4096) × (a .steps ≤ 4096) × (a .taken ≤ 4096) × (a .given ≤ 4096)
 small-five a b e h = let s = subst Bounded5 (sym e) h in (s .place, s .steps, s .taken, s .given)
 
-module _ (memory registers list items out : List ℕ) (l : Left) where
-  pub ran-small : l ≡ ran memory registers list items out → (l .answer .place ≤ 4096) × (l .answer .steps ≤ 4096) × (l .answer .taken ≤ 4096) × (l .answer .given ≤ 4096)
+module _ {R : Type 0} (u v : Left R Verdict) where
+  -- the same registers and buffers, and the answer's numbers in its place
+  abbrev numbers : Left R Verdict → Left R (List ℕ)
+  numbers x = record { memory = x .memory; registers = x .registers; out = x .out; answer = five (x .answer) }
+
+  left-as : (w : List ℕ) → u ≡ v → w ≡ five (u .answer)
+      → _≡_ {A = Left R (List ℕ)} (record { memory = u .memory; registers = u .registers; out = u .out; answer = w }) (numbers v)
+  left-as w e d = ap (λ (x : List ℕ). record { memory = u .memory; registers = u .registers; out = u .out; answer = x }) d ∙ ap numbers e
+
+module _ (l : Lent (List ℕ)) (u : Left (List ℕ) Verdict) where
+  pub ran-small : u ≡ ran l → (u .answer .place ≤ 4096) × (u .answer .steps ≤ 4096) × (u .answer .taken ≤ 4096) × (u .answer .given ≤ 4096)
   ran-small e =
-      small-five (l .answer) _ (ap (λ (x : Left). x .answer) e ∙ ran-answer memory registers list items out)
-      (judged-bounds (length memory) (length registers) list (length items) (length out))
+      small-five (u .answer) _ (ap (λ (x : Left (List ℕ) Verdict). x .answer) e ∙ ran-answer l) (judged-bounds (runLengths l) (l .list))
 
-  pub run-left : (w : List ℕ) → l ≡ ran memory registers list items out → w ≡ five (l .answer)
-      → _≡_ {A = RunLeft} (record { memory = l .mem; registers = l .regs; out = l .out; answer = w }) (runLeft memory registers list items out)
+  pub run-left : (w : List ℕ) → u ≡ ran l → w ≡ five (u .answer)
+      → _≡_ {A = Left (List ℕ) (List ℕ)} (record { memory = u .memory; registers = u .registers; out = u .out; answer = w }) (runLeft l)
   unfolding runLeft
-  run-left w e d =
-      ap (λ (x : List ℕ). record { memory = l .mem; registers = l .regs; out = l .out; answer = x }) d
-      ∙ ap (λ (x : Left). record { memory = x .mem; registers = x .regs; out = x .out; answer = five (x .answer) }) e
+  run-left = left-as u (ran l)
 
-module _ (memory : List ℕ) (r : Registers) (items out instruction : List ℕ) (u : Updated) where
-  pub stepped-small : u ≡ stepped memory r instruction items out → (u .answer .place ≤ 4096) × (u .answer .steps ≤ 4096) × (u .answer .taken ≤ 4096) × (u .answer .given ≤ 4096)
+module _ (l : Lent Registers) (u : Left Registers Verdict) where
+  pub stepped-small : u ≡ stepped l → (u .answer .place ≤ 4096) × (u .answer .steps ≤ 4096) × (u .answer .taken ≤ 4096) × (u .answer .given ≤ 4096)
   stepped-small e =
-      small-five (u .answer) _ (ap (λ (x : Updated). x .answer) e ∙ stepped-answer memory r instruction items out)
-      (step-bounds (length memory) instruction (length items) (length out))
+      small-five (u .answer) _ (ap (λ (x : Left Registers Verdict). x .answer) e ∙ stepped-answer l) (step-bounds (stepLengths l) (l .list))
 
-  pub step-left : (w : List ℕ) → u ≡ stepped memory r instruction items out → w ≡ five (u .answer)
-      → _≡_ {A = StepLeft} (record { memory = u .mem; registers = u .regs; out = u .out; answer = w }) (stepLeft memory r items out instruction)
+  pub step-left : (w : List ℕ) → u ≡ stepped l → w ≡ five (u .answer)
+      → _≡_ {A = Left Registers (List ℕ)} (record { memory = u .memory; registers = u .registers; out = u .out; answer = w }) (stepLeft l)
   unfolding stepLeft
-  step-left w e d =
-      ap (λ (x : List ℕ). record { memory = u .mem; registers = u .regs; out = u .out; answer = x }) d
-      ∙ ap (λ (x : Updated). record { memory = x .mem; registers = x .regs; out = x .out; answer = five (x .answer) }) e
+  step-left = left-as u (stepped l)
 
 -- ---- the network
 

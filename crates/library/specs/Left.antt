@@ -5,7 +5,7 @@ use lib.ListN.{length, drop}
 use Rattle.network.specs.Answer.{answer}
 use Rattle.registers.specs.declared.Registers.{Registers}
 use Rattle.judge.specs.declared.Answer.{Answer as Verdict}
-use Rattle.module.specs.Run.{ran, stepped}
+use Rattle.module.specs.Run.{Lent, Left, ran, stepped}
 use Rattle.builders.specs.Fields.{Left as Built, sumBuilt, differenceBuilt}
 use Rattle.contents.specs.declared.Answer.{Answer}
 use Rattle.contents.specs.File.{contentOf, blocksOf}
@@ -24,27 +24,11 @@ three a = a .number ∷ a .place ∷ a .bytes ∷ []
 
 -- ---- the array
 
-pub record RunLeft : Type 0 where
-  pub memory : List ℕ
-  pub registers : List ℕ
-  pub out : List ℕ
-  pub answer : List ℕ
+unfoldable pub runLeft : Lent (List ℕ) → Left (List ℕ) (List ℕ)
+runLeft l = let s = ran l in record { memory = s .memory; registers = s .registers; out = s .out; answer = five (s .answer) }
 
-unfoldable pub runLeft : List ℕ → List ℕ → List ℕ → List ℕ → List ℕ → RunLeft
-runLeft memory registers list items out =
-    let s = ran memory registers list items out in
-    record { memory = s .mem; registers = s .regs; out = s .out; answer = five (s .answer) }
-
-pub record StepLeft : Type 0 where
-  pub memory : List ℕ
-  pub registers : Registers
-  pub out : List ℕ
-  pub answer : List ℕ
-
-unfoldable pub stepLeft : List ℕ → Registers → List ℕ → List ℕ → List ℕ → StepLeft
-stepLeft memory registers items out instruction =
-    let s = stepped memory registers instruction items out in
-    record { memory = s .mem; registers = s .regs; out = s .out; answer = five (s .answer) }
+unfoldable pub stepLeft : Lent Registers → Left Registers (List ℕ)
+stepLeft l = let s = stepped l in record { memory = s .memory; registers = s .registers; out = s .out; answer = five (s .answer) }
 
 -- ---- the network: either form
 

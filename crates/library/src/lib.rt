@@ -17,7 +17,10 @@ pub extern "C" fn staran_run(
     out: &mut [u8],
     answer: &mut [u32; 5],
 )
-    ensures { λ _. ⌜ record { memory = now (memory .exit); registers = now (registers .exit); out = now (out .exit); answer = now (answer .exit) } ≡ runLeft (now (memory .entry)) (now (registers .entry)) (now (list .entry)) (now (items .entry)) (now (out .entry)) ⌝ }
+    ensures { λ _. ⌜
+        record { memory = now (memory .exit); registers = now (registers .exit); out = now (out .exit); answer = now (answer .exit) }
+        ≡ runLeft (record { memory = now (memory .entry); registers = now (registers .entry); list = now (list .entry); items = now (items .entry); out = now (out .entry) })
+        ⌝ }
 {
     let a = module::run(memory, registers, list, items, out);
     *answer = answers::five(a);
@@ -28,14 +31,17 @@ pub extern "C" fn staran_run(
 pub extern "C" fn staran_step(
     memory: &mut [u8],
     registers: &mut Registers,
+    instruction: &[u8],
     items: &[u8],
     out: &mut [u8],
-    instruction: &[u8],
     answer: &mut [u32; 5],
 )
-    ensures { λ _. ⌜ record { memory = now (memory .exit); registers = now (registers .exit); out = now (out .exit); answer = now (answer .exit) } ≡ stepLeft (now (memory .entry)) (now (registers .entry)) (now (items .entry)) (now (out .entry)) (now (instruction .entry)) ⌝ }
+    ensures { λ _. ⌜
+        record { memory = now (memory .exit); registers = now (registers .exit); out = now (out .exit); answer = now (answer .exit) }
+        ≡ stepLeft (record { memory = now (memory .entry); registers = now (registers .entry); list = now (instruction .entry); items = now (items .entry); out = now (out .entry) })
+        ⌝ }
 {
-    let a = module::step(memory, registers, items, out, instruction);
+    let a = module::step(memory, registers, instruction, items, out);
     answers::put_five(a, answer);
 }
 

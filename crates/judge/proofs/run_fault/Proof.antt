@@ -1,8 +1,7 @@
--- `judge::length_fault`: the rows' contracts put together. Assumes nothing.
-use Rattle.judge.specs.Judge.{lengthFault}
+-- `judge::run_fault`: the rows' contracts put together. Assumes nothing.
 use borrow.Author.Needs.{needs}
-use Rattle.judge.proofs.length_fault.Statement.{statement}
-use Rattle.judge.proofs.length_fault.Tie as tie
+use Rattle.judge.proofs.run_fault.Statement.{statement}
+use Rattle.judge.proofs.run_fault.Tie as tie
 
 unfit-requires : tie.Need-unfit-requires
 unfit-requires c κs = search needs
@@ -23,11 +22,10 @@ number-or-requires-4 : tie.Need-number-or-requires-4
 number-or-requires-4 c κs = search needs
 
 returns : tie.Need-returns
-unfolding lengthFault
 returns c = cc
 
-pub length-fault-spec : {M : Type 1} → statement M
-length-fault-spec =
+pub run-fault-spec : {M : Type 1} → statement M
+run-fault-spec =
     tie.close
     (tie.spec
     unfit-requires
