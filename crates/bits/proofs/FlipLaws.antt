@@ -29,25 +29,34 @@ digit-swapped m k t x j hx hj =
     eqb→eq (digit (swapped m k x) j) (digit x (bitXor j k)) (all-at 8 (swaps m k x) (all-at 256 (λ x. all 8 (λ j. swaps m k x j)) t x hx) j hj)
 
 -- an exchange that is made where d is 1
-step : (m k : ℕ) → T (tested m k) → (d x j : ℕ) → Bit d → x < 256 → j < 8 → digit (cond (eqb d 1) (swapped m k x) x) j ≡ digit x (bitXor j (d * k))
-step m k t d x j off hx hj = ap (digit x) (sym (xor-zero-r j) ∙ ap (bitXor j) none)
+by-digit : (m k : ℕ) → T (tested m k) → (d x j : ℕ) → Bit d → x < 256 → j < 8
+    → digit (cond (eqb d 1) (swapped m k x) x) j ≡ digit x (bitXor j (d * k))
+by-digit m k t d x j off hx hj = ap (digit x) (sym (xor-zero-r j) ∙ ap (bitXor j) none)
   where
     none : 0 ≡ 0 * k
     none = omega arith
-step m k t d x j on hx hj = digit-swapped m k t x j hx hj ∙ ap (λ (y : ℕ). digit x (bitXor j y)) once
+by-digit m k t d x j on hx hj = digit-swapped m k t x j hx hj ∙ ap (λ (y : ℕ). digit x (bitXor j y)) once
   where
     once : k ≡ 1 * k
     once = omega arith
 
-pub swap-ones : (d x j : ℕ) → Bit d → x < 256 → j < 8 → digit (cond (eqb d 1) (swapped 85 1 x) x) j ≡ digit x (bitXor j (d * 1))
+-- and r, what came of it
+step : (m k : ℕ) → T (tested m k) → (d x r j : ℕ) → r ≡ cond (eqb d 1) (swapped m k x) x → Bit d → x < 256 → j < 8
+    → digit r j ≡ digit x (bitXor j (d * k))
+step m k t d x r j e b hx hj = ap (λ (y : ℕ). digit y j) e ∙ by-digit m k t d x j b hx hj
+
+pub swap-ones : (d x r j : ℕ) → r ≡ cond (eqb d 1) (swapped 85 1 x) x → Bit d → x < 256 → j < 8
+    → digit r j ≡ digit x (bitXor j (d * 1))
 unfolding tested swaps
 swap-ones = step 85 1 tt
 
-pub swap-twos : (d x j : ℕ) → Bit d → x < 256 → j < 8 → digit (cond (eqb d 1) (swapped 51 2 x) x) j ≡ digit x (bitXor j (d * 2))
+pub swap-twos : (d x r j : ℕ) → r ≡ cond (eqb d 1) (swapped 51 2 x) x → Bit d → x < 256 → j < 8
+    → digit r j ≡ digit x (bitXor j (d * 2))
 unfolding tested swaps
 swap-twos = step 51 2 tt
 
-pub swap-fours : (d x j : ℕ) → Bit d → x < 256 → j < 8 → digit (cond (eqb d 1) (swapped 15 4 x) x) j ≡ digit x (bitXor j (d * 4))
+pub swap-fours : (d x r j : ℕ) → r ≡ cond (eqb d 1) (swapped 15 4 x) x → Bit d → x < 256 → j < 8
+    → digit r j ≡ digit x (bitXor j (d * 4))
 unfolding tested swaps
 swap-fours = step 15 4 tt
 

@@ -81,6 +81,12 @@ module _ (x : ℕ → ℕ) (v : ℕ → ℕ → ℕ) (l : List ℕ) where
       ∙ written-add m n
       ∙ ap (written x v l) ek
 
+  -- and w′, what that loop left
+  pub then-written : (y : ℕ → ℕ) (u : ℕ → ℕ → ℕ) (w w′ : List ℕ) (m n k : ℕ) → w′ ≡ written y u w n → w ≡ written x v l m → m + n ≡ k
+      → ((j : ℕ) → j < n → y j ≡ x (m + j)) → ((j o : ℕ) → j < n → u j o ≡ v (m + j) o)
+      → w′ ≡ written x v l k
+  then-written y u w w′ m n k e ew ek p q = e ∙ written-then y u w m n k ew ek p q
+
 set-bytes : (l : List ℕ) (i a : ℕ) → ((j : ℕ) → getD l j 0 < 256) → a < 256 → (j : ℕ) → getD (set l i a) j 0 < 256
 set-bytes l i a b h j = go (ℕ-discrete j i) (decLt i (length l))
   where

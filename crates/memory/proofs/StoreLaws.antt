@@ -209,14 +209,16 @@ module _ (mem item put : List ℕ) (mask : ℕ → ℕ) (m g : ℕ) (size : leng
       let e : k ≡ 256 * (k / 256) + k % 256 = omega arith in
       ap (bitOf after) e ∙ bit (k / 256) (k % 256) (omega arith) (omega arith))
 
-  -- as the loops leave it: what comes and what stays stand in two lists
-  pub store-written : (lanes keep : List ℕ) (n : ℕ) → lanes ≡ listed (λ k. laneByte (bitOf put) m g (k % 32) (k / 32)) 256
+  -- as the loops leave it, w: what comes and what stays stand in two lists
+  pub store-written : (lanes keep w : List ℕ) (n : ℕ)
+      → w ≡ written (λ k. spot m g (k / 8) (k % 8)) (λ k o. renewed o (getD keep (32 * (k % 8) + k / 8 % n) 0) (getD lanes (32 * (k % 8) + k / 8) 0)) mem 256
+      → lanes ≡ listed (λ k. laneByte (bitOf put) m g (k % 32) (k / 32)) 256
       → ((k : ℕ) → k < 256 → getD keep (32 * (k % 8) + k / 8 % n) 0 ≡ keepByte mask m g (k / 8) (k % 8))
-      → written (λ k. spot m g (k / 8) (k % 8)) (λ k o. renewed o (getD keep (32 * (k % 8) + k / 8 % n) 0) (getD lanes (32 * (k % 8) + k / 8) 0)) mem 256
-      ≡ stored mem m g mask (bitOf item)
+      → w ≡ stored mem m g mask (bitOf item)
   unfolding after place value
-  store-written lanes keep n el ek =
-      written-ext mem (λ k. spot m g (k / 8) (k % 8)) (λ k o. renewed o (getD keep (32 * (k % 8) + k / 8 % n) 0) (getD lanes (32 * (k % 8) + k / 8) 0)) place value 256
+  store-written lanes keep w n ew el ek =
+      ew
+      ∙ written-ext mem (λ k. spot m g (k / 8) (k % 8)) (λ k o. renewed o (getD keep (32 * (k % 8) + k / 8 % n) 0) (getD lanes (32 * (k % 8) + k / 8) 0)) place value 256
       (λ k h. refl)
       (λ k o h. ap₂ (renewed o) (ek k h) (lane-at (laneByte (bitOf put) m g) lanes el k h))
       ∙ written-stored

@@ -128,7 +128,7 @@ signal-below p m j k h = rw (lt-leb m j h)
 
 signal-above : (p m j k : ℕ) → p ≤ j → signal p m j k ≡ 0
 unfolding signal
-signal-above p m j k h = rw (le-ltb j p h) (go (leb m j))
+signal-above p m j k h = ap (λ (b : Bool). cond {A = ℕ} (leb m j && b && leb k m) 1 0) (le-ltb j p h) ∙ go (leb m j)
   where
     go : (b : Bool) → _≡_ {A = ℕ} (cond (b && false && leb k m) 1 0) 0
     go true = refl

@@ -35,13 +35,14 @@ returns c =
     let a = s .args in
     let lanes = c .before .before .before .before .before .before .before .spread in
     let keep = c .before .before .before .before .before .before .kept-by-all in
-    c .before .before .write-all .ensures
-    ∙ store-written (now (a .mem)) (now (a .item)) (now (a .item)) every (a .mode) (a .addr) (s .pre) (λ i. c .before .before .before .before .before .before .before .before .slice-known .given i .fits) (omega arith)
+    store-written (now (a .mem)) (now (a .item)) (now (a .item)) every (a .mode) (a .addr) (s .pre) (λ i. c .before .before .before .before .before .before .before .before .slice-known .given i .fits) (omega arith)
     (λ p. on)
     (λ p h. every-bits (now (a .item)) p)
     (lanes .result)
     (keep .result)
+    _
     1
+    (c .before .before .write-all .ensures)
     (lanes .ensures)
     (λ k h.
     let e : 32 * (k % 8) + k / 8 % 1 ≡ 32 * (k % 8) = omega arith in

@@ -41,13 +41,14 @@ returns c =
     let put = c .before .before .before .before .before .before .before .before .before .masked in
     let lanes = c .before .before .before .before .before .before .before .spread in
     let keep = c .before .before .before .before .before .before .kept in
-    c .before .before .write-all .ensures
-    ∙ store-written (now (a .mem)) (now (a .item)) (put .result) (bitOf (now (a .mask))) (a .mode) (a .addr) (s .pre) (λ i. c .before .before .before .before .before .before .before .before .before .before .slice-known .given i .fits) (omega arith)
+    store-written (now (a .mem)) (now (a .item)) (put .result) (bitOf (now (a .mask))) (a .mode) (a .addr) (s .pre) (λ i. c .before .before .before .before .before .before .before .before .before .before .slice-known .given i .fits) (omega arith)
     (bitOf-bit (now (a .mask)))
     (masked-bits (now (a .item)) (now (a .mask)) (put .result) (put .ensures))
     (lanes .result)
     (keep .result)
+    _
     32
+    (c .before .before .write-all .ensures)
     (lanes .ensures)
     (λ k h.
     let e : 32 * (k % 8) + k / 8 % 32 ≡ 32 * (k % 8) + k / 8 = omega arith in

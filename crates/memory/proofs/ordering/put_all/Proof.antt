@@ -5,7 +5,7 @@ use lib.Bits.{bitXor, xor-lt}
 use lib.ListN.{length, getD}
 use denote.Ref.{now}
 use Rattle.bits.specs.Steps.{written}
-use Rattle.bits.proofs.Writes.{length-written, written-then}
+use Rattle.bits.proofs.Writes.{length-written, then-written}
 use borrow.Author.Needs.{needs}
 use native.Mathlib.Omega.{arith}
 use Rattle.memory.proofs.ordering.put_all.Statement.{statement}
@@ -41,7 +41,7 @@ loop-again c =
     let r = c .before .before .put-group in (
       omega arith,
       ap length (r .ensures) ∙ length-written _ _ (l .mem) 8 ∙ l .inv .1,
-      r .ensures ∙ written-then (λ n. 32 * (8 * bitXor (a .v) (n / 8) + n % 8) + n / 8) (λ n o. getD (now (a .bytes)) (32 * (n % 8) + n / 8) 0) (now (a .mem)) _ _ (l .mem) (8 * l .i) 8 (8 * (l .i + 1)) (l .inv .2) (omega arith)
+      then-written (λ n. 32 * (8 * bitXor (a .v) (n / 8) + n % 8) + n / 8) (λ n o. getD (now (a .bytes)) (32 * (n % 8) + n / 8) 0) (now (a .mem)) _ _ (l .mem) _ (8 * l .i) 8 (8 * (l .i + 1)) (r .ensures) (l .inv .2) (omega arith)
           (λ t h.
           let hi : (8 * l .i + t) / 8 ≡ l .i = omega arith in
           let lo : (8 * l .i + t) % 8 ≡ t = omega arith in

@@ -5,7 +5,7 @@ use native.Mathlib.Nat.{mod-lt}
 use lib.ListN.{length, getD}
 use denote.Ref.{now}
 use Rattle.bits.specs.Steps.{written}
-use Rattle.bits.proofs.Writes.{length-written, written-then}
+use Rattle.bits.proofs.Writes.{length-written, then-written}
 use Rattle.memory.specs.Groups.{spot, renewed}
 use Rattle.memory.proofs.GroupLaws.{spot-at}
 use borrow.Author.Needs.{needs}
@@ -54,7 +54,7 @@ loop-again c =
     let r = c .before .before .write-group in (
       omega arith,
       ap length (r .ensures) ∙ length-written _ _ (l .mem) 8 ∙ l .inv .1,
-      r .ensures ∙ written-then (λ k. spot (a .mode) (a .addr) (k / 8) (k % 8)) (λ k o. renewed o (getD (now (a .keep)) (32 * (k % 8) + k / 8 % a .n) 0) (getD (now (a .put)) (32 * (k % 8) + k / 8) 0)) (now (a .mem)) _ _ (l .mem) (8 * l .i) 8 (8 * (l .i + 1)) (l .inv .2) (omega arith)
+      then-written (λ k. spot (a .mode) (a .addr) (k / 8) (k % 8)) (λ k o. renewed o (getD (now (a .keep)) (32 * (k % 8) + k / 8 % a .n) 0) (getD (now (a .put)) (32 * (k % 8) + k / 8) 0)) (now (a .mem)) _ _ (l .mem) _ (8 * l .i) 8 (8 * (l .i + 1)) (r .ensures) (l .inv .2) (omega arith)
           (λ j h. spot-at (a .mode) (a .addr) (l .i) j (k .result) (at .result) h (k .ensures .0) (at .ensures .0))
           (λ j o h.
           let hi : (8 * l .i + j) / 8 ≡ l .i = omega arith in

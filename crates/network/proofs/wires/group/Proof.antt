@@ -7,6 +7,10 @@ use Rattle.network.proofs.WireLaws.{one-up, group-is}
 use Rattle.network.proofs.wires.group.Statement.{statement}
 use Rattle.network.proofs.wires.group.Tie as tie
 
+-- the answer before the bounds of its steps, so that a wrong count is refused as one
+returns : tie.Need-returns
+returns c = group-is (c .args .line) (c .args .j) (c .pre)
+
 shl-result : tie.Need-shl-result
 shl-result c = search needs
 
@@ -15,9 +19,6 @@ rem-result c = omega (arith, one-up (c .args .j) (c .pre), pow-pos (c .args .j))
 
 sub-result : tie.Need-sub-result
 sub-result c = leading-le 8 _
-
-returns : tie.Need-returns
-returns c = group-is (c .args .line) (c .args .j) (c .pre)
 
 pub group-spec : {M : Type 1} → statement M
 group-spec = tie.close (tie.spec shl-result rem-result sub-result returns)
