@@ -228,6 +228,9 @@ void staran_read_picture(size_t kind, const uint8_t *bytes, size_t bytes_length,
 void staran_write_picture(size_t kind, const uint8_t *memory, size_t memory_length, const uint8_t *registers, size_t registers_length, uint8_t *out,
                           size_t out_length, uint32_t answer[3]);
 
+/* The version of the library that is linked: 65,536 times the major number, plus the minor. It takes nothing and changes nothing. */
+uint32_t staran_version(void);
+
 #ifdef __cplusplus
 }
 #endif
