@@ -1,6 +1,6 @@
 -- What each function of the library leaves: the lent buffers, and the answer as numbers in document 01's order. Every value is that of the entry itself.
 use mathlib.Core.List.{List, [], _∷_}
-use Prim.Native.Nat.{ℕ}
+use Prim.Native.Nat.{ℕ, _+_, _*_}
 use lib.ListN.{length, drop}
 use Rattle.network.specs.Answer.{answer}
 use Rattle.registers.specs.declared.Registers.{Registers}
@@ -87,3 +87,9 @@ unfoldable pub writePictureLeft : ℕ → List ℕ → List ℕ → List ℕ →
 writePictureLeft kind memory registers out =
     let a = writeAnswer kind (pictureFits kind (length memory) (length registers)) 8288 (length out) in
     record { buffer = changed a (over (blocksOf kind (pictureOf memory registers)) out) out; answer = three a }
+
+-- ---- the version: docs/CHANGELOG.md says what each brought
+
+-- Two numbers in one of 32 bits: the minor in the low 16.
+abbrev pub version : ℕ → ℕ → ℕ
+version major minor = 65536 * major + minor

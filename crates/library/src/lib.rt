@@ -5,7 +5,7 @@ mod answers;
 
 use registers::Registers;
 ghost use mathlib.Core.Path.{_≡_};
-ghost use Rattle.library.specs.Left.{runLeft, stepLeft, passLeft, sumLeft, differenceLeft, readLeft, writeLeft, readPictureLeft, writePictureLeft};
+ghost use Rattle.library.specs.Left.{runLeft, stepLeft, passLeft, sumLeft, differenceLeft, readLeft, writeLeft, readPictureLeft, writePictureLeft, version};
 
 // A run of an instruction list.
 #[no_mangle]
@@ -167,4 +167,12 @@ pub extern "C" fn staran_write_picture(
 {
     let r = pictures::write_picture(kind, memory, registers, out);
     *answer = answers::three(r);
+}
+
+// The version of the library that is linked, to be held to the header's.
+#[no_mangle]
+pub extern "C" fn staran_version() -> u32
+    ensures { λ r. ⌜ r ≡ version 1 0 ⌝ }
+{
+    65536
 }

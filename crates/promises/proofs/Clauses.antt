@@ -34,7 +34,8 @@ use Rattle.library.proofs.staran_read_content as staran_read_content
 use Rattle.library.proofs.staran_write_content as staran_write_content
 use Rattle.library.proofs.staran_read_picture as staran_read_picture
 use Rattle.library.proofs.staran_write_picture as staran_write_picture
-use Rattle.promises.specs.Clauses.{Run, Step, Pass, SumList, DifferenceList, ReadContent-answer, ReadContent-target, WriteContent-answer, WriteContent-out, ReadPicture-answer, ReadPicture-memory, ReadPicture-registers, WritePicture-answer, WritePicture-out, LibraryRun, LibraryStep, LibraryPass, LibraryBuffer, LibraryReadPicture}
+use Rattle.library.proofs.staran_version as staran_version
+use Rattle.promises.specs.Clauses.{Run, Step, Pass, SumList, DifferenceList, ReadContent-answer, ReadContent-target, WriteContent-answer, WriteContent-out, ReadPicture-answer, ReadPicture-memory, ReadPicture-registers, WritePicture-answer, WritePicture-out, LibraryRun, LibraryStep, LibraryPass, LibraryBuffer, LibraryReadPicture, LibraryVersion}
 
 module _ {M : Type 1} (𝓤 : URA M) (H : Heap 𝓤) (A : Atoms 𝓤) (memory : Memory → SProp 𝓤) (runs : Routine → Fun 𝓤) where
   open Connectives (connectives 𝓤) using (⌜_⌝, _∗_, ⊤ₛ)
@@ -134,3 +135,7 @@ module _ {M : Type 1} (𝓤 : URA M) (H : Heap 𝓤) (A : Atoms 𝓤) (memory : 
   pub library-write-picture-clauses : Says staran_write_picture.ended (staran_write_picture.clauses 𝓤 H A memory runs) (λ κs a r e.
       ⌜ LibraryBuffer (writePictureLeft (a .0) (now (a .1 .0)) (now (a .1 .1 .0)) (now (a .1 .1 .1 .0))) (now (e .1 .1 .1 .0)) (now (e .1 .1 .1 .1 .0)) ⌝)
   library-write-picture-clauses κs a g r e = (refl, refl)
+
+  pub library-version-clauses : Says staran_version.ended (staran_version.clauses 𝓤 H A memory runs) (λ κs a r e.
+      ⌜ LibraryVersion r ⌝)
+  library-version-clauses κs a g r e = (refl, refl)

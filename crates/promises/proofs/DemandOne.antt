@@ -290,4 +290,5 @@ demand-one =
       libraryWriteContent = library-write;
       libraryReadPicture = library-read-picture;
       libraryWritePicture = library-write-picture;
+      libraryVersion = λ r h. h;
     }

@@ -103,6 +103,7 @@ module _ {M : Type 1} (𝓤 : URA M) (H : Heap 𝓤) (A : Atoms 𝓤) (memory : 
         writeContent = equation 𝓤 _ (λ κs a g r e. refl);
         readPicture = equation 𝓤 _ (λ κs a g r e. refl);
         writePicture = equation 𝓤 _ (λ κs a g r e. refl);
+        version = equation 𝓤 _ (λ κs a g r e. refl);
       }
 
   program : Program 𝓤 H A memory runs

@@ -14,7 +14,7 @@ use Rattle.contents.specs.declared.Answer.{Answer as Moved}
 use Rattle.contents.specs.File.{contentOf, blocksOf}
 use Rattle.contents.specs.Content.{readAnswer, writeAnswer, changed, over, targetFits, contentFits}
 use Rattle.pictures.specs.Picture.{pictureOf, scrambled, pictureFits}
-use Rattle.library.specs.Left.{RunLeft, runLeft, StepLeft, stepLeft, PassLeft, passLeft, BufferLeft, PictureLeft, readPictureLeft}
+use Rattle.library.specs.Left.{RunLeft, runLeft, StepLeft, stepLeft, PassLeft, passLeft, BufferLeft, PictureLeft, readPictureLeft, version}
 
 -- ---- the array
 
@@ -99,3 +99,7 @@ LibraryBuffer l buffer′ answer′ = _≡_ {A = BufferLeft} (record { buffer = 
 abbrev pub LibraryReadPicture : (kind : ℕ) (bytes memory registers memory′ registers′ answer′ : List ℕ) → Type 0
 LibraryReadPicture kind bytes memory registers memory′ registers′ answer′ =
     _≡_ {A = PictureLeft} (record { memory = memory′; registers = registers′; answer = answer′ }) (readPictureLeft kind bytes memory registers)
+
+-- `staran_version`: 1.0
+abbrev pub LibraryVersion : ℕ → Type 0
+LibraryVersion r = r ≡ version 1 0

@@ -25,7 +25,7 @@ use Rattle.contents.specs.Content.{targetFits, contentFits}
 use Rattle.contents.specs.Table.{Gives as MovedGives, Met as MetBlock, Sound}
 use Rattle.pictures.specs.Picture.{pictureFits}
 use Rattle.library.specs.Left.{five, three, sumLeft, differenceLeft, readLeft, writeLeft, writePictureLeft}
-use Rattle.promises.specs.Clauses.{Run, Step, Pass, SumList, DifferenceList, ReadContent-answer, ReadContent-target, WriteContent-answer, WriteContent-out, ReadPicture-answer, ReadPicture-memory, ReadPicture-registers, WritePicture-answer, WritePicture-out, LibraryRun, LibraryStep, LibraryPass, LibraryBuffer, LibraryReadPicture}
+use Rattle.promises.specs.Clauses.{Run, Step, Pass, SumList, DifferenceList, ReadContent-answer, ReadContent-target, WriteContent-answer, WriteContent-out, ReadPicture-answer, ReadPicture-memory, ReadPicture-registers, WritePicture-answer, WritePicture-out, LibraryRun, LibraryStep, LibraryPass, LibraryBuffer, LibraryReadPicture, LibraryVersion}
 
 -- ---- Network: "it gives 10 and a zero item where byte 6 is none of the 37, and otherwise 0 and the passed item"
 pub record PassTable (lines : List ℕ) (flip code : ℕ) (r : Passed) : Type 0 where
@@ -213,3 +213,5 @@ pub record DemandOne : Type 0 where
   pub libraryWritePicture : (kind : ℕ) (memory registers out out′ answer′ : List ℕ) → LibraryBuffer (writePictureLeft kind memory registers out) out′ answer′
       → (r : Moved) × (answer′ ≡ three r) × WriteTable kind (pictureFits kind (length memory) (length registers)) 8288 (length out) r
       × Kept (r .number) out out′
+  -- `staran_version` has no number of the tables: 1.0, and nothing else
+  pub libraryVersion : (r : ℕ) → LibraryVersion r → r ≡ 65536

@@ -84,6 +84,7 @@ use Rattle.library.proofs.staran_read_content as staran_read_content
 use Rattle.library.proofs.staran_write_content as staran_write_content
 use Rattle.library.proofs.staran_read_picture as staran_read_picture
 use Rattle.library.proofs.staran_write_picture as staran_write_picture
+use Rattle.library.proofs.staran_version as staran_version
 use Rattle.report.proofs.report as report
 use Rattle.session.specs.declared.Counts.{Counts}
 use Rattle.session.proofs.session as session
@@ -144,6 +145,7 @@ module _ {M : Type 1} (𝓤 : URA M) (H : Heap 𝓤) (A : Atoms 𝓤) (memory : 
     pub writeContent : OneOutcome 𝓤 staran_write_content.ended (staran_write_content.clauses 𝓤 H A memory runs) {O = BufferLeft} (λ κs r e. record { buffer = now (e .1 .1 .0); answer = now (e .1 .1 .1 .0) })
     pub readPicture : OneOutcome 𝓤 staran_read_picture.ended (staran_read_picture.clauses 𝓤 H A memory runs) {O = PictureLeft} (λ κs r e. record { memory = now (e .1 .1 .0); registers = now (e .1 .1 .1 .0); answer = now (e .1 .1 .1 .1 .0) })
     pub writePicture : OneOutcome 𝓤 staran_write_picture.ended (staran_write_picture.clauses 𝓤 H A memory runs) {O = BufferLeft} (λ κs r e. record { buffer = now (e .1 .1 .1 .0); answer = now (e .1 .1 .1 .1 .0) })
+    pub version : OneOutcome 𝓤 staran_version.ended (staran_version.clauses 𝓤 H A memory runs) {O = ℕ} (λ κs r e. r)
 
   -- ---- the program: all of it but the system's calls, and its printed lines
 
