@@ -1,5 +1,5 @@
 -- What each way through a reader and a writer answers, and what it leaves. Assumes nothing.
-use mathlib.Core.Path.{_≡_, refl, sym, ap, _∙_}
+use mathlib.Core.Path.{_≡_, refl, sym, ap, ap₂, _∙_}
 use mathlib.Core.Bool.{Bool, true, false, cond, not}
 use mathlib.Core.List.{List}
 use Prim.Native.Nat.{ℕ, _*_, _<_, _≤_}
@@ -8,7 +8,7 @@ use lib.Dec.{eqb, ltb}
 use borrow.Author.Tests.{ne-eqb, eq-eqb, eqb-false, lt-ltb, le-ltb}
 use Rattle.contents.specs.declared.Answer.{Answer}
 use Rattle.contents.specs.File.{done, refused, kindRight, judge, blockCount}
-use Rattle.contents.specs.Content.{readAnswer, writeAnswer, changed}
+use Rattle.contents.specs.Content.{readAnswer, writeAnswer, changed, ContentLeft}
 
 -- ---- a target after an answer
 
@@ -21,6 +21,24 @@ changed-done a new old z = sym (ap (λ (t : Bool). cond t new old) (eq-eqb (a .n
 -- a refusal's number is not 0
 pub refused-not : (a : Answer) (n p : ℕ) → a ≡ refused n p → (n ≡ 0 → ⊥) → a .number ≡ 0 → ⊥
 refused-not a n p e u z = u (sym (ap (λ (x : Answer). x .number) e) ∙ z)
+
+-- ---- what is left, where the answer r is a: on a refusal the buffer as it was, else the new content
+
+abbrev leaving : Answer → List ℕ → ContentLeft
+leaving x l = record { answer = x; buffer = l }
+
+module _ (r a : Answer) (new old : List ℕ) (e : r ≡ a) where
+  pub left-old : (r .number ≡ 0 → ⊥) → leaving r old ≡ leaving a (changed a new old)
+  left-old u = ap₂ leaving e (changed-not r new old u ∙ ap (λ (x : Answer). changed x new old) e)
+
+  pub left-new : (t : List ℕ) → t ≡ new → r .number ≡ 0 → leaving r t ≡ leaving a (changed a new old)
+  left-new t h z = ap₂ leaving e (h ∙ changed-done r new old z ∙ ap (λ (x : Answer). changed x new old) e)
+
+-- and what that says of the answer and of the buffer
+pub left-parts : (r a : Answer) (new old t : List ℕ) → leaving r t ≡ leaving a (changed a new old) → (r ≡ a) × (t ≡ changed r new old)
+left-parts r a new old t h =
+    let e = ap (λ (l : ContentLeft). l .answer) h in
+    (e, ap (λ (l : ContentLeft). l .buffer) h ∙ ap (λ (x : Answer). changed x new old) (sym e))
 
 -- ---- a reader
 

@@ -4,8 +4,8 @@
 ghost use mathlib.Core.Path.{_≡_};
 ghost use Prim.Native.Nat.{_+_, _*_, _<_, _≤_, min};
 ghost use lib.ListN.{length};
-ghost use Rattle.contents.specs.File.{done, refused, kindRight, lengthRight, sizeFits, contentOf, judge, blockCount, blocksOf};
-ghost use Rattle.contents.specs.Content.{readAnswer, writeAnswer, changed, over, targetFits, contentFits};
+ghost use Rattle.contents.specs.File.{done, refused, kindRight, lengthRight, sizeFits, judge, blockCount, blocksOf};
+ghost use Rattle.contents.specs.Content.{over, contentRead, contentWritten};
 ghost use Rattle.contents.specs.Payloads.{payloads, laid};
 
 // A refusal has its number, its place and 0 bytes; success has 0, 0 and the number of bytes put out.
@@ -125,8 +125,8 @@ pub fn part_of(bytes: &[u8], at: usize, part: &mut [u8])
 
 // Reads the blocks of a list or of items into a target, whose bytes past the content stay.
 pub fn read_content(kind: usize, bytes: &[u8], target: &mut [u8]) -> Answer
-    ensures answer { λ r. ⌜ r ≡ readAnswer kind (now (bytes .entry)) (targetFits kind (now (bytes .entry)) (now (target .entry))) ⌝ }
-    ensures target { λ r. ⌜ now (target .exit) ≡ changed r (over (contentOf (now (bytes .entry))) (now (target .entry))) (now (target .entry)) ⌝ }
+    ensures { λ r. ⌜ record { answer = r; buffer = now (target .exit) }
+        ≡ contentRead kind (now (bytes .entry)) (now (target .entry)) ⌝ }
 {
     let found = judge(kind, bytes);
     let number = found.number;
@@ -189,8 +189,8 @@ fn block_count(size: usize) -> usize
 
 // Writes a list or items as blocks to the start of an output, whose bytes past the blocks stay.
 pub fn write_content(kind: usize, content: &[u8], out: &mut [u8]) -> Answer
-    ensures answer { λ r. ⌜ r ≡ writeAnswer kind (contentFits kind (now (content .entry))) (length (now (content .entry))) (length (now (out .entry))) ⌝ }
-    ensures out { λ r. ⌜ now (out .exit) ≡ changed r (over (blocksOf kind (now (content .entry))) (now (out .entry))) (now (out .entry)) ⌝ }
+    ensures { λ r. ⌜ record { answer = r; buffer = now (out .exit) }
+        ≡ contentWritten kind (now (content .entry)) (now (out .entry)) ⌝ }
 {
     let size = content.len();
     if !kind_right(kind) {

@@ -15,11 +15,12 @@ use Rattle.blocks.proofs.BlockLaws.{and-left, and-right}
 use Rattle.memory.proofs.PlainLaws.{length-plain, plain-bytes, scrambled-front, plain-scrambled, scrambled-plain}
 use Rattle.contents.specs.declared.Answer.{Answer}
 use Rattle.contents.specs.File.{done, contentOf, sizeFits, judge, blockCount, blocksOf}
-use Rattle.contents.specs.Content.{over}
+use Rattle.contents.specs.Content.{over, changed}
 use Rattle.contents.specs.Payloads.{payloads, laid}
 use Rattle.contents.proofs.FileLaws.{judge-stands, Stands}
+use Rattle.contents.proofs.AnswerLaws.{changed-not, changed-done}
 use Rattle.contents.proofs.PayloadLaws.{laid-more, laid-sealed}
-use Rattle.pictures.specs.Picture.{plainWords, pictureOf, scrambled, pictureFits}
+use Rattle.pictures.specs.Picture.{plainWords, pictureOf, scrambled, pictureFits, PictureLeft}
 
 -- ---- what the tests of a picture say
 
@@ -33,6 +34,37 @@ unfolding sizeFits
 picture-judged kind bytes k z =
     let s = judge-stands 1 bytes (sym (ap (λ (x : ℕ). judge x bytes .number) k) ∙ z) in
     s .answer ∙ ap done (eqb-true (length (contentOf bytes)) 8288 (s .sizes))
+
+-- ---- what is left, where the answer r is a: on a refusal the buffers as they were, else the new content of both
+
+module _ (r a : Answer) (new old new′ old′ : List ℕ) where
+  abbrev Leaves : List ℕ → List ℕ → Type 0
+  Leaves m g =
+      _≡_ {A = PictureLeft} (record { answer = r; memory = m; registers = g })
+      (record { answer = a; memory = changed a new old; registers = changed a new′ old′ })
+
+  leaving : r ≡ a → (m g : List ℕ) → m ≡ changed r new old → g ≡ changed r new′ old′ → Leaves m g
+  leaving e m g hm hg = λ i.
+      record {
+        answer = e i;
+        memory = (hm ∙ ap (λ (x : Answer). changed x new old) e) i;
+        registers = (hg ∙ ap (λ (x : Answer). changed x new′ old′) e) i;
+      }
+
+  pub both-old : r ≡ a → (r .number ≡ 0 → ⊥) → Leaves old old′
+  both-old e u = leaving e old old′ (changed-not r new old u) (changed-not r new′ old′ u)
+
+  pub both-new : r ≡ a → (m g : List ℕ) → m ≡ new → g ≡ new′ → r .number ≡ 0 → Leaves m g
+  both-new e m g hm hg z = leaving e m g (hm ∙ changed-done r new old z) (hg ∙ changed-done r new′ old′ z)
+
+  -- and what that says of the answer and of the buffers
+  pub both-parts : (m g : List ℕ) → Leaves m g → (r ≡ a) × (m ≡ changed r new old) × (g ≡ changed r new′ old′)
+  both-parts m g h =
+      let e = ap (λ (l : PictureLeft). l .answer) h in (
+        e,
+        ap (λ (l : PictureLeft). l .memory) h ∙ ap (λ (x : Answer). changed x new old) (sym e),
+        ap (λ (l : PictureLeft). l .registers) h ∙ ap (λ (x : Answer). changed x new′ old′) (sym e),
+      )
 
 -- ---- a picture that stands
 

@@ -8,8 +8,8 @@ ghost use mathlib.Core.Path.{_≡_};
 ghost use Prim.Native.Nat.{_≤_};
 ghost use lib.ListN.{length, drop};
 ghost use Rattle.contents.specs.File.{done, contentOf, judge, blocksOf};
-ghost use Rattle.contents.specs.Content.{readAnswer, writeAnswer, changed, over};
-ghost use Rattle.pictures.specs.Picture.{pictureOf, scrambled, pictureFits};
+ghost use Rattle.contents.specs.Content.{over};
+ghost use Rattle.pictures.specs.Picture.{pictureOf, scrambled, pictureFits, pictureRead, pictureWritten};
 
 fn picture_fits(kind: usize, memory: usize, registers: usize) -> bool
     ensures { λ r. ⌜ r ≡ pictureFits kind memory registers ⌝ }
@@ -39,9 +39,8 @@ fn unload_picture(bytes: &[u8], memory: &mut [u8], registers: &mut [u8])
 
 // Reads a picture. Every block is judged, and both lengths, before a target is touched.
 pub fn read_picture(kind: usize, bytes: &[u8], memory: &mut [u8], registers: &mut [u8]) -> Answer
-    ensures answer { λ r. ⌜ r ≡ readAnswer kind (now (bytes .entry)) (pictureFits kind (length (now (memory .entry))) (length (now (registers .entry)))) ⌝ }
-    ensures memory { λ r. ⌜ now (memory .exit) ≡ changed r (scrambled (contentOf (now (bytes .entry)))) (now (memory .entry)) ⌝ }
-    ensures registers { λ r. ⌜ now (registers .exit) ≡ changed r (drop 8192 (contentOf (now (bytes .entry)))) (now (registers .entry)) ⌝ }
+    ensures { λ r. ⌜ record { answer = r; memory = now (memory .exit); registers = now (registers .exit) }
+        ≡ pictureRead kind (now (bytes .entry)) (now (memory .entry)) (now (registers .entry)) ⌝ }
 {
     let found = contents::judge(kind, bytes);
     let number = found.number;
@@ -72,8 +71,8 @@ fn put_picture(memory: &[u8], registers: &[u8], out: &mut [u8])
 
 // Writes a picture to the start of an output, whose bytes past the blocks stay.
 pub fn write_picture(kind: usize, memory: &[u8], registers: &[u8], out: &mut [u8]) -> Answer
-    ensures answer { λ r. ⌜ r ≡ writeAnswer kind (pictureFits kind (length (now (memory .entry))) (length (now (registers .entry)))) 8288 (length (now (out .entry))) ⌝ }
-    ensures out { λ r. ⌜ now (out .exit) ≡ changed r (over (blocksOf kind (pictureOf (now (memory .entry)) (now (registers .entry)))) (now (out .entry))) (now (out .entry)) ⌝ }
+    ensures { λ r. ⌜ record { answer = r; buffer = now (out .exit) }
+        ≡ pictureWritten kind (now (memory .entry)) (now (registers .entry)) (now (out .entry)) ⌝ }
 {
     if !contents::kind_right(kind) {
         return contents::refuse(22, 0);

@@ -25,7 +25,7 @@ use Rattle.contents.specs.Content.{targetFits, contentFits}
 use Rattle.contents.specs.Table.{Gives as MovedGives, Met as MetBlock, Sound}
 use Rattle.pictures.specs.Picture.{pictureFits}
 use Rattle.library.specs.Left.{five, three, sumLeft, differenceLeft, readLeft, writeLeft, writePictureLeft}
-use Rattle.promises.specs.Clauses.{Run, Step, Pass, SumList, DifferenceList, ReadContent-answer, ReadContent-target, WriteContent-answer, WriteContent-out, ReadPicture-answer, ReadPicture-memory, ReadPicture-registers, WritePicture-answer, WritePicture-out, LibraryRun, LibraryStep, LibraryPass, LibraryBuffer, LibraryReadPicture}
+use Rattle.promises.specs.Clauses.{Run, Step, Pass, SumList, DifferenceList, ReadContent, WriteContent, ReadPicture, WritePicture, LibraryRun, LibraryStep, LibraryPass, LibraryBuffer, LibraryReadPicture}
 
 -- ---- Network: "it gives 10 and a zero item where byte 6 is none of the 37, and otherwise 0 and the passed item"
 pub record PassTable (lines : List ℕ) (flip code : ℕ) (r : Passed) : Type 0 where
@@ -163,20 +163,20 @@ pub record DemandOne : Type 0 where
       → ListTable 2 a b s n (length list) r × Kept (r .number) list list′
   -- `read_content`, of a list or items
   pub readContent : (kind : ℕ) (bytes target target′ : List ℕ) (r : Moved)
-      → ReadContent-answer kind bytes target r → ReadContent-target bytes target target′ r
+      → ReadContent kind bytes target target′ r
       → ReadTable kind bytes (targetFits kind bytes target) r × Kept (r .number) target target′
   -- `write_content`
   pub writeContent : (kind : ℕ) (content out out′ : List ℕ) (r : Moved)
-      → WriteContent-answer kind content out r → WriteContent-out kind content out out′ r
+      → WriteContent kind content out out′ r
       → WriteTable kind (contentFits kind content) (length content) (length out) r × Kept (r .number) out out′
   -- `read_picture`
   pub readPicture : (kind : ℕ) (bytes memory registers memory′ registers′ : List ℕ) (r : Moved)
-      → ReadPicture-answer kind bytes memory registers r → ReadPicture-memory bytes memory memory′ r → ReadPicture-registers bytes registers registers′ r
+      → ReadPicture kind bytes memory registers memory′ registers′ r
       → ReadTable kind bytes (pictureFits kind (length memory) (length registers)) r
       × Kept (r .number) memory memory′ × Kept (r .number) registers registers′
   -- `write_picture`
   pub writePicture : (kind : ℕ) (memory registers out out′ : List ℕ) (r : Moved)
-      → WritePicture-answer kind memory registers out r → WritePicture-out kind memory registers out out′ r
+      → WritePicture kind memory registers out out′ r
       → WriteTable kind (pictureFits kind (length memory) (length registers)) 8288 (length out) r × Kept (r .number) out out′
   -- ---- the library for C: the numbers in its answer array are those of the same tables, and a refusal leaves every other lent byte as it was
 

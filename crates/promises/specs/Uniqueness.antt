@@ -61,7 +61,7 @@ use Rattle.blocks.proofs.two_at as two_at
 use Rattle.blocks.proofs.fault as block_fault
 use Rattle.blocks.proofs.copy as copy
 use Rattle.blocks.proofs.seal as seal
-use Rattle.contents.specs.declared.Answer.{Answer as Moved}
+use Rattle.contents.specs.Content.{ContentLeft}
 use Rattle.contents.proofs.refuse as refuse
 use Rattle.contents.proofs.finish as finish
 use Rattle.contents.proofs.kind_right as kind_right
@@ -71,9 +71,10 @@ use Rattle.contents.proofs.put_part as put_part
 use Rattle.contents.proofs.seal_all as seal_all
 use Rattle.contents.proofs.read_content as read_content
 use Rattle.contents.proofs.write_content as write_content
+use Rattle.pictures.specs.Picture.{PictureLeft}
 use Rattle.pictures.proofs.read_picture as read_picture
 use Rattle.pictures.proofs.write_picture as write_picture
-use Rattle.library.specs.Left.{RunLeft, StepLeft, PassLeft, BufferLeft, PictureLeft}
+use Rattle.library.specs.Left.{RunLeft, StepLeft, PassLeft, BufferLeft, TargetsLeft}
 use Rattle.library.proofs.staran_run as staran_run
 use Rattle.library.proofs.staran_step as staran_step
 use Rattle.library.proofs.staran_pass as staran_pass
@@ -123,13 +124,13 @@ module _ {M : Type 1} (𝓤 : URA M) (H : Heap 𝓤) (A : Atoms 𝓤) (memory : 
     -- `builders::difference_list`
     pub differenceList : OneOutcome 𝓤 difference_list.ended (difference_list.clauses 𝓤 H A memory runs) {O = Buffer} (λ κs r e. record { answer = r; list = now (e .1 .1 .1 .1 .0) })
     -- `pictures::read_content`
-    pub readContent : OneOutcome 𝓤 read_content.ended (read_content.clauses 𝓤 H A memory runs) {O = Moved × List ℕ} (λ κs r e. (r, now (e .1 .1 .0)))
+    pub readContent : OneOutcome 𝓤 read_content.ended (read_content.clauses 𝓤 H A memory runs) {O = ContentLeft} (λ κs r e. record { answer = r; buffer = now (e .1 .1 .0) })
     -- `pictures::write_content`
-    pub writeContent : OneOutcome 𝓤 write_content.ended (write_content.clauses 𝓤 H A memory runs) {O = Moved × List ℕ} (λ κs r e. (r, now (e .1 .1 .0)))
+    pub writeContent : OneOutcome 𝓤 write_content.ended (write_content.clauses 𝓤 H A memory runs) {O = ContentLeft} (λ κs r e. record { answer = r; buffer = now (e .1 .1 .0) })
     -- `pictures::read_picture`
-    pub readPicture : OneOutcome 𝓤 read_picture.ended (read_picture.clauses 𝓤 H A memory runs) {O = Moved × List ℕ × List ℕ} (λ κs r e. (r, now (e .1 .1 .0), now (e .1 .1 .1 .0)))
+    pub readPicture : OneOutcome 𝓤 read_picture.ended (read_picture.clauses 𝓤 H A memory runs) {O = PictureLeft} (λ κs r e. record { answer = r; memory = now (e .1 .1 .0); registers = now (e .1 .1 .1 .0) })
     -- `pictures::write_picture`
-    pub writePicture : OneOutcome 𝓤 write_picture.ended (write_picture.clauses 𝓤 H A memory runs) {O = Moved × List ℕ} (λ κs r e. (r, now (e .1 .1 .1 .0)))
+    pub writePicture : OneOutcome 𝓤 write_picture.ended (write_picture.clauses 𝓤 H A memory runs) {O = ContentLeft} (λ κs r e. record { answer = r; buffer = now (e .1 .1 .1 .0) })
 
   -- ---- the library for C
 
@@ -142,7 +143,7 @@ module _ {M : Type 1} (𝓤 : URA M) (H : Heap 𝓤) (A : Atoms 𝓤) (memory : 
     pub differenceList : OneOutcome 𝓤 staran_difference_list.ended (staran_difference_list.clauses 𝓤 H A memory runs) {O = BufferLeft} (λ κs r e. record { buffer = now (e .1 .1 .1 .1 .0); answer = now (e .1 .1 .1 .1 .1 .0) })
     pub readContent : OneOutcome 𝓤 staran_read_content.ended (staran_read_content.clauses 𝓤 H A memory runs) {O = BufferLeft} (λ κs r e. record { buffer = now (e .1 .1 .0); answer = now (e .1 .1 .1 .0) })
     pub writeContent : OneOutcome 𝓤 staran_write_content.ended (staran_write_content.clauses 𝓤 H A memory runs) {O = BufferLeft} (λ κs r e. record { buffer = now (e .1 .1 .0); answer = now (e .1 .1 .1 .0) })
-    pub readPicture : OneOutcome 𝓤 staran_read_picture.ended (staran_read_picture.clauses 𝓤 H A memory runs) {O = PictureLeft} (λ κs r e. record { memory = now (e .1 .1 .0); registers = now (e .1 .1 .1 .0); answer = now (e .1 .1 .1 .1 .0) })
+    pub readPicture : OneOutcome 𝓤 staran_read_picture.ended (staran_read_picture.clauses 𝓤 H A memory runs) {O = TargetsLeft} (λ κs r e. record { memory = now (e .1 .1 .0); registers = now (e .1 .1 .1 .0); answer = now (e .1 .1 .1 .1 .0) })
     pub writePicture : OneOutcome 𝓤 staran_write_picture.ended (staran_write_picture.clauses 𝓤 H A memory runs) {O = BufferLeft} (λ κs r e. record { buffer = now (e .1 .1 .1 .0); answer = now (e .1 .1 .1 .1 .0) })
 
   -- ---- the program: all of it but the system's calls, and its printed lines

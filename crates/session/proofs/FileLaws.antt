@@ -12,11 +12,12 @@ use borrow.Author.Tests.{eq-eqb, lt-ltb, le-ltb, le-leb, ltb-false}
 use Rattle.blocks.specs.Block.{fault}
 use Rattle.contents.specs.declared.Answer.{Answer}
 use Rattle.contents.specs.File.{done, refused, blockAt, contentOf, Verdict, good, bad, verdict, next, judged, kindRight, lengthRight, sizeFits, settled, judge}
-use Rattle.contents.specs.Content.{readAnswer, changed, over, targetFits}
-use Rattle.pictures.specs.Picture.{scrambled, pictureFits}
+use Rattle.contents.specs.Content.{readAnswer, changed, over, targetFits, ContentLeft, contentRead}
+use Rattle.pictures.specs.Picture.{scrambled, pictureFits, PictureLeft, pictureRead}
 use Rattle.contents.proofs.FileLaws.{Stands, judge-stands}
 use Rattle.contents.proofs.OneForm.{size-is, count-is}
-use Rattle.contents.proofs.AnswerLaws.{read-refused, read-done, changed-not, changed-done, refused-not}
+use Rattle.contents.proofs.AnswerLaws.{read-refused, read-done, left-parts, changed-not, changed-done, refused-not}
+use Rattle.pictures.proofs.PictureLaws.{both-parts}
 use Rattle.session.specs.declared.Found.{Found}
 use Rattle.session.specs.declared.Found.the-variants.{Bytes}
 use Rattle.session.specs.Session.{File, absent, failed, bytes, fileOf, read, fileAnswer, pictureAnswer, contentAnswer, contentIn}
@@ -116,12 +117,14 @@ picture-refused file r m g e q =
 
 -- read
 pub picture-taken : (file : File) (b m g m′ g′ : List ℕ) (r : Answer) → bytes b ≡ file → length b ≤ 8704 → length m ≡ 8192 → length g ≡ 96
-    → r ≡ readAnswer 1 b (pictureFits 1 (length m) (length g)) → m′ ≡ changed r (scrambled (contentOf b)) m → g′ ≡ changed r (drop 8192 (contentOf b)) g
+    → _≡_ {A = PictureLeft} (record { answer = r; memory = m′; registers = g′ }) (pictureRead 1 b m g)
     → (r ≡ pictureAnswer file) × ((m′ ≡ changed r (scrambled (contentIn file)) m) × (g′ ≡ changed r (drop 8192 (contentIn file)) g))
-picture-taken file b m g m′ g′ r e h lm lg er em eg =
+unfolding pictureRead
+picture-taken file b m g m′ g′ r e h lm lg q =
+    let p = both-parts r _ (scrambled (contentOf b)) m (drop 8192 (contentOf b)) g m′ g′ q in
     let f : pictureFits 1 (length m) (length g) ≡ true = ap₂ _&&_ (eq-eqb (length m) 8192 lm) (eq-eqb (length g) 96 lg) in
     subst (λ (x : File). (r ≡ pictureAnswer x) × ((m′ ≡ changed r (scrambled (contentIn x)) m) × (g′ ≡ changed r (drop 8192 (contentIn x)) g))) e
-    (er ∙ read-fits 1 b (pictureFits 1 (length m) (length g)) (λ z. f) ∙ read-short 8704 1 b h, (em, eg))
+    (p .0 ∙ read-fits 1 b (pictureFits 1 (length m) (length g)) (λ z. f) ∙ read-short 8704 1 b h, (p .1, p .2))
 
 -- ---- run.lst and in.itm
 
@@ -136,15 +139,19 @@ pub content-refused : (kind : ℕ) (file : File) (r : Answer) (t : List ℕ) →
 content-refused kind file r t e q = (e ∙ q, λ z. absurd (refused-not r 20 0 e (λ x. omega arith) z))
 
 pub content-taken : (kind : ℕ) (file : File) (b t t′ : List ℕ) (r : Answer) → bytes b ≡ file → 1 < kind → length b ≤ 8192 → length t ≡ 8192
-    → r ≡ readAnswer kind b (targetFits kind b t) → t′ ≡ changed r (over (contentOf b) t) t → Holds kind file r t′
-content-taken kind file b t t′ r e k h lt er et = subst (λ (x : File). Holds kind x r t′) e (j ∙ read-short 8192 kind b h, found)
+    → _≡_ {A = ContentLeft} (record { answer = r; buffer = t′ }) (contentRead kind b t) → Holds kind file r t′
+unfolding contentRead
+content-taken kind file b t t′ r e k h lt q = subst (λ (x : File). Holds kind x r t′) e (j ∙ read-short 8192 kind b h, found)
   where
+    p : (r ≡ readAnswer kind b (targetFits kind b t)) × (t′ ≡ changed r (over (contentOf b) t) t)
+    p = left-parts r _ (over (contentOf b) t) t t′ q
+
     room : judge kind b .number ≡ 0 → length (contentOf b) ≤ 8192
     room z = content-fits kind b (judge-stands kind b z) h
 
     j : r ≡ judge kind b
     j =
-        er
+        p .0
         ∙ read-fits kind b (targetFits kind b t) (λ z. let l = room z in ap₂ _&&_ (lt-ltb 1 kind k) (le-leb (length (contentOf b)) (length t) (omega arith)))
 
     found : r .number ≡ 0 → (r .bytes ≤ length t′) × (take (r .bytes) t′ ≡ contentOf b)
@@ -153,7 +160,7 @@ content-taken kind file b t t′ r e k h lt er et = subst (λ (x : File). Holds 
         let zj : judge kind b .number ≡ 0 = sym (ap (λ (x : Answer). x .number) j) ∙ z in
         let l = room zj in
         let n : r .bytes ≡ length c = ap (λ (x : Answer). x .bytes) (j ∙ judge-stands kind b zj .answer) in
-        let w : t′ ≡ over c t = et ∙ sym (changed-done r (over c t) t z) in (
+        let w : t′ ≡ over c t = p .1 ∙ sym (changed-done r (over c t) t z) in (
           omega (arith, ap length w, length-append c (drop (length c) t)),
           ap₂ (λ (x : ℕ) (y : List ℕ). take x y) n w ∙ take-at c (drop (length c) t) (length c) refl,
         )

@@ -16,9 +16,9 @@ use Rattle.judge.proofs.Accepted.{accepted-done, room-fits}
 use Rattle.module.specs.Run.{Left, ran}
 use Rattle.contents.specs.declared.Answer as disk
 use Rattle.contents.specs.File.{done, kindRight, blockCount, blocksOf}
-use Rattle.contents.specs.Content.{writeAnswer, changed, over}
-use Rattle.pictures.specs.Picture.{pictureOf, scrambled, pictureFits}
-use Rattle.contents.proofs.AnswerLaws.{changed-done, write-done}
+use Rattle.contents.specs.Content.{over, ContentLeft}
+use Rattle.pictures.specs.Picture.{pictureOf, scrambled, pictureFits, pictureWritten}
+use Rattle.contents.proofs.AnswerLaws.{changed-done, left-parts, write-done}
 use Rattle.contents.proofs.RoundTrip.{all-length}
 use Rattle.pictures.proofs.PictureLaws.{length-picture}
 use Rattle.report.specs.Report.{itemLines, printed}
@@ -144,17 +144,18 @@ unfolding afterOf
 after-done number m g z = simp (eq-eqb number 0 z)
 
 pub kept : (number : ℕ) (m g a a′ : List ℕ) (r : disk.Answer) → number ≡ 0 → length m ≡ 8192 → length g ≡ 96 → length a ≡ 8704
-    → r ≡ writeAnswer 1 (pictureFits 1 (length m) (length g)) 8288 (length a) → a′ ≡ changed r (over (blocksOf 1 (pictureOf m g)) a) a
+    → _≡_ {A = ContentLeft} (record { answer = r; buffer = a′ }) (pictureWritten 1 m g a)
     → (r .bytes ≤ 8704) × (r .bytes ≡ length (afterOf number m g)) × (a′ ≡ over (afterOf number m g) a)
-unfolding kindRight
-kept number m g a a′ r z lm lg la e q =
+unfolding kindRight pictureWritten
+kept number m g a a′ r z lm lg la q =
     let b = blocksOf 1 (pictureOf m g) in
+    let p = left-parts r _ (over b a) a a′ q in
     let f : pictureFits 1 (length m) (length g) ≡ true = ap₂ _&&_ (eq-eqb (length m) 8192 lm) (eq-eqb (length g) 96 lg) in
-    let d : r ≡ done 8704 = e ∙ sym (write-done 1 (pictureFits 1 (length m) (length g)) 8288 (length a) refl f (omega arith)) in
+    let d : r ≡ done 8704 = p .0 ∙ sym (write-done 1 (pictureFits 1 (length m) (length g)) 8288 (length a) refl f (omega arith)) in
     let n : r .bytes ≡ 8704 = ap (λ (x : disk.Answer). x .bytes) d in
     let w : length b ≡ 8704 = all-length 1 (pictureOf m g) ∙ ap (λ (k : ℕ). 512 * blockCount k) (length-picture m g lg) in
     let s = sym (after-done number m g z) in (
       omega arith,
       n ∙ sym w ∙ ap length s,
-      q ∙ sym (changed-done r (over b a) a (ap (λ (x : disk.Answer). x .number) d)) ∙ ap (λ (x : List ℕ). over x a) s,
+      p .1 ∙ sym (changed-done r (over b a) a (ap (λ (x : disk.Answer). x .number) d)) ∙ ap (λ (x : List ℕ). over x a) s,
     )

@@ -7,9 +7,9 @@ use borrow.Author.Tests.{not-true, not-false}
 use borrow.Author.Needs.{needs}
 use denote.Ref.{now}
 use Rattle.contents.specs.File.{done, judge}
-use Rattle.pictures.specs.Picture.{pictureFits}
-use Rattle.contents.proofs.AnswerLaws.{changed-not, changed-done, refused-not, read-refused, read-26, read-done}
-use Rattle.pictures.proofs.PictureLaws.{fits-are, picture-judged}
+use Rattle.pictures.specs.Picture.{pictureFits, pictureRead}
+use Rattle.contents.proofs.AnswerLaws.{refused-not, read-refused, read-26, read-done}
+use Rattle.pictures.proofs.PictureLaws.{fits-are, picture-judged, both-old, both-new}
 use Rattle.pictures.proofs.read_picture.Statement.{statement}
 use Rattle.pictures.proofs.read_picture.Tie as tie
 
@@ -32,15 +32,11 @@ judge-requires : tie.Need-judge-requires
 judge-requires c κs = search needs
 
 returns : tie.Need-returns
+unfolding pictureRead
 returns c =
     let a = c .before .before .before .before .before .args in
-    let j = c .before .judge in (
-      read-refused (a .kind) (now (a .bytes)) _ (j .result) (j .ensures) (c .if1 .taken),
-      (
-        changed-not (j .result) _ (now (a .memory)) (c .if1 .taken),
-        changed-not (j .result) _ (now (a .registers)) (c .if1 .taken),
-      ),
-    )
+    let j = c .before .judge in
+    both-old (j .result) _ _ _ _ _ (read-refused (a .kind) (now (a .bytes)) _ (j .result) (j .ensures) (c .if1 .taken)) (c .if1 .taken)
 
 picture-fits-requires : tie.Need-picture-fits-requires
 picture-fits-requires c κs = search needs
@@ -49,18 +45,14 @@ refuse-requires : tie.Need-refuse-requires
 refuse-requires c κs = search needs
 
 returns-2 : tie.Need-returns-2
+unfolding pictureRead
 returns-2 c =
     let a = c .before .before .before .before .before .before .before .before .args in
     let j = c .before .before .before .before .judge in
     let r = c .refuse in
     let f : pictureFits (a .kind) (length (now (a .memory))) (length (now (a .registers))) ≡ false = sym (c .before .before .picture-fits .ensures) ∙ not-true _ (c .before .if2 .taken) in
-    let u = refused-not (r .result) 26 0 (r .ensures) (λ x. omega arith) in (
-      r .ensures ∙ read-26 (a .kind) (now (a .bytes)) _ (j .result) (j .ensures) (c .before .before .before .if1 .left) f,
-      (
-        changed-not (r .result) _ (now (a .memory)) u,
-        changed-not (r .result) _ (now (a .registers)) u,
-      ),
-    )
+    both-old (r .result) _ _ _ _ _ (r .ensures ∙ read-26 (a .kind) (now (a .bytes)) _ (j .result) (j .ensures) (c .before .before .before .if1 .left) f)
+    (refused-not (r .result) 26 0 (r .ensures) (λ x. omega arith))
 
 unload-picture-requires : tie.Need-unload-picture-requires
 unload-picture-requires c κs =
@@ -74,18 +66,14 @@ same-length-2 : tie.Need-same-length-2
 same-length-2 c = search needs
 
 returns-3 : tie.Need-returns-3
+unfolding pictureRead
 returns-3 c =
     let e = c .before .before .before .before .before .before .before in
     let a = e .before .before .before .before .before .before .before .args in
     let j = e .before .before .before .judge in
     let z = e .before .before .if1 .left in
-    let t = c .before .before .before .before .unload-picture in (
-      read-done (a .kind) (now (a .bytes)) _ (j .result) (j .ensures) z (fits-ok e),
-      (
-        t .ensures .0 ∙ changed-done (j .result) _ (now (a .memory)) z,
-        t .ensures .1 ∙ changed-done (j .result) _ (now (a .registers)) z,
-      ),
-    )
+    let t = c .before .before .before .before .unload-picture in
+    both-new (j .result) _ _ _ _ _ (read-done (a .kind) (now (a .bytes)) _ (j .result) (j .ensures) z (fits-ok e)) _ _ (t .ensures .0) (t .ensures .1) z
 
 pub read-picture-spec : {M : Type 1} → statement M
 read-picture-spec =

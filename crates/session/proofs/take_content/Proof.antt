@@ -61,7 +61,7 @@ returns-4 c =
     let b = now (a .buffer) in
     let r = c .before .before .read-content in
     let e = found-bytes b (w .before .before .found .given .1) (w .front .ensures) in
-    content-taken (a .kind) (fileOf (a .found) b) (now (w .front .result)) (now (a .target)) (r .last .1 .1 .0) (r .result) e (s .pre .0) (c .before .before .before .before .if1 .left) (s .pre .1) (r .ensures .0) (r .ensures .1)
+    content-taken (a .kind) (fileOf (a .found) b) (now (w .front .result)) (now (a .target)) (r .last .1 .1 .0) (r .result) e (s .pre .0) (c .before .before .before .before .if1 .left) (s .pre .1) (r .ensures)
 
 pub take-content-spec : {M : Type 1} → statement M
 take-content-spec =

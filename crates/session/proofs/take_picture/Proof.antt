@@ -67,7 +67,7 @@ returns-4 c =
     let b = now (a .buffer) in
     let r = c .before .before .before .before .read-picture in
     let e = found-bytes b (w .before .before .found .given .1) (w .front .ensures) in
-    picture-taken (fileOf (a .found) b) (now (w .front .result)) (now (a .memory)) (now (a .registers)) (r .last .1 .1 .0) (r .last .1 .1 .1 .0) (r .result) e (c .before .before .before .before .before .before .before .if1 .left) (s .pre .0) (s .pre .1) (r .ensures .0) (r .ensures .1 .0) (r .ensures .1 .1)
+    picture-taken (fileOf (a .found) b) (now (w .front .result)) (now (a .memory)) (now (a .registers)) (r .last .1 .1 .0) (r .last .1 .1 .1 .0) (r .result) e (c .before .before .before .before .before .before .before .if1 .left) (s .pre .0) (s .pre .1) (r .ensures)
 
 pub take-picture-spec : {M : Type 1} → statement M
 take-picture-spec =
