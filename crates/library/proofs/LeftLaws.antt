@@ -16,7 +16,7 @@ use Rattle.module.proofs.StepLaws.{stepped-answer}
 use Rattle.builders.specs.declared.Built.{Built}
 use Rattle.builders.specs.Fields.{Left as Buffer, sumBuilt, differenceBuilt}
 use Rattle.builders.proofs.Bounds.{sum-bounds, difference-bounds}
-use Rattle.contents.specs.declared.Answer.{Answer}
+use Rattle.contents.specs.declared.Moved.{Moved}
 use Rattle.contents.specs.Content.{targetFits, ContentLeft, contentRead, contentWritten}
 use Rattle.contents.proofs.Bounds.{Bounded as Bounded3, read-bounds, write-bounds, write-content-bounds}
 use Rattle.pictures.specs.Picture.{pictureFits, PictureLeft, pictureRead, pictureWritten}
@@ -85,7 +85,7 @@ module _ (a b s n : ℕ) (list : List ℕ) (l : Buffer) where
 
 -- ---- disk
 
-small-three : (r a : Answer) → r ≡ a → Bounded3 a → (r .place ≤ 67) × (r .bytes ≤ 34304)
+small-three : (r a : Moved) → r ≡ a → Bounded3 a → (r .place ≤ 67) × (r .bytes ≤ 34304)
 small-three r a e h = let s = subst Bounded3 (sym e) h in (s .place, s .bytes)
 
 moved-left : (l m : ContentLeft) (w : List ℕ) → l ≡ m → w ≡ three (l .answer) → _≡_ {A = BufferLeft} (record { buffer = l .buffer; answer = w }) (movedLeft m)

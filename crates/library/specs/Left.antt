@@ -6,7 +6,7 @@ use Rattle.registers.specs.declared.Registers.{Registers}
 use Rattle.judge.specs.declared.Answer.{Answer as Verdict}
 use Rattle.module.specs.Run.{ran, stepped}
 use Rattle.builders.specs.Fields.{Left as Built, sumBuilt, differenceBuilt}
-use Rattle.contents.specs.declared.Answer.{Answer}
+use Rattle.contents.specs.declared.Moved.{Moved}
 use Rattle.contents.specs.Content.{ContentLeft, contentRead, contentWritten}
 use Rattle.pictures.specs.Picture.{pictureRead, pictureWritten}
 
@@ -17,7 +17,7 @@ abbrev pub five : Verdict → List ℕ
 five a = a .number ∷ a .place ∷ a .steps ∷ a .taken ∷ a .given ∷ []
 
 -- "Success gives 0, place 0 and the number of bytes put out; a refusal gives 0 bytes."
-abbrev pub three : Answer → List ℕ
+abbrev pub three : Moved → List ℕ
 three a = a .number ∷ a .place ∷ a .bytes ∷ []
 
 -- ---- the array

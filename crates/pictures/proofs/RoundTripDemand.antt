@@ -11,11 +11,11 @@ use borrow.Author.Tests.{le-leb, eq-eqb}
 use Rattle.blocks.specs.Sums.{at}
 use Rattle.blocks.proofs.BlockLaws.{and-left, and-right}
 use Rattle.memory.proofs.PlainLaws.{length-plain, length-scrambled}
-use Rattle.contents.specs.declared.Answer.{Answer}
-use Rattle.contents.specs.File.{done, contentOf, kindRight, sizeFits, judge, blockCount, blocksOf}
+use Rattle.contents.specs.declared.Moved.{Moved}
+use Rattle.contents.specs.File.{done, contentOf, kindRight, sizeFits, fileJudged, blockCount, blocksOf}
 use Rattle.contents.specs.Content.{readAnswer, writeAnswer, changed, over, targetFits, contentFits, contentRead, contentWritten}
 use Rattle.pictures.specs.Picture.{plainWords, pictureOf, scrambled, pictureFits, pictureRead, pictureWritten}
-use Rattle.contents.proofs.FileLaws.{judge-stands, Stands}
+use Rattle.contents.proofs.FileLaws.{file-stands, Stands}
 use Rattle.contents.proofs.AnswerLaws.{changed-done, left-new, read-done, read-stands, write-stands, write-done}
 use Rattle.contents.proofs.RoundTrip.{all-length, all-content, trip}
 use Rattle.contents.proofs.OneForm.{content-bytes, one-form}
@@ -23,11 +23,11 @@ use Rattle.pictures.proofs.PictureLaws.{length-picture, fits-are, pictu
 
 -- ---- the bytes put out are the blocks
 
-file-is : (kind : ℕ) (content out : List ℕ) (a : Answer) → a ≡ done (512 * blockCount (length content))
+file-is : (kind : ℕ) (content out : List ℕ) (a : Moved) → a ≡ done (512 * blockCount (length content))
     → take (a .bytes) (changed a (over (blocksOf kind content) out) out) ≡ blocksOf kind content
 file-is kind content out a e =
     let b = blocksOf kind content in
-    ap₂ (λ (n : ℕ) (l : List ℕ). take n l) (ap (λ (x : Answer). x .bytes) e) (sym (changed-done a (over b out) out (ap (λ (x : Answer). x .number) e)))
+    ap₂ (λ (n : ℕ) (l : List ℕ). take n l) (ap (λ (x : Moved). x .bytes) e) (sym (changed-done a (over b out) out (ap (λ (x : Moved). x .number) e)))
     ∙ take-at b (drop (length b) out) (512 * blockCount (length content)) (all-length kind content)
 
 -- ---- what is written is read back: every content that `write_content` takes, into any target that has room
@@ -36,7 +36,7 @@ content-read : (kind : ℕ) (content target bytes : List ℕ) → kindRight kind
     → bytes ≡ blocksOf kind content → contentRead kind bytes target ≡ record { answer = done (length content); buffer = over content target }
 unfolding contentRead
 content-read kind content target bytes k f h e =
-    let q : judge kind bytes ≡ done (length content) = ap (judge kind) e ∙ trip kind content k (and-right (ltb 1 kind) (sizeFits kind (length content)) f) in
+    let q : fileJudged kind bytes ≡ done (length content) = ap (fileJudged kind) e ∙ trip kind content k (and-right (ltb 1 kind) (sizeFits kind (length content)) f) in
     let c : contentOf bytes ≡ content = ap contentOf e ∙ all-content kind content in
     let t : targetFits kind bytes target ≡ true =
     ap₂ _&&_ (and-left (ltb 1 kind) (sizeFits kind (length content)) f)
@@ -74,10 +74,10 @@ unfolding contentRead
 content-again kind bytes target out small z h =
     let a = readAnswer kind bytes (targetFits kind bytes target) in
     let w = read-stands kind bytes (targetFits kind bytes target) z in
-    let s = judge-stands kind bytes (w .0) in
-    let r : a ≡ done (length (contentOf bytes)) = sym (read-done kind bytes (targetFits kind bytes target) (judge kind bytes) refl (w .0) (w .1)) ∙ s .answer in
+    let s = file-stands kind bytes (w .0) in
+    let r : a ≡ done (length (contentOf bytes)) = sym (read-done kind bytes (targetFits kind bytes target) (fileJudged kind bytes) refl (w .0) (w .1)) ∙ s .answer in
     let c : take (a .bytes) (changed a (over (contentOf bytes) target) target) ≡ contentOf bytes =
-    ap₂ (λ (n : ℕ) (l : List ℕ). take n l) (ap (λ (x : Answer). x .bytes) r) (sym (changed-done a (over (contentOf bytes) target) target z))
+    ap₂ (λ (n : ℕ) (l : List ℕ). take n l) (ap (λ (x : Moved). x .bytes) r) (sym (changed-done a (over (contentOf bytes) target) target z))
     ∙ take-at (contentOf bytes) (drop (length (contentOf bytes)) target) (length (contentOf bytes)) refl in
     content-rewritten kind bytes out (take (a .bytes) (changed a (over (contentOf bytes) target) target)) s small c
     (and-left (ltb 1 kind) (leb (length (contentOf bytes)) (length target)) (w .1)) h
@@ -91,7 +91,7 @@ unfolding kindRight sizeFits pictureRead
 picture-read memory registers memory′ registers′ bytes lm lr small lm′ lr′ e =
     let content = pictureOf memory registers in
     let n : length content ≡ 8288 = length-picture memory registers lr in
-    let q : judge 1 bytes ≡ done 8288 = ap (judge 1) e ∙ trip 1 content refl (eq-eqb (length content) 8288 n) ∙ ap done n in
+    let q : fileJudged 1 bytes ≡ done 8288 = ap (fileJudged 1) e ∙ trip 1 content refl (eq-eqb (length content) 8288 n) ∙ ap done n in
     let c : contentOf bytes ≡ content = ap contentOf e ∙ all-content 1 content in
     let f : pictureFits 1 (length memory′) (length registers′) ≡ true = ap₂ _&&_ (eq-eqb (length memory′) 8192 lm′) (eq-eqb (length registers′) 96 lr′) in
     sym (both-new (done 8288) _ (scrambled (contentOf bytes)) memory′ (drop 8192 (contentOf bytes)) registers′
@@ -114,7 +114,7 @@ picture-back kind memory registers out memory′ registers′ small z lm′ lr�
     picture-read memory registers memory′ registers′ (take (a .bytes) (changed a (over (blocksOf kind content) out) out)) (l .1) (l .2) small lm′ lr′
     (file-is kind content out a (w .2 ∙ n) ∙ ap (λ (k : ℕ). blocksOf k content) (l .0))
 
-picture-rewritten : (bytes memory registers out : List ℕ) → judge 1 bytes ≡ done 8288 → ((k : ℕ) → at bytes k < 256)
+picture-rewritten : (bytes memory registers out : List ℕ) → fileJudged 1 bytes ≡ done 8288 → ((k : ℕ) → at bytes k < 256)
     → memory ≡ scrambled (contentOf bytes) → registers ≡ drop 8192 (contentOf bytes) → length bytes ≤ length out
     → pictureWritten 1 memory registers out ≡ record { answer = done (length bytes); buffer = over bytes out }
 unfolding kindRight pictureWritten

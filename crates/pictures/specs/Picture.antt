@@ -4,7 +4,7 @@ use mathlib.Core.List.{List, _++_}
 use Prim.Native.Nat.{ℕ}
 use lib.Dec.{eqb}
 use lib.ListN.{length, drop}
-use Rattle.contents.specs.declared.Answer.{Answer}
+use Rattle.contents.specs.declared.Moved.{Moved}
 use Rattle.contents.specs.File.{contentOf, blocksOf}
 use Rattle.contents.specs.Content.{readAnswer, writeAnswer, changed, over, ContentLeft}
 -- The words of a scrambled memory in plain order, and the scrambled memory of the words that a content begins with.
@@ -20,7 +20,7 @@ pictureFits kind memory registers = eqb kind 1 && eqb memory 8192 && eqb registe
 
 -- What `read_picture` leaves: its answer, and the two buffers.
 pub record PictureLeft : Type 0 where
-  pub answer : Answer
+  pub answer : Moved
   pub memory : List ℕ
   pub registers : List ℕ
 

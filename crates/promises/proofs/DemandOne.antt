@@ -21,11 +21,11 @@ use Rattle.builders.specs.Lists.{encoded}
 use Rattle.builders.specs.Fields.{Left as Buffer, sumList, differenceList, listLength, fieldsFault, builtWith, sumBuilt, differenceBuilt}
 use Rattle.builders.proofs.ListLaws.{sum-length, difference-length}
 use Rattle.builders.proofs.Refusals.{built-row, built-0, built-count, built-unwritten}
-use Rattle.contents.specs.declared.Answer.{Answer as Moved}
+use Rattle.contents.specs.declared.Moved.{Moved}
 use Rattle.contents.specs.File.{contentOf, blocksOf}
 use Rattle.contents.specs.Content.{readAnswer, writeAnswer, changed, over, targetFits, contentFits, ContentLeft, contentRead, contentWritten}
 use Rattle.contents.proofs.AnswerLaws.{changed-not, left-parts}
-use Rattle.contents.proofs.Table as blocks
+use Rattle.contents.proofs.Numbers as blocks
 use Rattle.pictures.specs.Picture.{pictureOf, scrambled, pictureFits, pictureRead, pictureWritten}
 use Rattle.pictures.proofs.PictureLaws.{both-parts}
 use Rattle.library.specs.Left.{five, three, RunLeft, runLeft, StepLeft, stepLeft, PassLeft, passLeft, BufferLeft, sumLeft, differenceLeft, readLeft, writeLeft, writePictureLeft, TargetsLeft, readPictureLeft}

@@ -182,10 +182,10 @@ module _ {M : Type 1} (𝓤 : URA M) (H : Heap 𝓤) (A : Atoms 𝓤) (memory : 
   of-contents : OfContents 𝓤 H A memory runs
   of-contents =
       record {
-        refuse = equation 𝓤 _ (λ κs a g r e. refl);
-        finish = equation 𝓤 _ (λ κs a g r e. refl);
+        refused = equation 𝓤 _ (λ κs a g r e. refl);
+        done = equation 𝓤 _ (λ κs a g r e. refl);
         kindRight = equation 𝓤 _ (λ κs a g r e. refl);
-        judge = equation 𝓤 _ (λ κs a g r e. refl);
+        judgeFile = equation 𝓤 _ (λ κs a g r e. refl);
         partOf = equation 𝓤 _ (λ κs a g r e. refl);
         putPart = equation 𝓤 _ (λ κs a g r e. refl);
         sealAll = equation 𝓤 _ (λ κs a g r e. refl);

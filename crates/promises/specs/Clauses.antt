@@ -9,7 +9,7 @@ use Rattle.judge.specs.declared.Answer.{Answer}
 use Rattle.module.specs.Run.{Left, ran, Updated, stepped}
 use Rattle.builders.specs.declared.Built.{Built}
 use Rattle.builders.specs.Fields.{sumBuilt, differenceBuilt, Left as Buffer}
-use Rattle.contents.specs.declared.Answer.{Answer as Moved}
+use Rattle.contents.specs.declared.Moved.{Moved}
 use Rattle.contents.specs.Content.{ContentLeft, contentRead, contentWritten}
 use Rattle.pictures.specs.Picture.{PictureLeft, pictureRead, pictureWritten}
 use Rattle.library.specs.Left.{RunLeft, runLeft, StepLeft, stepLeft, PassLeft, passLeft, BufferLeft, TargetsLeft, readPictureLeft}

@@ -62,10 +62,10 @@ use Rattle.blocks.proofs.fault as block_fault
 use Rattle.blocks.proofs.copy as copy
 use Rattle.blocks.proofs.seal as seal
 use Rattle.contents.specs.Content.{ContentLeft}
-use Rattle.contents.proofs.refuse as refuse
-use Rattle.contents.proofs.finish as finish
+use Rattle.contents.proofs.refused as refused
+use Rattle.contents.proofs.done as done
 use Rattle.contents.proofs.kind_right as kind_right
-use Rattle.contents.proofs.judge as judge_file
+use Rattle.contents.proofs.judge_file as judge_file
 use Rattle.contents.proofs.part_of as part_of
 use Rattle.contents.proofs.put_part as put_part
 use Rattle.contents.proofs.seal_all as seal_all
@@ -215,10 +215,10 @@ module _ {M : Type 1} (𝓤 : URA M) (H : Heap 𝓤) (A : Atoms 𝓤) (memory : 
 
   -- `contents`
   pub record OfContents : Type 2 where
-    pub refuse : OneOutcome 𝓤 refuse.ended (refuse.clauses 𝓤 H A memory runs) (λ κs r e. r)
-    pub finish : OneOutcome 𝓤 finish.ended (finish.clauses 𝓤 H A memory runs) (λ κs r e. r)
+    pub refused : OneOutcome 𝓤 refused.ended (refused.clauses 𝓤 H A memory runs) (λ κs r e. r)
+    pub done : OneOutcome 𝓤 done.ended (done.clauses 𝓤 H A memory runs) (λ κs r e. r)
     pub kindRight : OneOutcome 𝓤 kind_right.ended (kind_right.clauses 𝓤 H A memory runs) (λ κs r e. r)
-    pub judge : OneOutcome 𝓤 judge_file.ended (judge_file.clauses 𝓤 H A memory runs) (λ κs r e. r)
+    pub judgeFile : OneOutcome 𝓤 judge_file.ended (judge_file.clauses 𝓤 H A memory runs) (λ κs r e. r)
     pub partOf : OneOutcome 𝓤 part_of.ended (part_of.clauses 𝓤 H A memory runs) (λ κs r e. now (e .1 .1 .0))
     pub putPart : OneOutcome 𝓤 put_part.ended (put_part.clauses 𝓤 H A memory runs) (λ κs r e. now (e .1 .1 .0))
     pub sealAll : OneOutcome 𝓤 seal_all.ended (seal_all.clauses 𝓤 H A memory runs) (λ κs r e. now (e .1 .1 .1 .0))
