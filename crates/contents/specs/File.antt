@@ -5,13 +5,13 @@ use Prim.Native.Nat.{ℕ, zero, suc, _+_, _*_, _/_, _%_, max}
 use lib.Dec.{eqb, leb, ltb}
 use lib.ListN.{length, take, drop}
 use Rattle.blocks.specs.Block.{block, fault, payloadOf}
-use Rattle.contents.specs.declared.Answer.{Answer}
+use Rattle.contents.specs.declared.Moved.{Moved}
 
 -- "Success gives 0, place 0 and the number of bytes put out; a refusal gives 0 bytes."
-abbrev pub done : ℕ → Answer
+abbrev pub done : ℕ → Moved
 done n = record { number = 0; place = 0; bytes = n }
 
-abbrev pub refused : ℕ → ℕ → Answer
+abbrev pub refused : ℕ → ℕ → Moved
 refused n p = record { number = n; place = p; bytes = 0 }
 
 -- ---- a file that is read
@@ -43,10 +43,10 @@ next good v = v
 next (bad n p) v = bad n p
 
 -- The verdict on the first n of count blocks.
-unfoldable pub judged : ℕ → List ℕ → ℕ → ℕ → Verdict
-judged kind bytes count zero = good
-judged kind bytes count (suc n) =
-    next (judged kind bytes count n) (verdict (fault (blockAt bytes n) kind n count) n)
+unfoldable pub blocksJudged : ℕ → List ℕ → ℕ → ℕ → Verdict
+blocksJudged kind bytes count zero = good
+blocksJudged kind bytes count (suc n) =
+    next (blocksJudged kind bytes count n) (verdict (fault (blockAt bytes n) kind n count) n)
 
 -- "A kind asked for that is not 1 to 3 is 22."
 unfoldable pub kindRight : ℕ → Bool
@@ -64,16 +64,16 @@ sizeFits kind size =
     (eqb (size % 32) 0 && leb size 32768))
 
 -- The answer for a content of so many bytes and the verdict on its blocks: 25 only where every block is good.
-abbrev pub settled : ℕ → ℕ → Verdict → Answer
+abbrev pub settled : ℕ → ℕ → Verdict → Moved
 settled kind size good = cond (sizeFits kind size) (done size) (refused 25 0)
 settled kind size (bad n p) = refused n p
 
 -- The file judged by itself: 22 for the kind asked, "before all else"; 20; "then per block" 21 to 24; then 25; else the size of the content. "Place is the block for 21 to 24, else 0."
-unfoldable pub judge : ℕ → List ℕ → Answer
-judge kind bytes =
+unfoldable pub fileJudged : ℕ → List ℕ → Moved
+fileJudged kind bytes =
     cond (not (kindRight kind)) (refused 22 0)
     (cond (not (lengthRight (length bytes))) (refused 20 0)
-    (settled kind (length (contentOf bytes)) (judged kind bytes (length bytes / 512) (length bytes / 512))))
+    (settled kind (length (contentOf bytes)) (blocksJudged kind bytes (length bytes / 512) (length bytes / 512))))
 
 -- ---- a file that is written
 

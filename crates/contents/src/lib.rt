@@ -4,31 +4,31 @@
 ghost use mathlib.Core.Path.{_≡_};
 ghost use Prim.Native.Nat.{_+_, _*_, _<_, _≤_, min};
 ghost use lib.ListN.{length};
-ghost use Rattle.contents.specs.File.{done, refused, kindRight, lengthRight, sizeFits, contentOf, judge, blockCount, blocksOf};
-ghost use Rattle.contents.specs.Content.{readAnswer, writeAnswer, changed, over, targetFits, contentFits};
+ghost use Rattle.contents.specs.File.{done, refused, kindRight, lengthRight, sizeFits, fileJudged, blockCount, blocksOf};
+ghost use Rattle.contents.specs.Content.{over, contentRead, contentWritten};
 ghost use Rattle.contents.specs.Payloads.{payloads, laid};
 
 // A refusal has its number, its place and 0 bytes; success has 0, 0 and the number of bytes put out.
-pub struct Answer {
+pub struct Moved {
     pub number: u8,
     pub place: usize,
     pub bytes: usize,
 }
 
-pub fn refuse(number: u8, place: usize) -> Answer
+pub fn refused(number: u8, place: usize) -> Moved
     ensures { λ r. ⌜ r ≡ refused number place ⌝ }
 {
-    Answer {
+    Moved {
         number,
         place,
         bytes: 0,
     }
 }
 
-pub fn finish(bytes: usize) -> Answer
+pub fn done(bytes: usize) -> Moved
     ensures { λ r. ⌜ r ≡ done bytes ⌝ }
 {
-    Answer {
+    Moved {
         number: 0,
         place: 0,
         bytes,
@@ -71,15 +71,15 @@ fn size_fits(kind: usize, size: usize) -> bool
 }
 
 // A file judged by itself, before any target is looked at: its refusal, or the size of its content.
-pub fn judge(kind: usize, bytes: &[u8]) -> Answer
-    ensures { λ r. ⌜ r ≡ judge kind (now (bytes .entry)) ⌝ }
+pub fn judge_file(kind: usize, bytes: &[u8]) -> Moved
+    ensures { λ r. ⌜ r ≡ fileJudged kind (now (bytes .entry)) ⌝ }
 {
     if !kind_right(kind) {
-        return refuse(22, 0);
+        return refused(22, 0);
     }
     let len = bytes.len();
     if !length_right(len) {
-        return refuse(20, 0);
+        return refused(20, 0);
     }
     let count = len / 512;
     let mut size: usize = 0;
@@ -87,15 +87,15 @@ pub fn judge(kind: usize, bytes: &[u8]) -> Answer
     while i < count {
         let found = blocks::fault(&bytes[512 * i..512 * i + 512], kind, i, count);
         if found != 0 {
-            return refuse(found, i);
+            return refused(found, i);
         }
         size += blocks::two_at(&bytes[512 * i..512 * i + 512], 6);
         i += 1;
     }
     if size_fits(kind, size) {
-        return finish(size);
+        return done(size);
     }
-    refuse(25, 0)
+    refused(25, 0)
 }
 
 fn lesser(a: usize, b: usize) -> usize
@@ -124,21 +124,21 @@ pub fn part_of(bytes: &[u8], at: usize, part: &mut [u8])
 }
 
 // Reads the blocks of a list or of items into a target, whose bytes past the content stay.
-pub fn read_content(kind: usize, bytes: &[u8], target: &mut [u8]) -> Answer
-    ensures answer { λ r. ⌜ r ≡ readAnswer kind (now (bytes .entry)) (targetFits kind (now (bytes .entry)) (now (target .entry))) ⌝ }
-    ensures target { λ r. ⌜ now (target .exit) ≡ changed r (over (contentOf (now (bytes .entry))) (now (target .entry))) (now (target .entry)) ⌝ }
+pub fn read_content(kind: usize, bytes: &[u8], target: &mut [u8]) -> Moved
+    ensures { λ r. ⌜ record { answer = r; buffer = now (target .exit) }
+        ≡ contentRead kind (now (bytes .entry)) (now (target .entry)) ⌝ }
 {
-    let found = judge(kind, bytes);
+    let found = judge_file(kind, bytes);
     let number = found.number;
     if number != 0 {
         return found;
     }
     let size = found.bytes;
     if kind <= 1 {
-        return refuse(26, 0);
+        return refused(26, 0);
     }
     if target.len() < size {
-        return refuse(26, 0);
+        return refused(26, 0);
     }
     part_of(bytes, 0, &mut target[0..size]);
     found
@@ -188,25 +188,25 @@ fn block_count(size: usize) -> usize
 }
 
 // Writes a list or items as blocks to the start of an output, whose bytes past the blocks stay.
-pub fn write_content(kind: usize, content: &[u8], out: &mut [u8]) -> Answer
-    ensures answer { λ r. ⌜ r ≡ writeAnswer kind (contentFits kind (now (content .entry))) (length (now (content .entry))) (length (now (out .entry))) ⌝ }
-    ensures out { λ r. ⌜ now (out .exit) ≡ changed r (over (blocksOf kind (now (content .entry))) (now (out .entry))) (now (out .entry)) ⌝ }
+pub fn write_content(kind: usize, content: &[u8], out: &mut [u8]) -> Moved
+    ensures { λ r. ⌜ record { answer = r; buffer = now (out .exit) }
+        ≡ contentWritten kind (now (content .entry)) (now (out .entry)) ⌝ }
 {
     let size = content.len();
     if !kind_right(kind) {
-        return refuse(22, 0);
+        return refused(22, 0);
     }
     if kind <= 1 {
-        return refuse(26, 0);
+        return refused(26, 0);
     }
     if !size_fits(kind, size) {
-        return refuse(26, 0);
+        return refused(26, 0);
     }
     let count = block_count(size);
     if out.len() < 512 * count {
-        return refuse(27, 0);
+        return refused(27, 0);
     }
     put_part(content, 0, out);
     seal_all(kind, size, count, out);
-    finish(512 * count)
+    done(512 * count)
 }

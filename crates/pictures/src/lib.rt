@@ -1,15 +1,15 @@
 // What a user reads and writes on disk: pictures here, lists and items handed on from contents. Document 01, Blocks on disk; docs/FORMAT.md has the layout.
 //
 // The public entries take any bytes, any lengths and any kind asked: `read_picture`, `write_picture`, `read_content`, `write_content`. Between the blocks and the scrambled memory a picture's words stand on the stack eight at a time, 256 bytes: those that one reading of the chips gives.
-pub use contents::Answer;
+pub use contents::Moved;
 pub use contents::read_content;
 pub use contents::write_content;
 ghost use mathlib.Core.Path.{_≡_};
 ghost use Prim.Native.Nat.{_≤_};
 ghost use lib.ListN.{length, drop};
-ghost use Rattle.contents.specs.File.{done, contentOf, judge, blocksOf};
-ghost use Rattle.contents.specs.Content.{readAnswer, writeAnswer, changed, over};
-ghost use Rattle.pictures.specs.Picture.{pictureOf, scrambled, pictureFits};
+ghost use Rattle.contents.specs.File.{done, contentOf, fileJudged, blocksOf};
+ghost use Rattle.contents.specs.Content.{over};
+ghost use Rattle.pictures.specs.Picture.{pictureOf, scrambled, pictureFits, pictureRead, pictureWritten};
 
 fn picture_fits(kind: usize, memory: usize, registers: usize) -> bool
     ensures { λ r. ⌜ r ≡ pictureFits kind memory registers ⌝ }
@@ -24,7 +24,7 @@ fn picture_fits(kind: usize, memory: usize, registers: usize) -> bool
 
 // The content of a picture that stands, into the memory and the registers.
 fn unload_picture(bytes: &[u8], memory: &mut [u8], registers: &mut [u8])
-    requires { ⌜ (judge 1 (now bytes) ≡ done 8288) × (length (now memory) ≡ 8192) × (length (now registers) ≡ 96) ⌝ }
+    requires { ⌜ (fileJudged 1 (now bytes) ≡ done 8288) × (length (now memory) ≡ 8192) × (length (now registers) ≡ 96) ⌝ }
     ensures { λ _. ⌜ (now (memory .exit) ≡ scrambled (contentOf (now (bytes .entry)))) × (now (registers .exit) ≡ drop 8192 (contentOf (now (bytes .entry)))) ⌝ }
 {
     let mut v: usize = 0;
@@ -38,18 +38,17 @@ fn unload_picture(bytes: &[u8], memory: &mut [u8], registers: &mut [u8])
 }
 
 // Reads a picture. Every block is judged, and both lengths, before a target is touched.
-pub fn read_picture(kind: usize, bytes: &[u8], memory: &mut [u8], registers: &mut [u8]) -> Answer
-    ensures answer { λ r. ⌜ r ≡ readAnswer kind (now (bytes .entry)) (pictureFits kind (length (now (memory .entry))) (length (now (registers .entry)))) ⌝ }
-    ensures memory { λ r. ⌜ now (memory .exit) ≡ changed r (scrambled (contentOf (now (bytes .entry)))) (now (memory .entry)) ⌝ }
-    ensures registers { λ r. ⌜ now (registers .exit) ≡ changed r (drop 8192 (contentOf (now (bytes .entry)))) (now (registers .entry)) ⌝ }
+pub fn read_picture(kind: usize, bytes: &[u8], memory: &mut [u8], registers: &mut [u8]) -> Moved
+    ensures { λ r. ⌜ record { answer = r; memory = now (memory .exit); registers = now (registers .exit) }
+        ≡ pictureRead kind (now (bytes .entry)) (now (memory .entry)) (now (registers .entry)) ⌝ }
 {
-    let found = contents::judge(kind, bytes);
+    let found = contents::judge_file(kind, bytes);
     let number = found.number;
     if number != 0 {
         return found;
     }
     if !picture_fits(kind, memory.len(), registers.len()) {
-        return contents::refuse(26, 0);
+        return contents::refused(26, 0);
     }
     unload_picture(bytes, memory, registers);
     found
@@ -71,19 +70,19 @@ fn put_picture(memory: &[u8], registers: &[u8], out: &mut [u8])
 }
 
 // Writes a picture to the start of an output, whose bytes past the blocks stay.
-pub fn write_picture(kind: usize, memory: &[u8], registers: &[u8], out: &mut [u8]) -> Answer
-    ensures answer { λ r. ⌜ r ≡ writeAnswer kind (pictureFits kind (length (now (memory .entry))) (length (now (registers .entry)))) 8288 (length (now (out .entry))) ⌝ }
-    ensures out { λ r. ⌜ now (out .exit) ≡ changed r (over (blocksOf kind (pictureOf (now (memory .entry)) (now (registers .entry)))) (now (out .entry))) (now (out .entry)) ⌝ }
+pub fn write_picture(kind: usize, memory: &[u8], registers: &[u8], out: &mut [u8]) -> Moved
+    ensures { λ r. ⌜ record { answer = r; buffer = now (out .exit) }
+        ≡ pictureWritten kind (now (memory .entry)) (now (registers .entry)) (now (out .entry)) ⌝ }
 {
     if !contents::kind_right(kind) {
-        return contents::refuse(22, 0);
+        return contents::refused(22, 0);
     }
     if !picture_fits(kind, memory.len(), registers.len()) {
-        return contents::refuse(26, 0);
+        return contents::refused(26, 0);
     }
     if out.len() < 8704 {
-        return contents::refuse(27, 0);
+        return contents::refused(27, 0);
     }
     put_picture(memory, registers, out);
-    contents::finish(8704)
+    contents::done(8704)
 }

@@ -21,14 +21,15 @@ use Rattle.builders.specs.Lists.{encoded}
 use Rattle.builders.specs.Fields.{Left as Buffer, sumList, differenceList, listLength, fieldsFault, builtWith, sumBuilt, differenceBuilt}
 use Rattle.builders.proofs.ListLaws.{sum-length, difference-length}
 use Rattle.builders.proofs.Refusals.{built-row, built-0, built-count, built-unwritten}
-use Rattle.contents.specs.declared.Answer.{Answer as Moved}
+use Rattle.contents.specs.declared.Moved.{Moved}
 use Rattle.contents.specs.File.{contentOf, blocksOf}
-use Rattle.contents.specs.Content.{readAnswer, writeAnswer, changed, over, targetFits, contentFits}
-use Rattle.contents.proofs.AnswerLaws.{changed-not}
-use Rattle.contents.proofs.Table as blocks
-use Rattle.pictures.specs.Picture.{pictureOf, scrambled, pictureFits}
-use Rattle.library.specs.Left.{five, three, RunLeft, runLeft, StepLeft, stepLeft, PassLeft, passLeft, BufferLeft, sumLeft, differenceLeft, readLeft, writeLeft, PictureLeft, readPictureLeft, writePictureLeft}
-use Rattle.promises.specs.Clauses.{Run, Step, SumList, DifferenceList, LibraryRun, LibraryStep, LibraryPass, LibraryBuffer, LibraryReadPicture}
+use Rattle.contents.specs.Content.{readAnswer, writeAnswer, changed, over, targetFits, contentFits, ContentLeft, contentRead, contentWritten}
+use Rattle.contents.proofs.AnswerLaws.{changed-not, left-parts}
+use Rattle.contents.proofs.Numbers as blocks
+use Rattle.pictures.specs.Picture.{pictureOf, scrambled, pictureFits, pictureRead, pictureWritten}
+use Rattle.pictures.proofs.PictureLaws.{both-parts}
+use Rattle.library.specs.Left.{five, three, RunLeft, runLeft, StepLeft, stepLeft, PassLeft, passLeft, BufferLeft, sumLeft, differenceLeft, readLeft, writeLeft, writePictureLeft, TargetsLeft, readPictureLeft}
+use Rattle.promises.specs.Clauses.{Run, Step, SumList, DifferenceList, ReadContent, WriteContent, ReadPicture, WritePicture, LibraryRun, LibraryStep, LibraryPass, LibraryBuffer, LibraryReadPicture}
 use Rattle.promises.specs.DemandOne.{RunTable, StepTable, PassTable, ListTable, ReadTable, WriteTable, Kept, DemandOne}
 
 -- ---- the tables, from the laws
@@ -168,14 +169,47 @@ module _ (a b s n : ℕ) (list list′ : List ℕ) (r : Built) where
   unfolding differenceBuilt
   difference-meets h = built 2 a b s n (encoded (differenceList a b s n)) list list′ r (difference-length a b s n) h
 
-kept : (r : Moved) (new old after : List ℕ) → after ≡ changed r new old → Kept (r .number) old after
-kept r new old after h u = h ∙ sym (changed-not r new old u)
+-- what an entry leaves that reads, or writes, where its answer is one of the table
+module _ (r a : Moved) (new old after : List ℕ) where
+  moved : (Table : Moved → Type 0) → Table a → _≡_ {A = ContentLeft} (record { answer = r; buffer = after }) (record { answer = a; buffer = changed a new old })
+      → Table r × Kept (r .number) old after
+  moved Table t h =
+      let p = left-parts r a new old after h in
+      (subst Table (sym (p .0)) t, λ u. p .1 ∙ sym (changed-not r new old u))
 
-read-meets : (kind : ℕ) (bytes : List ℕ) (fits : Bool) (r : Moved) → r ≡ readAnswer kind bytes fits → ReadTable kind bytes fits r
-read-meets kind bytes fits r e = subst (ReadTable kind bytes fits) (sym e) (read-table kind bytes fits)
+read-meets : (kind : ℕ) (bytes target target′ : List ℕ) (r : Moved) → ReadContent kind bytes target target′ r
+    → ReadTable kind bytes (targetFits kind bytes target) r × Kept (r .number) target target′
+unfolding contentRead
+read-meets kind bytes target target′ r h =
+    let fits = targetFits kind bytes target in
+    moved r _ (over (contentOf bytes) target) target target′ (ReadTable kind bytes fits) (read-table kind bytes fits) h
 
-write-meets : (kind : ℕ) (fits : Bool) (size room : ℕ) (r : Moved) → r ≡ writeAnswer kind fits size room → WriteTable kind fits size room r
-write-meets kind fits size room r e = subst (WriteTable kind fits size room) (sym e) (write-table kind fits size room)
+write-meets : (kind : ℕ) (content out out′ : List ℕ) (r : Moved) → WriteContent kind content out out′ r
+    → WriteTable kind (contentFits kind content) (length content) (length out) r × Kept (r .number) out out′
+unfolding contentWritten
+write-meets kind content out out′ r h =
+    let fits = contentFits kind content in
+    moved r _ (over (blocksOf kind content) out) out out′ (WriteTable kind fits (length content) (length out)) (write-table kind fits (length content) (length out)) h
+
+read-picture-meets : (kind : ℕ) (bytes memory registers memory′ registers′ : List ℕ) (r : Moved) → ReadPicture kind bytes memory registers memory′ registers′ r
+    → ReadTable kind bytes (pictureFits kind (length memory) (length registers)) r × Kept (r .number) memory memory′ × Kept (r .number) registers registers′
+unfolding pictureRead
+read-picture-meets kind bytes memory registers memory′ registers′ r h =
+    let fits = pictureFits kind (length memory) (length registers) in
+    let new = scrambled (contentOf bytes) in
+    let new′ = drop 8192 (contentOf bytes) in
+    let p = both-parts r _ new memory new′ registers memory′ registers′ h in (
+      subst (ReadTable kind bytes fits) (sym (p .0)) (read-table kind bytes fits),
+      λ u. p .1 ∙ sym (changed-not r new memory u),
+      λ u. p .2 ∙ sym (changed-not r new′ registers u),
+    )
+
+write-picture-meets : (kind : ℕ) (memory registers out out′ : List ℕ) (r : Moved) → WritePicture kind memory registers out out′ r
+    → WriteTable kind (pictureFits kind (length memory) (length registers)) 8288 (length out) r × Kept (r .number) out out′
+unfolding pictureWritten
+write-picture-meets kind memory registers out out′ r h =
+    let fits = pictureFits kind (length memory) (length registers) in
+    moved r _ (over (blocksOf kind (pictureOf memory registers)) out) out out′ (WriteTable kind fits 8288 (length out)) (write-table kind fits 8288 (length out)) h
 
 -- ---- a function of the library: what it leaves is what the entry leaves, and the numbers of the entry's answer
 
@@ -225,40 +259,36 @@ library-read : (kind : ℕ) (bytes target target′ answer′ : List ℕ) → Li
     → (r : Moved) × (answer′ ≡ three r) × ReadTable kind bytes (targetFits kind bytes target) r × Kept (r .number) target target′
 unfolding readLeft
 library-read kind bytes target target′ answer′ h =
-    let fits = targetFits kind bytes target in
-    let r = readAnswer kind bytes fits in
-    (r, ap (λ (l : BufferLeft). l .answer) h, read-table kind bytes fits, kept r (over (contentOf bytes) target) target target′ (ap (λ (l : BufferLeft). l .buffer) h))
+    let r = contentRead kind bytes target .answer in
+    let m = read-meets kind bytes target target′ r (λ t. record { answer = r; buffer = h t .buffer }) in
+    (r, ap (λ (l : BufferLeft). l .answer) h, m .0, m .1)
 
 library-write : (kind : ℕ) (content out out′ answer′ : List ℕ) → LibraryBuffer (writeLeft kind content out) out′ answer′
     → (r : Moved) × (answer′ ≡ three r) × WriteTable kind (contentFits kind content) (length content) (length out) r × Kept (r .number) out out′
 unfolding writeLeft
 library-write kind content out out′ answer′ h =
-    let fits = contentFits kind content in
-    let r = writeAnswer kind fits (length content) (length out) in
-    (r, ap (λ (l : BufferLeft). l .answer) h, write-table kind fits (length content) (length out), kept r (over (blocksOf kind content) out) out out′ (ap (λ (l : BufferLeft). l .buffer) h))
+    let r = contentWritten kind content out .answer in
+    let m = write-meets kind content out out′ r (λ t. record { answer = r; buffer = h t .buffer }) in
+    (r, ap (λ (l : BufferLeft). l .answer) h, m .0, m .1)
 
-library-read-picture : (kind : ℕ) (bytes memory registers memory′ registers′ answer′ : List ℕ) → LibraryReadPicture kind bytes memory registers memory′ registers′ answer′
+library-read-picture : (kind : ℕ) (bytes memory registers memory′ registers′ answer′ : List ℕ)
+    → LibraryReadPicture kind bytes memory registers memory′ registers′ answer′
     → (r : Moved) × (answer′ ≡ three r) × ReadTable kind bytes (pictureFits kind (length memory) (length registers)) r
     × Kept (r .number) memory memory′ × Kept (r .number) registers registers′
 unfolding readPictureLeft
 library-read-picture kind bytes memory registers memory′ registers′ answer′ h =
-    let fits = pictureFits kind (length memory) (length registers) in
-    let r = readAnswer kind bytes fits in (
-      r,
-      ap (λ (l : PictureLeft). l .answer) h,
-      read-table kind bytes fits,
-      kept r (scrambled (contentOf bytes)) memory memory′ (ap (λ (l : PictureLeft). l .memory) h),
-      kept r (drop 8192 (contentOf bytes)) registers registers′ (ap (λ (l : PictureLeft). l .registers) h),
-    )
+    let r = pictureRead kind bytes memory registers .answer in
+    let m = read-picture-meets kind bytes memory registers memory′ registers′ r (λ t. record { answer = r; memory = h t .memory; registers = h t .registers }) in
+    (r, ap (λ (l : TargetsLeft). l .answer) h, m .0, m .1, m .2)
 
 library-write-picture : (kind : ℕ) (memory registers out out′ answer′ : List ℕ) → LibraryBuffer (writePictureLeft kind memory registers out) out′ answer′
     → (r : Moved) × (answer′ ≡ three r) × WriteTable kind (pictureFits kind (length memory) (length registers)) 8288 (length out) r
     × Kept (r .number) out out′
 unfolding writePictureLeft
 library-write-picture kind memory registers out out′ answer′ h =
-    let fits = pictureFits kind (length memory) (length registers) in
-    let r = writeAnswer kind fits 8288 (length out) in
-    (r, ap (λ (l : BufferLeft). l .answer) h, write-table kind fits 8288 (length out), kept r (over (blocksOf kind (pictureOf memory registers)) out) out out′ (ap (λ (l : BufferLeft). l .buffer) h))
+    let r = pictureWritten kind memory registers out .answer in
+    let m = write-picture-meets kind memory registers out out′ r (λ t. record { answer = r; buffer = h t .buffer }) in
+    (r, ap (λ (l : BufferLeft). l .answer) h, m .0, m .1)
 
 pub demand-one : DemandOne
 demand-one =
@@ -270,17 +300,10 @@ demand-one =
       stepNotEight = not-eight;
       sumList = sum-meets;
       differenceList = difference-meets;
-      readContent = λ kind bytes target target′ r e h.
-          (read-meets kind bytes (targetFits kind bytes target) r e, kept r (over (contentOf bytes) target) target target′ h);
-      writeContent = λ kind content out out′ r e h.
-          (write-meets kind (contentFits kind content) (length content) (length out) r e, kept r (over (blocksOf kind content) out) out out′ h);
-      readPicture = λ kind bytes memory registers memory′ registers′ r e h g. (
-        read-meets kind bytes (pictureFits kind (length memory) (length registers)) r e,
-        kept r (scrambled (contentOf bytes)) memory memory′ h,
-        kept r (drop 8192 (contentOf bytes)) registers registers′ g,
-      );
-      writePicture = λ kind memory registers out out′ r e h.
-          (write-meets kind (pictureFits kind (length memory) (length registers)) 8288 (length out) r e, kept r (over (blocksOf kind (pictureOf memory registers)) out) out out′ h);
+      readContent = read-meets;
+      writeContent = write-meets;
+      readPicture = read-picture-meets;
+      writePicture = write-picture-meets;
       libraryPass = library-pass;
       libraryRun = library-run;
       libraryStep = library-step;

@@ -19,13 +19,13 @@ use Rattle.judge.specs.Table.{Gives, After, Sized, Formed, Met, Served, Lacks}
 use Rattle.builders.specs.declared.Built.{Built}
 use Rattle.builders.specs.Fields.{wrongWidth, beyond, crosses, Fields, listLength}
 use Rattle.blocks.specs.Block.{sumsDiffer, otherKind, misplaced, misfilled}
-use Rattle.contents.specs.declared.Answer.{Answer as Moved}
+use Rattle.contents.specs.declared.Moved.{Moved}
 use Rattle.contents.specs.File.{contentOf, kindRight, lengthRight, sizeFits, blockCount}
 use Rattle.contents.specs.Content.{targetFits, contentFits}
-use Rattle.contents.specs.Table.{Gives as MovedGives, Met as MetBlock, Sound}
+use Rattle.contents.specs.Numbers.{Answers, MetBlock, Sound}
 use Rattle.pictures.specs.Picture.{pictureFits}
 use Rattle.library.specs.Left.{five, three, sumLeft, differenceLeft, readLeft, writeLeft, writePictureLeft}
-use Rattle.promises.specs.Clauses.{Run, Step, Pass, SumList, DifferenceList, ReadContent-answer, ReadContent-target, WriteContent-answer, WriteContent-out, ReadPicture-answer, ReadPicture-memory, ReadPicture-registers, WritePicture-answer, WritePicture-out, LibraryRun, LibraryStep, LibraryPass, LibraryBuffer, LibraryReadPicture, LibraryVersion}
+use Rattle.promises.specs.Clauses.{Run, Step, Pass, SumList, DifferenceList, ReadContent, WriteContent, ReadPicture, WritePicture, LibraryRun, LibraryStep, LibraryPass, LibraryBuffer, LibraryReadPicture, LibraryVersion}
 
 -- ---- Network: "it gives 10 and a zero item where byte 6 is none of the 37, and otherwise 0 and the passed item"
 pub record PassTable (lines : List ℕ) (flip code : ℕ) (r : Passed) : Type 0 where
@@ -97,20 +97,20 @@ pub record ListTable (lead a b s n have : ℕ) (r : Built) : Type 0 where
 -- Reading; `fits` says whether the targets have the room, or for a picture the lengths, that 26 asks for.
 pub record ReadTable (kind : ℕ) (bytes : List ℕ) (fits : Bool) (r : Moved) : Type 0 where
   -- "20 length 0, not a multiple of 512, or over 34,304"
-  pub row-20 : (k : ℕ) → MovedGives r 20 k ↔ (k ≡ 0) × (kindRight kind ≡ true) × (lengthRight (length bytes) ≡ false)
+  pub row-20 : (k : ℕ) → Answers r 20 k ↔ (k ≡ 0) × (kindRight kind ≡ true) × (lengthRight (length bytes) ≡ false)
   -- "then per block 21 sums differ"
-  pub row-21 : (k : ℕ) → MovedGives r 21 k ↔ MetBlock kind bytes k (λ b. After [] (sumsDiffer b))
+  pub row-21 : (k : ℕ) → Answers r 21 k ↔ MetBlock kind bytes k (λ b. After [] (sumsDiffer b))
   -- "22 kind not the one asked"; and "a kind asked for that is not 1 to 3 is 22, place 0, before all else"
-  pub row-22 : (k : ℕ) → MovedGives r 22 k ↔ ((k ≡ 0) × (kindRight kind ≡ false)) ⊎ MetBlock kind bytes k (λ b. After (sumsDiffer b ∷ []) (otherKind b kind))
+  pub row-22 : (k : ℕ) → Answers r 22 k ↔ ((k ≡ 0) × (kindRight kind ≡ false)) ⊎ MetBlock kind bytes k (λ b. After (sumsDiffer b ∷ []) (otherKind b kind))
   -- "23 number not its place or count not that of the blocks there"
-  pub row-23 : (k : ℕ) → MovedGives r 23 k ↔ MetBlock kind bytes k (λ b. After (sumsDiffer b ∷ otherKind b kind ∷ []) (misplaced b k (length bytes / 512)))
+  pub row-23 : (k : ℕ) → Answers r 23 k ↔ MetBlock kind bytes k (λ b. After (sumsDiffer b ∷ otherKind b kind ∷ []) (misplaced b k (length bytes / 512)))
   -- "24 used wrong or a byte not 0 that must be"
-  pub row-24 : (k : ℕ) → MovedGives r 24 k
+  pub row-24 : (k : ℕ) → Answers r 24 k
       ↔ MetBlock kind bytes k (λ b. After (sumsDiffer b ∷ otherKind b kind ∷ misplaced b k (length bytes / 512) ∷ []) (misfilled b k (length bytes / 512)))
   -- "then 25 size unfit for the kind (8,288; a list or items as in 3 and 4)"
-  pub row-25 : (k : ℕ) → MovedGives r 25 k ↔ (k ≡ 0) × Sound kind bytes × (sizeFits kind (length (contentOf bytes)) ≡ false)
+  pub row-25 : (k : ℕ) → Answers r 25 k ↔ (k ≡ 0) × Sound kind bytes × (sizeFits kind (length (contentOf bytes)) ≡ false)
   -- "26 target too short, or for a picture not exactly 8,192 and 96"
-  pub row-26 : (k : ℕ) → MovedGives r 26 k ↔ (k ≡ 0) × Sound kind bytes × (sizeFits kind (length (contentOf bytes)) ≡ true) × (fits ≡ false)
+  pub row-26 : (k : ℕ) → Answers r 26 k ↔ (k ≡ 0) × Sound kind bytes × (sizeFits kind (length (contentOf bytes)) ≡ true) × (fits ≡ false)
   -- "Success gives 0, place 0 and the number of bytes put out; a refusal gives 0 bytes"
   pub row-0 : (r .number ≡ 0) ↔ Sound kind bytes × (sizeFits kind (length (contentOf bytes)) ≡ true) × (fits ≡ true)
   pub done-is : r .number ≡ 0 → r ≡ record { number = 0; place = 0; bytes = length (contentOf bytes) }
@@ -119,11 +119,11 @@ pub record ReadTable (kind : ℕ) (bytes : List ℕ) (fits : Bool) (r : Moved) :
 -- Writing a content of `size` bytes to an output of `room`; `fits` says whether the content has the right size.
 pub record WriteTable (kind : ℕ) (fits : Bool) (size room : ℕ) (r : Moved) : Type 0 where
   -- 22 of the kind asked, "before all else, in reading and writing"
-  pub row-22 : (k : ℕ) → MovedGives r 22 k ↔ (k ≡ 0) × (kindRight kind ≡ false)
+  pub row-22 : (k : ℕ) → Answers r 22 k ↔ (k ≡ 0) × (kindRight kind ≡ false)
   -- "26 content of wrong size"
-  pub row-26 : (k : ℕ) → MovedGives r 26 k ↔ (k ≡ 0) × (kindRight kind ≡ true) × (fits ≡ false)
+  pub row-26 : (k : ℕ) → Answers r 26 k ↔ (k ≡ 0) × (kindRight kind ≡ true) × (fits ≡ false)
   -- "27 output too short"
-  pub row-27 : (k : ℕ) → MovedGives r 27 k ↔ (k ≡ 0) × (kindRight kind ≡ true) × (fits ≡ true) × (room < 512 * blockCount size)
+  pub row-27 : (k : ℕ) → Answers r 27 k ↔ (k ≡ 0) × (kindRight kind ≡ true) × (fits ≡ true) × (room < 512 * blockCount size)
   pub row-0 : (r .number ≡ 0) ↔ (kindRight kind ≡ true) × (fits ≡ true) × (512 * blockCount size ≤ room)
   pub done-is : r .number ≡ 0 → r ≡ record { number = 0; place = 0; bytes = 512 * blockCount size }
   pub refused-is : r .number ≢ 0 → r .bytes ≡ 0
@@ -163,20 +163,20 @@ pub record DemandOne : Type 0 where
       → ListTable 2 a b s n (length list) r × Kept (r .number) list list′
   -- `read_content`, of a list or items
   pub readContent : (kind : ℕ) (bytes target target′ : List ℕ) (r : Moved)
-      → ReadContent-answer kind bytes target r → ReadContent-target bytes target target′ r
+      → ReadContent kind bytes target target′ r
       → ReadTable kind bytes (targetFits kind bytes target) r × Kept (r .number) target target′
   -- `write_content`
   pub writeContent : (kind : ℕ) (content out out′ : List ℕ) (r : Moved)
-      → WriteContent-answer kind content out r → WriteContent-out kind content out out′ r
+      → WriteContent kind content out out′ r
       → WriteTable kind (contentFits kind content) (length content) (length out) r × Kept (r .number) out out′
   -- `read_picture`
   pub readPicture : (kind : ℕ) (bytes memory registers memory′ registers′ : List ℕ) (r : Moved)
-      → ReadPicture-answer kind bytes memory registers r → ReadPicture-memory bytes memory memory′ r → ReadPicture-registers bytes registers registers′ r
+      → ReadPicture kind bytes memory registers memory′ registers′ r
       → ReadTable kind bytes (pictureFits kind (length memory) (length registers)) r
       × Kept (r .number) memory memory′ × Kept (r .number) registers registers′
   -- `write_picture`
   pub writePicture : (kind : ℕ) (memory registers out out′ : List ℕ) (r : Moved)
-      → WritePicture-answer kind memory registers out r → WritePicture-out kind memory registers out out′ r
+      → WritePicture kind memory registers out out′ r
       → WriteTable kind (pictureFits kind (length memory) (length registers)) 8288 (length out) r × Kept (r .number) out out′
   -- ---- the library for C: the numbers in its answer array are those of the same tables, and a refusal leaves every other lent byte as it was
 

@@ -25,8 +25,8 @@ use Rattle.module.specs.Act.{State, partAt, putPart, passedBy, acted}
 use Rattle.module.specs.Run.{begun, ranBy, ran}
 use Rattle.blocks.specs.Sums.{at}
 use Rattle.contents.specs.File.{done as put}
-use Rattle.contents.specs.Content.{over}
-use Rattle.pictures.specs.Entries.{contentAnswer, contentTarget, contentWritten, contentOut, pictureAnswer, pictureMemory, pictureRegisters, pictureWritten, pictureOut}
+use Rattle.contents.specs.Content.{over, contentRead, contentWritten}
+use Rattle.pictures.specs.Picture.{pictureRead, pictureWritten}
 
 -- ---- storage, access, and the unscrambled table
 
@@ -126,20 +126,21 @@ pub record Runs (mem regs list items out : List ℕ) : Type 0 where
 
 -- "Pictures, lists and items come back from disk as they were written", and a file that is read and written again is the same bytes.
 pub record Returns : Type 0 where
-  pub content : (kind : ℕ) (content out target : List ℕ) → contentWritten kind content out .number ≡ 0 → length content ≤ length target
-      → (let file = take (contentWritten kind content out .bytes) (contentOut kind content out) in
-      (contentAnswer kind file target ≡ put (length content)) × (contentTarget kind file target ≡ over content target))
-  pub contentAgain : (kind : ℕ) (bytes target out : List ℕ) → ((k : ℕ) → at bytes k < 256) → contentAnswer kind bytes target .number ≡ 0 → length bytes ≤ length out
-      → (let content = take (contentAnswer kind bytes target .bytes) (contentTarget kind bytes target) in
-      (contentWritten kind content out ≡ put (length bytes)) × (contentOut kind content out ≡ over bytes out))
-  pub picture : (kind : ℕ) (memory registers out memory′ registers′ : List ℕ) → ((k : ℕ) → at memory k < 256) → pictureWritten kind memory registers out .number ≡ 0
-      → length memory′ ≡ 8192 → length registers′ ≡ 96
-      → (let file = take (pictureWritten kind memory registers out .bytes) (pictureOut kind memory registers out) in
-      (pictureAnswer 1 file memory′ registers′ ≡ put 8288) × (pictureMemory 1 file memory′ registers′ ≡ memory) × (pictureRegisters 1 file memory′ registers′ ≡ registers))
-  pub pictureAgain : (kind : ℕ) (bytes memory registers out : List ℕ) → ((k : ℕ) → at bytes k < 256) → pictureAnswer kind bytes memory registers .number ≡ 0 → length bytes ≤ length out
-      → (let memory′ = pictureMemory kind bytes memory registers in
-      let registers′ = pictureRegisters kind bytes memory registers in
-      (pictureWritten 1 memory′ registers′ out ≡ put (length bytes)) × (pictureOut 1 memory′ registers′ out ≡ over bytes out))
+  pub content : (kind : ℕ) (content out target : List ℕ) → contentWritten kind content out .answer .number ≡ 0 → length content ≤ length target
+      → (let w = contentWritten kind content out in
+      contentRead kind (take (w .answer .bytes) (w .buffer)) target ≡ record { answer = put (length content); buffer = over content target })
+  pub contentAgain : (kind : ℕ) (bytes target out : List ℕ) → ((k : ℕ) → at bytes k < 256)
+      → contentRead kind bytes target .answer .number ≡ 0 → length bytes ≤ length out
+      → (let r = contentRead kind bytes target in
+      contentWritten kind (take (r .answer .bytes) (r .buffer)) out ≡ record { answer = put (length bytes); buffer = over bytes out })
+  pub picture : (kind : ℕ) (memory registers out memory′ registers′ : List ℕ) → ((k : ℕ) → at memory k < 256)
+      → pictureWritten kind memory registers out .answer .number ≡ 0 → length memory′ ≡ 8192 → length registers′ ≡ 96
+      → (let w = pictureWritten kind memory registers out in
+      pictureRead 1 (take (w .answer .bytes) (w .buffer)) memory′ registers′ ≡ record { answer = put 8288; memory = memory; registers = registers })
+  pub pictureAgain : (kind : ℕ) (bytes memory registers out : List ℕ) → ((k : ℕ) → at bytes k < 256)
+      → pictureRead kind bytes memory registers .answer .number ≡ 0 → length bytes ≤ length out
+      → (let r = pictureRead kind bytes memory registers in
+      pictureWritten 1 (r .memory) (r .registers) out ≡ record { answer = put (length bytes); buffer = over bytes out })
 
 -- ---- the demand
 

@@ -61,19 +61,20 @@ use Rattle.blocks.proofs.two_at as two_at
 use Rattle.blocks.proofs.fault as block_fault
 use Rattle.blocks.proofs.copy as copy
 use Rattle.blocks.proofs.seal as seal
-use Rattle.contents.specs.declared.Answer.{Answer as Moved}
-use Rattle.contents.proofs.refuse as refuse
-use Rattle.contents.proofs.finish as finish
+use Rattle.contents.specs.Content.{ContentLeft}
+use Rattle.contents.proofs.refused as refused
+use Rattle.contents.proofs.done as done
 use Rattle.contents.proofs.kind_right as kind_right
-use Rattle.contents.proofs.judge as judge_file
+use Rattle.contents.proofs.judge_file as judge_file
 use Rattle.contents.proofs.part_of as part_of
 use Rattle.contents.proofs.put_part as put_part
 use Rattle.contents.proofs.seal_all as seal_all
 use Rattle.contents.proofs.read_content as read_content
 use Rattle.contents.proofs.write_content as write_content
+use Rattle.pictures.specs.Picture.{PictureLeft}
 use Rattle.pictures.proofs.read_picture as read_picture
 use Rattle.pictures.proofs.write_picture as write_picture
-use Rattle.library.specs.Left.{RunLeft, StepLeft, PassLeft, BufferLeft, PictureLeft}
+use Rattle.library.specs.Left.{RunLeft, StepLeft, PassLeft, BufferLeft, TargetsLeft}
 use Rattle.library.proofs.staran_run as staran_run
 use Rattle.library.proofs.staran_step as staran_step
 use Rattle.library.proofs.staran_pass as staran_pass
@@ -124,13 +125,13 @@ module _ {M : Type 1} (𝓤 : URA M) (H : Heap 𝓤) (A : Atoms 𝓤) (memory : 
     -- `builders::difference_list`
     pub differenceList : OneOutcome 𝓤 difference_list.ended (difference_list.clauses 𝓤 H A memory runs) {O = Buffer} (λ κs r e. record { answer = r; list = now (e .1 .1 .1 .1 .0) })
     -- `pictures::read_content`
-    pub readContent : OneOutcome 𝓤 read_content.ended (read_content.clauses 𝓤 H A memory runs) {O = Moved × List ℕ} (λ κs r e. (r, now (e .1 .1 .0)))
+    pub readContent : OneOutcome 𝓤 read_content.ended (read_content.clauses 𝓤 H A memory runs) {O = ContentLeft} (λ κs r e. record { answer = r; buffer = now (e .1 .1 .0) })
     -- `pictures::write_content`
-    pub writeContent : OneOutcome 𝓤 write_content.ended (write_content.clauses 𝓤 H A memory runs) {O = Moved × List ℕ} (λ κs r e. (r, now (e .1 .1 .0)))
+    pub writeContent : OneOutcome 𝓤 write_content.ended (write_content.clauses 𝓤 H A memory runs) {O = ContentLeft} (λ κs r e. record { answer = r; buffer = now (e .1 .1 .0) })
     -- `pictures::read_picture`
-    pub readPicture : OneOutcome 𝓤 read_picture.ended (read_picture.clauses 𝓤 H A memory runs) {O = Moved × List ℕ × List ℕ} (λ κs r e. (r, now (e .1 .1 .0), now (e .1 .1 .1 .0)))
+    pub readPicture : OneOutcome 𝓤 read_picture.ended (read_picture.clauses 𝓤 H A memory runs) {O = PictureLeft} (λ κs r e. record { answer = r; memory = now (e .1 .1 .0); registers = now (e .1 .1 .1 .0) })
     -- `pictures::write_picture`
-    pub writePicture : OneOutcome 𝓤 write_picture.ended (write_picture.clauses 𝓤 H A memory runs) {O = Moved × List ℕ} (λ κs r e. (r, now (e .1 .1 .1 .0)))
+    pub writePicture : OneOutcome 𝓤 write_picture.ended (write_picture.clauses 𝓤 H A memory runs) {O = ContentLeft} (λ κs r e. record { answer = r; buffer = now (e .1 .1 .1 .0) })
 
   -- ---- the library for C
 
@@ -143,7 +144,7 @@ module _ {M : Type 1} (𝓤 : URA M) (H : Heap 𝓤) (A : Atoms 𝓤) (memory : 
     pub differenceList : OneOutcome 𝓤 staran_difference_list.ended (staran_difference_list.clauses 𝓤 H A memory runs) {O = BufferLeft} (λ κs r e. record { buffer = now (e .1 .1 .1 .1 .0); answer = now (e .1 .1 .1 .1 .1 .0) })
     pub readContent : OneOutcome 𝓤 staran_read_content.ended (staran_read_content.clauses 𝓤 H A memory runs) {O = BufferLeft} (λ κs r e. record { buffer = now (e .1 .1 .0); answer = now (e .1 .1 .1 .0) })
     pub writeContent : OneOutcome 𝓤 staran_write_content.ended (staran_write_content.clauses 𝓤 H A memory runs) {O = BufferLeft} (λ κs r e. record { buffer = now (e .1 .1 .0); answer = now (e .1 .1 .1 .0) })
-    pub readPicture : OneOutcome 𝓤 staran_read_picture.ended (staran_read_picture.clauses 𝓤 H A memory runs) {O = PictureLeft} (λ κs r e. record { memory = now (e .1 .1 .0); registers = now (e .1 .1 .1 .0); answer = now (e .1 .1 .1 .1 .0) })
+    pub readPicture : OneOutcome 𝓤 staran_read_picture.ended (staran_read_picture.clauses 𝓤 H A memory runs) {O = TargetsLeft} (λ κs r e. record { memory = now (e .1 .1 .0); registers = now (e .1 .1 .1 .0); answer = now (e .1 .1 .1 .1 .0) })
     pub writePicture : OneOutcome 𝓤 staran_write_picture.ended (staran_write_picture.clauses 𝓤 H A memory runs) {O = BufferLeft} (λ κs r e. record { buffer = now (e .1 .1 .1 .0); answer = now (e .1 .1 .1 .1 .0) })
     pub version : OneOutcome 𝓤 staran_version.ended (staran_version.clauses 𝓤 H A memory runs) {O = ℕ} (λ κs r e. r)
 
@@ -216,10 +217,10 @@ module _ {M : Type 1} (𝓤 : URA M) (H : Heap 𝓤) (A : Atoms 𝓤) (memory : 
 
   -- `contents`
   pub record OfContents : Type 2 where
-    pub refuse : OneOutcome 𝓤 refuse.ended (refuse.clauses 𝓤 H A memory runs) (λ κs r e. r)
-    pub finish : OneOutcome 𝓤 finish.ended (finish.clauses 𝓤 H A memory runs) (λ κs r e. r)
+    pub refused : OneOutcome 𝓤 refused.ended (refused.clauses 𝓤 H A memory runs) (λ κs r e. r)
+    pub done : OneOutcome 𝓤 done.ended (done.clauses 𝓤 H A memory runs) (λ κs r e. r)
     pub kindRight : OneOutcome 𝓤 kind_right.ended (kind_right.clauses 𝓤 H A memory runs) (λ κs r e. r)
-    pub judge : OneOutcome 𝓤 judge_file.ended (judge_file.clauses 𝓤 H A memory runs) (λ κs r e. r)
+    pub judgeFile : OneOutcome 𝓤 judge_file.ended (judge_file.clauses 𝓤 H A memory runs) (λ κs r e. r)
     pub partOf : OneOutcome 𝓤 part_of.ended (part_of.clauses 𝓤 H A memory runs) (λ κs r e. now (e .1 .1 .0))
     pub putPart : OneOutcome 𝓤 put_part.ended (put_part.clauses 𝓤 H A memory runs) (λ κs r e. now (e .1 .1 .0))
     pub sealAll : OneOutcome 𝓤 seal_all.ended (seal_all.clauses 𝓤 H A memory runs) (λ κs r e. now (e .1 .1 .1 .0))

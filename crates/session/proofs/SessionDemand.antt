@@ -12,17 +12,17 @@ use Rattle.pictures.proofs.PictureLaws.{length-picture}
 use Rattle.module.specs.Run.{Left}
 use Rattle.report.proofs.ReportLaws.{report-unique}
 use Rattle.session.specs.declared.Counts.{Counts}
-use Rattle.session.specs.Session.{File, absent, failed, Outcome, contentAnswer, refusal, finished, outcome}
+use Rattle.session.specs.Session.{File, absent, failed, Outcome, contentAnswer, onlyLine, finished, outcome}
 use Rattle.session.specs.Shown.{Shown}
 use Rattle.session.proofs.SessionLaws.{outcome-p, after-none, after-done}
 
 -- ---- absent, and not to be read
 
 -- "An absent before.pic .. refused with 20", whatever the other files are; so is one that cannot be read
-pub absent-picture : (list items : File) → outcome absent list items ≡ refusal 112 (refused 20 0)
+pub absent-picture : (list items : File) → outcome absent list items ≡ onlyLine 112 (refused 20 0)
 absent-picture list items = outcome-p absent list items (refused 20 0) refl (λ z. omega arith)
 
-pub failed-picture : (list items : File) → outcome failed list items ≡ refusal 112 (refused 20 0)
+pub failed-picture : (list items : File) → outcome failed list items ≡ onlyLine 112 (refused 20 0)
 failed-picture list items = outcome-p failed list items (refused 20 0) refl (λ z. omega arith)
 
 -- "An absent run.lst is the empty list and an absent in.itm means no items": both stand, with no bytes

@@ -14,16 +14,16 @@ use Rattle.judge.proofs.RowLaws.{none-numbered, fit-size}
 use Rattle.judge.proofs.Verdicts.{Verdict, wrong-length, wrong-instruction, no-item, no-room, accepted, verdict, verdict-is}
 use Rattle.judge.proofs.Accepted.{accepted-done, room-fits}
 use Rattle.module.specs.Run.{Left, ran}
-use Rattle.contents.specs.declared.Answer as disk
+use Rattle.contents.specs.declared.Moved.{Moved}
 use Rattle.contents.specs.File.{done, kindRight, blockCount, blocksOf}
-use Rattle.contents.specs.Content.{writeAnswer, changed, over}
-use Rattle.pictures.specs.Picture.{pictureOf, scrambled, pictureFits}
-use Rattle.contents.proofs.AnswerLaws.{changed-done, write-done}
+use Rattle.contents.specs.Content.{over, ContentLeft}
+use Rattle.pictures.specs.Picture.{pictureOf, scrambled, pictureFits, pictureWritten}
+use Rattle.contents.proofs.AnswerLaws.{changed-done, left-parts, write-done}
 use Rattle.contents.proofs.RoundTrip.{all-length}
 use Rattle.pictures.proofs.PictureLaws.{length-picture}
 use Rattle.report.specs.Report.{itemLines, printed}
 use Rattle.session.specs.declared.Counts.{Counts}
-use Rattle.session.specs.Session.{File, Outcome, pictureAnswer, contentAnswer, contentIn, refusal, afterOf, finished, outBytes, outcome}
+use Rattle.session.specs.Session.{File, Outcome, pictureAnswer, contentAnswer, contentIn, onlyLine, afterOf, finished, outBytes, outcome}
 use Rattle.session.specs.Shown.{Shown}
 use Rattle.session.specs.Steps.{Small}
 
@@ -78,29 +78,29 @@ unfolding printed itemLines
 line-alone letter number place out = refl
 
 module _ (p l i : File) where
-  pub outcome-p : (a : disk.Answer) → a ≡ pictureAnswer p → (a .number ≡ 0 → ⊥) → outcome p l i ≡ refusal 112 a
+  pub outcome-p : (a : Moved) → a ≡ pictureAnswer p → (a .number ≡ 0 → ⊥) → outcome p l i ≡ onlyLine 112 a
   unfolding outcome
-  outcome-p a e u = rw (sym e) (ap (λ (t : Bool). cond (not t) (refusal 112 a) rest) (ne-eqb (a .number) 0 u))
+  outcome-p a e u = rw (sym e) (ap (λ (t : Bool). cond (not t) (onlyLine 112 a) rest) (ne-eqb (a .number) 0 u))
     where
       rest : Outcome
       rest =
-          cond (not (eqb (contentAnswer 2 l .number) 0)) (refusal 108 (contentAnswer 2 l))
-          (cond (not (eqb (contentAnswer 3 i .number) 0)) (refusal 105 (contentAnswer 3 i))
+          cond (not (eqb (contentAnswer 2 l .number) 0)) (onlyLine 108 (contentAnswer 2 l))
+          (cond (not (eqb (contentAnswer 3 i .number) 0)) (onlyLine 105 (contentAnswer 3 i))
           (finished (ran (scrambled (contentIn p)) (drop 8192 (contentIn p)) (contentIn l) (contentIn i) outBytes)))
 
   module _ (good-p : pictureAnswer p .number ≡ 0) where
-    pub outcome-l : (a : disk.Answer) → a ≡ contentAnswer 2 l → (a .number ≡ 0 → ⊥) → outcome p l i ≡ refusal 108 a
+    pub outcome-l : (a : Moved) → a ≡ contentAnswer 2 l → (a .number ≡ 0 → ⊥) → outcome p l i ≡ onlyLine 108 a
     unfolding outcome
     outcome-l a e u =
-        let n : eqb (contentAnswer 2 l .number) 0 ≡ false = ne-eqb (contentAnswer 2 l .number) 0 (λ z. u (ap (λ (x : disk.Answer). x .number) e ∙ z)) in
-        simp (eq-eqb (pictureAnswer p .number) 0 good-p, n) (ap (refusal 108) (sym e))
+        let n : eqb (contentAnswer 2 l .number) 0 ≡ false = ne-eqb (contentAnswer 2 l .number) 0 (λ z. u (ap (λ (x : Moved). x .number) e ∙ z)) in
+        simp (eq-eqb (pictureAnswer p .number) 0 good-p, n) (ap (onlyLine 108) (sym e))
 
     module _ (good-l : contentAnswer 2 l .number ≡ 0) where
-      pub outcome-i : (a : disk.Answer) → a ≡ contentAnswer 3 i → (a .number ≡ 0 → ⊥) → outcome p l i ≡ refusal 105 a
+      pub outcome-i : (a : Moved) → a ≡ contentAnswer 3 i → (a .number ≡ 0 → ⊥) → outcome p l i ≡ onlyLine 105 a
       unfolding outcome
       outcome-i a e u =
-          let n : eqb (contentAnswer 3 i .number) 0 ≡ false = ne-eqb (contentAnswer 3 i .number) 0 (λ z. u (ap (λ (x : disk.Answer). x .number) e ∙ z)) in
-          simp (eq-eqb (pictureAnswer p .number) 0 good-p, eq-eqb (contentAnswer 2 l .number) 0 good-l, n) (ap (refusal 105) (sym e))
+          let n : eqb (contentAnswer 3 i .number) 0 ≡ false = ne-eqb (contentAnswer 3 i .number) 0 (λ z. u (ap (λ (x : Moved). x .number) e ∙ z)) in
+          simp (eq-eqb (pictureAnswer p .number) 0 good-p, eq-eqb (contentAnswer 2 l .number) 0 good-l, n) (ap (onlyLine 105) (sym e))
 
       pub outcome-r : contentAnswer 3 i .number ≡ 0 → (mem regs list items out : List ℕ) → mem ≡ scrambled (contentIn p) → regs ≡ drop 8192 (contentIn p)
           → list ≡ contentIn l → items ≡ contentIn i → out ≡ outBytes → outcome p l i ≡ finished (ran mem regs list items out)
@@ -112,9 +112,9 @@ module _ (p l i : File) where
 -- ---- what stands in the buffers
 
 -- a refusal leaves after.pic's buffer as it was
-pub refusal-shown : (o : Outcome) (letter : ℕ) (a : disk.Answer) (r : Counts) (old text after : List ℕ) → o ≡ refusal letter a → Shown (refusal letter a) r old text
+pub line-shown : (o : Outcome) (letter : ℕ) (a : Moved) (r : Counts) (old text after : List ℕ) → o ≡ onlyLine letter a → Shown (onlyLine letter a) r old text
     → Shown o r old text × (after ≡ over (o .after) after)
-refusal-shown o letter a r old text after e s = (subst (λ (x : Outcome). Shown x r old text) (sym e) s, sym (ap (λ (x : Outcome). over (x .after) after) e))
+line-shown o letter a r old text after e s = (subst (λ (x : Outcome). Shown x r old text) (sym e) s, sym (ap (λ (x : Outcome). over (x .after) after) e))
 
 -- the same outcome stands there under another name
 pub finished-as : (o o′ : Outcome) (r : Counts) (old text after after′ : List ℕ) → o ≡ o′ → Shown o′ r old text → after′ ≡ over (o′ .after) after
@@ -143,18 +143,19 @@ pub after-done : (number : ℕ) (m g : List ℕ) → number ≡ 0 → afterOf nu
 unfolding afterOf
 after-done number m g z = simp (eq-eqb number 0 z)
 
-pub kept : (number : ℕ) (m g a a′ : List ℕ) (r : disk.Answer) → number ≡ 0 → length m ≡ 8192 → length g ≡ 96 → length a ≡ 8704
-    → r ≡ writeAnswer 1 (pictureFits 1 (length m) (length g)) 8288 (length a) → a′ ≡ changed r (over (blocksOf 1 (pictureOf m g)) a) a
+pub kept : (number : ℕ) (m g a a′ : List ℕ) (r : Moved) → number ≡ 0 → length m ≡ 8192 → length g ≡ 96 → length a ≡ 8704
+    → _≡_ {A = ContentLeft} (record { answer = r; buffer = a′ }) (pictureWritten 1 m g a)
     → (r .bytes ≤ 8704) × (r .bytes ≡ length (afterOf number m g)) × (a′ ≡ over (afterOf number m g) a)
-unfolding kindRight
-kept number m g a a′ r z lm lg la e q =
+unfolding kindRight pictureWritten
+kept number m g a a′ r z lm lg la q =
     let b = blocksOf 1 (pictureOf m g) in
+    let p = left-parts r _ (over b a) a a′ q in
     let f : pictureFits 1 (length m) (length g) ≡ true = ap₂ _&&_ (eq-eqb (length m) 8192 lm) (eq-eqb (length g) 96 lg) in
-    let d : r ≡ done 8704 = e ∙ sym (write-done 1 (pictureFits 1 (length m) (length g)) 8288 (length a) refl f (omega arith)) in
-    let n : r .bytes ≡ 8704 = ap (λ (x : disk.Answer). x .bytes) d in
+    let d : r ≡ done 8704 = p .0 ∙ sym (write-done 1 (pictureFits 1 (length m) (length g)) 8288 (length a) refl f (omega arith)) in
+    let n : r .bytes ≡ 8704 = ap (λ (x : Moved). x .bytes) d in
     let w : length b ≡ 8704 = all-length 1 (pictureOf m g) ∙ ap (λ (k : ℕ). 512 * blockCount k) (length-picture m g lg) in
     let s = sym (after-done number m g z) in (
       omega arith,
       n ∙ sym w ∙ ap length s,
-      q ∙ sym (changed-done r (over b a) a (ap (λ (x : disk.Answer). x .number) d)) ∙ ap (λ (x : List ℕ). over x a) s,
+      p .1 ∙ sym (changed-done r (over b a) a (ap (λ (x : Moved). x .number) d)) ∙ ap (λ (x : List ℕ). over x a) s,
     )

@@ -1,5 +1,5 @@
 // All of the program but the system's calls: what it prints and writes, from what was found of its three files. Document 01, The program.
-use contents::Answer;
+use contents::Moved;
 ghost use mathlib.Core.Path.{_≡_};
 ghost use mathlib.Core.List.{_++_};
 ghost use Prim.Native.Nat.{_<_, _≤_};
@@ -9,7 +9,7 @@ ghost use Rattle.pictures.specs.Picture.{scrambled};
 ghost use Rattle.contents.specs.Content.{changed, over};
 ghost use Rattle.module.specs.Run.{ran};
 ghost use Rattle.report.specs.Report.{printed};
-ghost use Rattle.session.specs.Session.{fileOf, pictureAnswer, contentAnswer, contentIn, refusal, afterOf, finished, outBytes, outcome};
+ghost use Rattle.session.specs.Session.{fileOf, pictureAnswer, contentAnswer, contentIn, onlyLine, afterOf, finished, outBytes, outcome};
 ghost use Rattle.session.specs.Shown.{Shown};
 ghost use Rattle.session.specs.Steps.{Small};
 
@@ -44,10 +44,10 @@ fn front(buffer: &[u8], n: usize) -> &[u8]
 }
 
 // "20": a file that is absent, cannot be read or is too long.
-fn refused() -> Answer
+fn unread() -> Moved
     ensures { λ r. ⌜ r ≡ refused 20 0 ⌝ }
 {
-    Answer {
+    Moved {
         number: 20,
         place: 0,
         bytes: 0,
@@ -55,19 +55,19 @@ fn refused() -> Answer
 }
 
 // before.pic, read into memory and registers.
-fn take_picture(found: Found, buffer: &[u8], memory: &mut [u8], registers: &mut [u8]) -> Answer
+fn take_picture(found: Found, buffer: &[u8], memory: &mut [u8], registers: &mut [u8]) -> Moved
     requires { ⌜ (length (now memory) ≡ 8192) × (length (now registers) ≡ 96) ⌝ }
     ensures answer { λ r. ⌜ r ≡ pictureAnswer (fileOf found (now (buffer .entry))) ⌝ }
     ensures memory { λ r. ⌜ now (memory .exit) ≡ changed r (scrambled (contentIn (fileOf found (now (buffer .entry))))) (now (memory .entry)) ⌝ }
     ensures registers { λ r. ⌜ now (registers .exit) ≡ changed r (drop 8192 (contentIn (fileOf found (now (buffer .entry))))) (now (registers .entry)) ⌝ }
 {
     match found {
-        Found::Absent => refused(),
-        Found::Failed => refused(),
+        Found::Absent => unread(),
+        Found::Failed => unread(),
         Found::Bytes(n) => {
             let bytes = front(buffer, n);
             if bytes.len() > 8704 {
-                return refused();
+                return unread();
             }
             pictures::read_picture(1, bytes, memory, registers)
         }
@@ -75,22 +75,22 @@ fn take_picture(found: Found, buffer: &[u8], memory: &mut [u8], registers: &mut 
 }
 
 // run.lst or in.itm, read into its buffer.
-fn take_content(found: Found, kind: usize, buffer: &[u8], target: &mut [u8]) -> Answer
+fn take_content(found: Found, kind: usize, buffer: &[u8], target: &mut [u8]) -> Moved
     requires { ⌜ (1 < kind) × (length (now target) ≡ 8192) ⌝ }
     ensures answer { λ r. ⌜ r ≡ contentAnswer kind (fileOf found (now (buffer .entry))) ⌝ }
     ensures target { λ r. ⌜ (r .number ≡ 0 → (r .bytes ≤ length (now (target .exit))) × (take (r .bytes) (now (target .exit)) ≡ contentIn (fileOf found (now (buffer .entry))))) ⌝ }
 {
     match found {
-        Found::Absent => Answer {
+        Found::Absent => Moved {
             number: 0,
             place: 0,
             bytes: 0,
         },
-        Found::Failed => refused(),
+        Found::Failed => unread(),
         Found::Bytes(n) => {
             let bytes = front(buffer, n);
             if bytes.len() > 8192 {
-                return refused();
+                return unread();
             }
             contents::read_content(kind, bytes, target)
         }
@@ -98,9 +98,9 @@ fn take_content(found: Found, kind: usize, buffer: &[u8], target: &mut [u8]) -> 
 }
 
 // The line of a refused file.
-fn refuse(letter: u8, a: Answer, text: &mut [u8]) -> Counts
+fn print_line(letter: u8, a: Moved, text: &mut [u8]) -> Counts
     requires { ⌜ (a .place ≤ 17) × (57 ≤ length (now text)) ⌝ }
-    ensures { λ r. ⌜ Shown (refusal letter a) r (now (text .entry)) (now (text .exit)) ⌝ }
+    ensures { λ r. ⌜ Shown (onlyLine letter a) r (now (text .entry)) (now (text .exit)) ⌝ }
 {
     let none = [0u8; 1];
     let n = report::report(
@@ -186,17 +186,17 @@ pub fn session(
     let mut registers = [0u8; 96];
     let read_p = take_picture(p, picture, &mut memory, &mut registers);
     if read_p.number != 0 {
-        return refuse(b'p', read_p, text);
+        return print_line(b'p', read_p, text);
     }
     let mut instructions = blank();
     let read_l = take_content(l, 2, list, &mut instructions);
     if read_l.number != 0 {
-        return refuse(b'l', read_l, text);
+        return print_line(b'l', read_l, text);
     }
     let mut lent = blank();
     let read_i = take_content(i, 3, items, &mut lent);
     if read_i.number != 0 {
-        return refuse(b'i', read_i, text);
+        return print_line(b'i', read_i, text);
     }
     let n = read_l.bytes;
     let m = read_i.bytes;

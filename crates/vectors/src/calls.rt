@@ -166,7 +166,7 @@ fn call_both(
 }
 
 // What an entry of the disk answered.
-fn of_disk(r: contents::Answer) -> Five {
+fn of_disk(r: contents::Moved) -> Five {
     Five {
         a: r.number as u32,
         b: narrow(r.place),

@@ -5,12 +5,12 @@ use mathlib.Core.List.{List}
 use Prim.Native.Nat.{ℕ, _/_, _<_}
 use lib.ListN.{length}
 use Rattle.blocks.specs.Block.{fault}
-use Rattle.contents.specs.declared.Answer.{Answer}
+use Rattle.contents.specs.declared.Moved.{Moved}
 use Rattle.contents.specs.File.{blockAt, kindRight, lengthRight}
 
 -- Number n, at place k.
-abbrev pub Gives : Answer → ℕ → ℕ → Type 0
-Gives a n k = (a .number ≡ n) × (a .place ≡ k)
+abbrev pub Answers : Moved → ℕ → ℕ → Type 0
+Answers a n k = (a .number ≡ n) × (a .place ≡ k)
 
 -- The kind asked and the length are right.
 abbrev pub Asked : ℕ → List ℕ → Type 0
@@ -21,8 +21,8 @@ abbrev pub GoodBelow : ℕ → List ℕ → ℕ → ℕ → Type 0
 GoodBelow kind bytes count n = (j : ℕ) → j < n → fault (blockAt bytes j) kind j count ≡ 0
 
 -- The kind and the length are right, block k is there, those before it are good at their places, and the row holds of it.
-abbrev pub Met : ℕ → List ℕ → ℕ → (List ℕ → Type 0) → Type 0
-Met kind bytes k row = Asked kind bytes × (k < length bytes / 512) × GoodBelow kind bytes (length bytes / 512) k × row (blockAt bytes k)
+abbrev pub MetBlock : ℕ → List ℕ → ℕ → (List ℕ → Type 0) → Type 0
+MetBlock kind bytes k row = Asked kind bytes × (k < length bytes / 512) × GoodBelow kind bytes (length bytes / 512) k × row (blockAt bytes k)
 
 -- The kind and the length are right, and every block is good at its place.
 abbrev pub Sound : ℕ → List ℕ → Type 0

@@ -1,4 +1,4 @@
--- `refuse`: the line, which says nothing of an out buffer.
+-- `print_line`: the line, which says nothing of an out buffer.
 use mathlib.Core.Path.{refl, ap, _∙_}
 use mathlib.Core.List.{List, _++_}
 use Prim.Native.Nat.{ℕ}
@@ -7,8 +7,8 @@ use denote.Ref.{now}
 use lib.ListN.{length, drop}
 use Rattle.session.proofs.SessionLaws.{line-alone}
 use borrow.Author.Needs.{needs}
-use Rattle.session.proofs.refuse.Statement.{statement}
-use Rattle.session.proofs.refuse.Tie as tie
+use Rattle.session.proofs.print_line.Statement.{statement}
+use Rattle.session.proofs.print_line.Tie as tie
 
 cast-report : tie.Need-cast-report
 cast-report c = search needs
@@ -38,7 +38,7 @@ returns c =
       most = omega arith;
     }
 
-pub refuse-spec : {M : Type 1} → statement M
-refuse-spec =
+pub print-line-spec : {M : Type 1} → statement M
+print-line-spec =
     tie.close
     (tie.spec cast-report cast-report-2 slice-aggregate-report report-requires same-length returns)

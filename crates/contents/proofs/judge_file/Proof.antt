@@ -1,4 +1,4 @@
--- `judge`: the blocks so far are good and their content has the size so far; each return is a law of what a test settles.
+-- `judge_file`: the blocks so far are good and their content has the size so far; each return is a law of what a test settles.
 use mathlib.Core.Bool.{cond, Bool, true}
 use mathlib.Core.List.{List}
 use mathlib.Core.Path.{_≡_, refl, sym, ap, _∙_}
@@ -10,13 +10,13 @@ use borrow.Author.Tests.{not-true, not-false}
 use denote.Ref.{now}
 use Rattle.blocks.specs.Block.{twoAt, fault}
 use Rattle.blocks.proofs.BlockLaws.{fault-good, used-le}
-use Rattle.contents.specs.File.{judge, sizeFits, done, refused, blockAt, judged, good, gathered, kindRight, lengthRight}
-use Rattle.contents.proofs.FileLaws.{judge-22, judge-20, judge-bad, judge-good, judged-good, gathered-more, block-part, block-len}
-use Rattle.contents.proofs.judge.Statement.{statement}
-use Rattle.contents.proofs.judge.Tie as tie
+use Rattle.contents.specs.File.{fileJudged, sizeFits, done, refused, blockAt, blocksJudged, good, gathered, kindRight, lengthRight}
+use Rattle.contents.proofs.FileLaws.{file-22, file-20, file-bad, file-good, blocks-good, gathered-more, block-part, block-len}
+use Rattle.contents.proofs.judge_file.Statement.{statement}
+use Rattle.contents.proofs.judge_file.Tie as tie
 
 abbrev Inv-loop : tie.InvT-loop
-Inv-loop kind bytes len count size₀ i₀ size i = (i ≤ count) × (judged kind bytes count i ≡ good) × (size ≡ length (gathered bytes i)) × (size ≤ 496 * i)
+Inv-loop kind bytes len count size₀ i₀ size i = (i ≤ count) × (blocksJudged kind bytes count i ≡ good) × (size ≡ length (gathered bytes i)) × (size ≤ 496 * i)
 
 abbrev μ-loop : tie.MeasureT-loop
 μ-loop kind bytes len count size₀ i₀ size i = count - i
@@ -55,38 +55,38 @@ word-is c =
 
 -- all blocks are good
 settled : (c : tie.After-loop Inv-loop μ-loop)
-    → (let a = c .before .before .before .before .before .before .before .args in judge (a .kind) (now (a .bytes)) ≡ cond (sizeFits (a .kind) (c .before .loop .size)) (done (c .before .loop .size)) (refused 25 0))
+    → (let a = c .before .before .before .before .before .before .before .args in fileJudged (a .kind) (now (a .bytes)) ≡ cond (sizeFits (a .kind) (c .before .loop .size)) (done (c .before .loop .size)) (refused 25 0))
 settled c =
     let a = c .before .before .before .before .before .before .before .args in
     let b = now (a .bytes) in
     let l = c .before .loop in
     let e : l .i ≡ length b / 512 = omega arith in
-    judge-good (a .kind) b (kind-ok (c .before .before .before .before)) (len-ok (c .before .before)) (l .size) (sym (ap (judged (a .kind) b (length b / 512)) e) ∙ l .inv .1) (l .inv .2 ∙ ap (λ (k : ℕ). length (gathered b k)) e)
+    file-good (a .kind) b (kind-ok (c .before .before .before .before)) (len-ok (c .before .before)) (l .size) (sym (ap (blocksJudged (a .kind) b (length b / 512)) e) ∙ l .inv .1) (l .inv .2 ∙ ap (λ (k : ℕ). length (gathered b k)) e)
 
 kind-right-requires : tie.Need-kind-right-requires Inv-loop μ-loop
 kind-right-requires c κs = search needs
 
-refuse-requires : tie.Need-refuse-requires Inv-loop μ-loop
-refuse-requires c κs = search needs
+refused-requires : tie.Need-refused-requires Inv-loop μ-loop
+refused-requires c κs = search needs
 
 returns : tie.Need-returns Inv-loop μ-loop
 returns c =
     let a = c .before .before .before .before .args in
-    c .refuse .ensures ∙ judge-22 (a .kind) (now (a .bytes)) (sym (c .before .before .kind-right .ensures) ∙ not-true _ (c .before .if1 .taken))
+    c .refused .ensures ∙ file-22 (a .kind) (now (a .bytes)) (sym (c .before .before .kind-right .ensures) ∙ not-true _ (c .before .if1 .taken))
 
 length-right-requires : tie.Need-length-right-requires Inv-loop μ-loop
 length-right-requires c κs = search needs
 
-refuse-requires-2 : tie.Need-refuse-requires-2 Inv-loop μ-loop
-refuse-requires-2 c κs = search needs
+refused-requires-2 : tie.Need-refused-requires-2 Inv-loop μ-loop
+refused-requires-2 c κs = search needs
 
 returns-2 : tie.Need-returns-2 Inv-loop μ-loop
 returns-2 c =
     let a = c .before .before .before .before .before .before .args in
-    c .refuse2 .ensures ∙ judge-20 (a .kind) (now (a .bytes)) (kind-ok (c .before .before .before)) (sym (c .before .before .length-right .ensures) ∙ not-true _ (c .before .if2 .taken))
+    c .refused2 .ensures ∙ file-20 (a .kind) (now (a .bytes)) (kind-ok (c .before .before .before)) (sym (c .before .before .length-right .ensures) ∙ not-true _ (c .before .if2 .taken))
 
 loop-holds : tie.Need-loop-holds Inv-loop μ-loop
-unfolding judged gathered
+unfolding blocksJudged gathered
 loop-holds c = (omega arith, refl, refl, omega arith)
 
 mul-fault : tie.Need-mul-fault Inv-loop μ-loop
@@ -112,13 +112,13 @@ fault-requires c κs =
     let b = now (c .before .before .before .before .before .before .before .before .args .bytes) in
     (ap length (block-part b (c .before .before .loop .i)) ∙ block-len b (c .before .before .loop .i) (inside (c .before)), omega arith)
 
-refuse-requires-3 : tie.Need-refuse-requires-3 Inv-loop μ-loop
-refuse-requires-3 c κs = search needs
+refused-requires-3 : tie.Need-refused-requires-3 Inv-loop μ-loop
+refused-requires-3 c κs = search needs
 
 returns-3 : tie.Need-returns-3 Inv-loop μ-loop
 returns-3 c =
     let a = c .before .before .before .before .before .before .before .before .before .before .before .args in
-    c .refuse3 .ensures ∙ judge-bad (a .kind) (now (a .bytes)) (kind-ok (c .before .before .before .before .before .before .before .before)) (len-ok (c .before .before .before .before .before .before)) (c .before .before .before .before .before .loop .i) _ (omega arith) (c .before .before .before .before .before .loop .inv .1) (found-is (c .before .before)) (c .before .if3 .taken)
+    c .refused3 .ensures ∙ file-bad (a .kind) (now (a .bytes)) (kind-ok (c .before .before .before .before .before .before .before .before)) (len-ok (c .before .before .before .before .before .before)) (c .before .before .before .before .before .loop .i) _ (omega arith) (c .before .before .before .before .before .loop .inv .1) (found-is (c .before .before)) (c .before .if3 .taken)
 
 mul-two-at : tie.Need-mul-two-at Inv-loop μ-loop
 mul-two-at c = omega arith
@@ -161,7 +161,7 @@ loop-again c =
     let u = used-ok (c .before .before) in
     let h : 512 * l .i + 512 ≤ length b = inside (c .before .before .before .before .before) in (
       omega arith,
-      judged-good (a .kind) b (length b / 512) (l .i) (l .inv .1) (found-is (c .before .before .before) ∙ c .before .before .if3 .left),
+      blocks-good (a .kind) b (length b / 512) (l .i) (l .inv .1) (found-is (c .before .before .before) ∙ c .before .before .if3 .left),
       omega (arith, gathered-more b (l .i) h u),
       omega arith,
     )
@@ -169,33 +169,33 @@ loop-again c =
 size-fits-requires : tie.Need-size-fits-requires Inv-loop μ-loop
 size-fits-requires c κs = search needs
 
-finish-requires : tie.Need-finish-requires Inv-loop μ-loop
-finish-requires c κs = search needs
+done-requires : tie.Need-done-requires Inv-loop μ-loop
+done-requires c κs = search needs
 
 returns-4 : tie.Need-returns-4 Inv-loop μ-loop
 returns-4 c =
     let s = c .before .before .before .before .loop .size in
-    c .finish .ensures ∙ sym (settled (c .before .before .before) ∙ ap (λ (t : Bool). cond t (done s) (refused 25 0)) (sym (c .before .before .size-fits .ensures) ∙ c .before .if4 .taken))
+    c .done .ensures ∙ sym (settled (c .before .before .before) ∙ ap (λ (t : Bool). cond t (done s) (refused 25 0)) (sym (c .before .before .size-fits .ensures) ∙ c .before .if4 .taken))
 
-refuse-requires-4 : tie.Need-refuse-requires-4 Inv-loop μ-loop
-refuse-requires-4 c κs = search needs
+refused-requires-4 : tie.Need-refused-requires-4 Inv-loop μ-loop
+refused-requires-4 c κs = search needs
 
 returns-5 : tie.Need-returns-5 Inv-loop μ-loop
 returns-5 c =
     let s = c .before .before .before .before .loop .size in
-    c .refuse4 .ensures ∙ sym (settled (c .before .before .before) ∙ ap (λ (t : Bool). cond t (done s) (refused 25 0)) (sym (c .before .before .size-fits .ensures) ∙ c .before .if4 .left))
+    c .refused4 .ensures ∙ sym (settled (c .before .before .before) ∙ ap (λ (t : Bool). cond t (done s) (refused 25 0)) (sym (c .before .before .size-fits .ensures) ∙ c .before .if4 .left))
 
-pub judge-spec : {M : Type 1} → statement M
-judge-spec =
+pub judge-file-spec : {M : Type 1} → statement M
+judge-file-spec =
     tie.close
     (tie.spec
     Inv-loop
     μ-loop
     kind-right-requires
-    refuse-requires
+    refused-requires
     returns
     length-right-requires
-    refuse-requires-2
+    refused-requires-2
     returns-2
     loop-holds
     mul-fault
@@ -205,7 +205,7 @@ judge-spec =
     part-fault-start
     part-fault-end
     fault-requires
-    refuse-requires-3
+    refused-requires-3
     returns-3
     mul-two-at
     mul-two-at-2
@@ -219,7 +219,7 @@ judge-spec =
     loop-less
     loop-again
     size-fits-requires
-    finish-requires
+    done-requires
     returns-4
-    refuse-requires-4
+    refused-requires-4
     returns-5)
