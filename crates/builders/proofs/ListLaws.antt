@@ -8,7 +8,7 @@ use lib.Seq.{getD-append-add}
 use Rattle.judge.specs.declared.Instruction.{Instruction}
 use Rattle.judge.specs.Judge.{instructionAt}
 use Rattle.builders.specs.Lists.{instruction, bytesOf, encoded, rounds, decoded}
-use Rattle.builders.specs.Fields.{bitRound, bitRounds, sumByte, differenceByte, sumList, differenceList, listLength}
+use Rattle.builders.specs.Sums.{bitRound, bitRounds, sumByte, differenceByte, sumList, differenceList, listLength}
 
 pub length-encoded : (l : List Instruction) → length (encoded l) ≡ 8 * length l
 unfolding encoded

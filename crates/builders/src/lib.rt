@@ -5,7 +5,7 @@ mod writing;
 use judge::rows::number_or;
 ghost use mathlib.Core.Path.{_≡_};
 ghost use Prim.Native.Nat.{_<_};
-ghost use Rattle.builders.specs.Fields.{beyond, crosses, listLength, fieldsFault, sumBuilt, differenceBuilt};
+ghost use Rattle.builders.specs.Sums.{beyond, crosses, listLength, fieldsFault, sumBuilt, differenceBuilt};
 
 // What a builder gives back: 0 and the count of the bytes written, or the number of a refusal and 0.
 pub struct Built {

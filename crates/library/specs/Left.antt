@@ -6,7 +6,8 @@ use Rattle.network.specs.Answer.{answer}
 use Rattle.registers.specs.declared.Registers.{Registers}
 use Rattle.judge.specs.declared.Answer.{Answer as Verdict}
 use Rattle.module.specs.Run.{ran, stepped}
-use Rattle.builders.specs.Fields.{Left as Built, sumBuilt, differenceBuilt}
+use Rattle.builders.specs.Sums.{sumBuilt, differenceBuilt}
+use Rattle.builders.specs.Building.{BuiltLeft as Built}
 use Rattle.contents.specs.declared.Answer.{Answer}
 use Rattle.contents.specs.File.{contentOf, blocksOf}
 use Rattle.contents.specs.Content.{readAnswer, writeAnswer, changed, over, targetFits, contentFits}

@@ -1,5 +1,5 @@
 -- `builders::fields_fault`: the rows' contracts put together. Assumes nothing.
-use Rattle.builders.specs.Fields.{fieldsFault}
+use Rattle.builders.specs.Sums.{fieldsFault}
 use borrow.Author.Needs.{needs}
 use Rattle.builders.proofs.fields_fault.Statement.{statement}
 use Rattle.builders.proofs.fields_fault.Tie as tie
