@@ -13,6 +13,13 @@ pub struct Built {
     pub count: usize,
 }
 
+// What a builder of a list with its items gives back: 0 and the counts of the bytes written to each, or the number of a refusal and zeros.
+pub struct BuiltTwo {
+    pub number: u8,
+    pub list: usize,
+    pub items: usize,
+}
+
 // Does a field that starts at `a` end beyond bit 255? Added as 64-bit numbers, so that nothing wraps round.
 fn beyond(a: u32, n: u32) -> bool
     ensures { λ r. ⌜ r ≡ beyond a n ⌝ }
