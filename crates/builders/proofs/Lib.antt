@@ -5,6 +5,7 @@ pub mod Refusals
 pub mod TwoLaws
 pub mod Bounds
 pub mod Folds
+pub mod Takes
 pub mod Carries
 pub mod Adder
 pub mod Examples

@@ -1,7 +1,7 @@
 -- The one-word machine: word P of the array with line P's bits of M, X and Y. Where every access has mode 0 and nothing is flipped or shifted, line P of a run is a run of this machine (crate fields, proofs/LineLaws.antt).
 use mathlib.Core.Bool.{cond, _&&_, _||_}
 use mathlib.Core.List.{List, [], _∷_}
-use Prim.Native.Nat.{ℕ, zero, suc}
+use Prim.Native.Nat.{ℕ, zero, suc, _+_}
 use lib.Dec.{eqb}
 use Rattle.registers.specs.Logic.{newX, newY}
 use Rattle.judge.specs.declared.Instruction.{Instruction}
@@ -49,6 +49,16 @@ folded f (i ∷ l) s = folded f l (f i s)
 
 abbrev pub ranWord : List Instruction → (ℕ → ℕ) → Word → Word
 ranWord l o v = folded (λ i. actedWord i o) l v
+
+-- How many instructions of a list take an item.
+unfoldable pub takenBy : List Instruction → ℕ
+takenBy [] = 0
+takenBy (i ∷ l) = cond (takes i) 1 0 + takenBy l
+
+-- A list on its items, for any machine whose step is handed the next one: o k, where k were taken before.
+unfoldable pub foldedOn : {S O : Type 0} → (Instruction → O → S → S) → (ℕ → O) → List Instruction → ℕ → S → S
+foldedOn f o [] k s = s
+foldedOn f o (i ∷ l) k s = foldedOn f o l (k + cond (takes i) 1 0) (f i (o k) s)
 
 -- Each instruction of a list has P.
 pub data Each (P : Instruction → Type 0) : List Instruction → Type 0 where
