@@ -10,7 +10,8 @@ use borrow.Author.Tests.{eqb-true}
 use Rattle.judge.proofs.RowLaws.{numbered-high}
 use Rattle.builders.specs.declared.Built.{Built}
 use Rattle.builders.specs.Lists.{encoded}
-use Rattle.builders.specs.Fields.{sumList, differenceList, listLength, fieldRows, fieldsFault, Left, builtWith, sumBuilt, differenceBuilt}
+use Rattle.builders.specs.Sums.{sumList, differenceList, listLength, fieldRows, fieldsFault, sumBuilt, differenceBuilt}
+use Rattle.builders.specs.Building.{BuiltLeft, builtWith}
 use Rattle.builders.proofs.ListLaws.{sum-length, difference-length}
 use Rattle.builders.proofs.Refusals.{sound}
 
@@ -32,7 +33,7 @@ built-bounds lead a b s n bytes buffer two size = go (eqb f 0) refl
     f = fieldsFault lead a b s n (length buffer)
 
     go : (t : Bool) → eqb f 0 ≡ t
-        → Bounded (cond {A = Left} t (record { answer = record { number = 0; count = length bytes }; list = bytes ++ drop (length bytes) buffer })
+        → Bounded (cond {A = BuiltLeft} t (record { answer = record { number = 0; count = length bytes }; list = bytes ++ drop (length bytes) buffer })
         (record { answer = record { number = f; count = 0 }; list = buffer }) .answer)
     go true e =
         let w = sound lead a b s n (length buffer) f refl (eqb-true f 0 e) .0 .width in

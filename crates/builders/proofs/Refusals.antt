@@ -12,13 +12,14 @@ use borrow.Author.Tests.{eqb-true, eq-eqb, ne-eqb, ltb-false, lt-ltb, le-ltb}
 use Rattle.bits.specs.Steps.{putAt}
 use Rattle.bits.proofs.Puts.{put-front}
 use Rattle.judge.proofs.RowLaws.{FirstRow, none-numbered, numbered-none, numbered-first, first-numbered, or-none}
-use Rattle.builders.specs.Fields.{beyond, crosses, Clear, Fields, listLength, fieldRows, fieldsFault, Left, builtWith}
+use Rattle.builders.specs.Sums.{beyond, crosses, Clear, Fields, listLength, fieldRows, fieldsFault}
+use Rattle.builders.specs.Building.{BuiltLeft, builtWith}
 
 -- ---- the table: number 30 + j is given exactly if row j holds and none before it
 
-pub refused : (lead a b s n have j : ℕ) → j < 4 → (fieldsFault lead a b s n have ≡ 30 + j) ↔ FirstRow (fieldRows lead a b s n have) j
+pub fault-row : (lead a b s n have j : ℕ) → j < 4 → (fieldsFault lead a b s n have ≡ 30 + j) ↔ FirstRow (fieldRows lead a b s n have) j
 unfolding fieldsFault
-refused lead a b s n have j h = (
+fault-row lead a b s n have j h = (
   first-numbered 29 j (fieldRows lead a b s n have) h,
   numbered-first 30 j (fieldRows lead a b s n have),
 )
@@ -100,20 +101,20 @@ pub built-number : (fault : ℕ) (bytes buffer : List ℕ) → builtWith fault b
 built-number fault bytes buffer = go (eqb fault 0) refl
   where
     go : (t : Bool) → eqb fault 0 ≡ t
-        → cond {A = Left} t (record { answer = record { number = 0; count = length bytes }; list = bytes ++ drop (length bytes) buffer })
+        → cond {A = BuiltLeft} t (record { answer = record { number = 0; count = length bytes }; list = bytes ++ drop (length bytes) buffer })
         (record { answer = record { number = fault; count = 0 }; list = buffer }) .answer .number ≡ fault
     go true e = sym (eqb-true fault 0 e)
     go false e = refl
 
 module _ (lead a b s n : ℕ) (bytes buffer : List ℕ) (number : ℕ) (e : number ≡ fieldsFault lead a b s n (length buffer)) where
   pub built-refused : (number ≡ 0 → ⊥)
-      → _≡_ {A = Left} (record { answer = record { number = number; count = 0 }; list = buffer }) (builtWith (fieldsFault lead a b s n (length buffer)) bytes buffer)
+      → _≡_ {A = BuiltLeft} (record { answer = record { number = number; count = 0 }; list = buffer }) (builtWith (fieldsFault lead a b s n (length buffer)) bytes buffer)
   built-refused h =
       ap (λ (x : ℕ). record { answer = record { number = x; count = 0 }; list = buffer }) e
       ∙ sym (simp (ne-eqb (fieldsFault lead a b s n (length buffer)) 0 (λ z. h (e ∙ z))))
 
   pub built-done : (count : ℕ) (l : List ℕ) → number ≡ 0 → length bytes ≡ listLength lead n → count ≡ listLength lead n → l ≡ putAt 0 bytes buffer
-      → _≡_ {A = Left} (record { answer = record { number = 0; count = count }; list = l }) (builtWith (fieldsFault lead a b s n (length buffer)) bytes buffer)
+      → _≡_ {A = BuiltLeft} (record { answer = record { number = 0; count = count }; list = l }) (builtWith (fieldsFault lead a b s n (length buffer)) bytes buffer)
   built-done count l z h c p =
       ap₂ (λ (x : ℕ) (y : List ℕ). record { answer = record { number = 0; count = x }; list = y }) (c ∙ sym h) (p ∙ put-front bytes buffer)
       ∙ sym (simp (eq-eqb (fieldsFault lead a b s n (length buffer)) 0 (sym e ∙ z)))
@@ -126,7 +127,7 @@ module _ (lead a b s n : ℕ) (bytes buffer : List ℕ) where
 
   pub built-row : (j : ℕ) → j < 4 → (builtWith fault bytes buffer .answer .number ≡ 30 + j) ↔ FirstRow (fieldRows lead a b s n (length buffer)) j
   built-row j h =
-      subst (λ (x : ℕ). (x ≡ 30 + j) ↔ FirstRow (fieldRows lead a b s n (length buffer)) j) (sym (built-number fault bytes buffer)) (refused lead a b s n (length buffer) j h)
+      subst (λ (x : ℕ). (x ≡ 30 + j) ↔ FirstRow (fieldRows lead a b s n (length buffer)) j) (sym (built-number fault bytes buffer)) (fault-row lead a b s n (length buffer) j h)
 
   pub built-0 : (builtWith fault bytes buffer .answer .number ≡ 0) ↔ Fields a b s n × (listLength lead n ≤ length buffer)
   built-0 = (

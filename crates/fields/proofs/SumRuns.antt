@@ -13,7 +13,8 @@ use Rattle.judge.specs.Judge.{unfit}
 use Rattle.module.specs.Run.{ran}
 use Rattle.builders.specs.declared.Built.{Built}
 use Rattle.builders.specs.Lists.{encoded}
-use Rattle.builders.specs.Fields.{sumByte, differenceByte, sumList, differenceList, Fields, Apart, listLength, fieldsFault, sumBuilt, differenceBuilt, builtWith}
+use Rattle.builders.specs.Sums.{sumByte, differenceByte, sumList, differenceList, Fields, Apart, listLength, fieldsFault, sumBuilt, differenceBuilt}
+use Rattle.builders.specs.Building.{builtWith}
 use Rattle.builders.proofs.ListLaws.{length-bits, sum-length, difference-length}
 use Rattle.builders.proofs.Refusals.{no-fault}
 use Rattle.fields.specs.Line.{outsideAt}

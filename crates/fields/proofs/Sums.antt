@@ -21,7 +21,8 @@ use Rattle.module.specs.Act.{State, acted}
 use Rattle.module.specs.Run.{begun, Left, ran}
 use Rattle.module.proofs.PartLaws.{registers-bytes}
 use Rattle.builders.specs.Lists.{logicFrom, logicAt, storeAt, encoded}
-use Rattle.builders.specs.Fields.{bitRound, bitRounds, sumByte, differenceByte, carryByte, moveByte, sumList, differenceList, Fields, builtWith}
+use Rattle.builders.specs.Sums.{bitRound, bitRounds, sumByte, differenceByte, carryByte, moveByte, sumList, differenceList, Fields}
+use Rattle.builders.specs.Building.{builtWith}
 use Rattle.builders.specs.Word.{Word, folded, ranWord, Each, none, more}
 use Rattle.fields.specs.Line.{wordOf, outsideAt, At, Local}
 use Rattle.fields.specs.Value.{wordBit, value, listOf, Bytes, Put}

@@ -9,7 +9,8 @@ use Rattle.memory.specs.Table.{table}
 use Rattle.memory.specs.Memory.{cell}
 use Rattle.registers.specs.Rows.{registersOf}
 use Rattle.module.specs.Run.{Left, ran}
-use Rattle.builders.specs.Fields.{sumBuilt, differenceBuilt, Left as Buffer}
+use Rattle.builders.specs.Sums.{sumBuilt, differenceBuilt}
+use Rattle.builders.specs.Building.{BuiltLeft}
 
 -- Bit b of word w of the lent memory.
 abbrev pub wordBit : List ℕ → ℕ → ℕ → ℕ
@@ -20,7 +21,7 @@ abbrev pub value : List ℕ → ℕ → ℕ → ℕ → ℕ
 value mem w start n = digitsOf (λ j. wordBit mem w (start + j)) n
 
 -- The list that a builder wrote: as many of the first bytes of its buffer as it counted.
-abbrev pub listOf : Buffer → List ℕ
+abbrev pub listOf : BuiltLeft → List ℕ
 listOf l = take (l .answer .count) (l .list)
 
 -- A list of n bytes.

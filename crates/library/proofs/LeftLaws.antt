@@ -14,7 +14,8 @@ use Rattle.module.specs.Run.{Lent, Left, runLengths, stepLengths, ran, stepped}
 use Rattle.module.proofs.RunLaws.{ran-answer}
 use Rattle.module.proofs.StepLaws.{stepped-answer}
 use Rattle.builders.specs.declared.Built.{Built}
-use Rattle.builders.specs.Fields.{Left as Buffer, sumBuilt, differenceBuilt}
+use Rattle.builders.specs.Sums.{sumBuilt, differenceBuilt}
+use Rattle.builders.specs.Building.{BuiltLeft as Buffer}
 use Rattle.builders.proofs.Bounds.{sum-bounds, difference-bounds}
 use Rattle.contents.specs.declared.Moved.{Moved}
 use Rattle.contents.specs.Content.{targetFits, ContentLeft, contentRead, contentWritten}

@@ -18,7 +18,8 @@ use Rattle.module.proofs.RunLaws.{ran-answer, ran-refused}
 use Rattle.module.proofs.StepLaws.{stepped-answer, stepped-refused, asRun, step-is-run, step-not-eight}
 use Rattle.builders.specs.declared.Built.{Built}
 use Rattle.builders.specs.Lists.{encoded}
-use Rattle.builders.specs.Fields.{Left as Buffer, sumList, differenceList, listLength, fieldsFault, builtWith, sumBuilt, differenceBuilt}
+use Rattle.builders.specs.Sums.{sumList, differenceList, listLength, fieldsFault, sumBuilt, differenceBuilt}
+use Rattle.builders.specs.Building.{BuiltLeft as Buffer, builtWith}
 use Rattle.builders.proofs.ListLaws.{sum-length, difference-length}
 use Rattle.builders.proofs.Refusals.{built-row, built-0, built-count, built-unwritten}
 use Rattle.contents.specs.declared.Moved.{Moved}

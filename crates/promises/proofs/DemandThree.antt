@@ -3,7 +3,7 @@ use mathlib.Core.List.{List}
 use Prim.Native.Nat.{ℕ, _≤_}
 use lib.ListN.{length}
 use native.Mathlib.Omega.{arith}
-use Rattle.builders.specs.Fields.{listLength}
+use Rattle.builders.specs.Sums.{listLength}
 use Rattle.fields.proofs.SumRuns.{sum-built, difference-built, sum-put, difference-put, exchange, taking-off}
 use Rattle.promises.specs.DemandThree.{Lent, DemandThree}
 

@@ -8,7 +8,8 @@ use Rattle.registers.specs.declared.Registers.{Registers}
 use Rattle.judge.specs.declared.Answer.{Answer}
 use Rattle.module.specs.Run.{Left, ran, Updated, stepped}
 use Rattle.builders.specs.declared.Built.{Built}
-use Rattle.builders.specs.Fields.{sumBuilt, differenceBuilt, Left as Buffer}
+use Rattle.builders.specs.Sums.{sumBuilt, differenceBuilt}
+use Rattle.builders.specs.Building.{BuiltLeft as Buffer}
 use Rattle.contents.specs.declared.Moved.{Moved}
 use Rattle.contents.specs.Content.{ContentLeft, contentRead, contentWritten}
 use Rattle.pictures.specs.Picture.{PictureLeft, pictureRead, pictureWritten}

@@ -17,7 +17,7 @@ use Rattle.judge.specs.declared.Answer.{Answer}
 use Rattle.judge.specs.Judge.{takes, gives, wrongMemory, wrongRegisters, unfit, wrongKind, wrongSource, lacksTag, wrongTag, idleAccess, wrongPass, wrongLogic, refusal, done, judged, judgedStep}
 use Rattle.judge.specs.Table.{Gives, After, Sized, Formed, Met, Served, Lacks}
 use Rattle.builders.specs.declared.Built.{Built}
-use Rattle.builders.specs.Fields.{wrongWidth, beyond, crosses, Fields, listLength}
+use Rattle.builders.specs.Sums.{wrongWidth, beyond, crosses, Fields, listLength}
 use Rattle.blocks.specs.Block.{sumsDiffer, otherKind, misplaced, misfilled}
 use Rattle.contents.specs.declared.Moved.{Moved}
 use Rattle.contents.specs.File.{contentOf, kindRight, lengthRight, sizeFits, blockCount}

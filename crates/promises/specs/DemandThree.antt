@@ -6,7 +6,7 @@ use mathlib.Core.List.{List}
 use Prim.Native.Nat.{ℕ, _+_, _-_, _*_, _^_, _≤_}
 use lib.ListN.{length}
 use Rattle.judge.specs.Judge.{unfit}
-use Rattle.builders.specs.Fields.{Fields, Apart, listLength, sumBuilt, differenceBuilt}
+use Rattle.builders.specs.Sums.{Fields, Apart, listLength, sumBuilt, differenceBuilt}
 use Rattle.fields.specs.Value.{value, Bytes, Put, TakenOff, sumRun, differenceRun}
 
 -- What is lent: any memory of 8,192 bytes and any registers of 96; items that the judge does not refuse; any out buffer; a buffer with room for a sum list, and one with room for a difference list.

@@ -9,7 +9,7 @@ use Rattle.memory.specs.Table.{lineBit, lineWord}
 use Rattle.network.specs.Pass.{moved, passed}
 use Rattle.network.specs.Answer.{answer}
 use Rattle.registers.specs.Rows.{registersOf}
-use Rattle.builders.specs.Fields.{sumBuilt, differenceBuilt}
+use Rattle.builders.specs.Sums.{sumBuilt, differenceBuilt}
 use Rattle.fields.specs.Value.{value, listOf, sumRun, differenceRun}
 use Rattle.promises.specs.DemandThree.{Lent}
 

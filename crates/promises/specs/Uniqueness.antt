@@ -54,7 +54,7 @@ use Rattle.module.proofs.advance as advance
 use Rattle.module.proofs.parts.write_item as write_item
 use Rattle.module.proofs.parts.registers_of as registers_of
 use Rattle.module.proofs.parts.write_registers as write_registers
-use Rattle.builders.specs.Fields.{Left as Buffer}
+use Rattle.builders.specs.Building.{BuiltLeft as Buffer}
 use Rattle.builders.proofs.sum_list as sum_list
 use Rattle.builders.proofs.difference_list as difference_list
 use Rattle.blocks.proofs.two_at as two_at

@@ -1,15 +1,15 @@
--- The sum and the difference list: every byte of them, the refusals, and what a builder leaves. Document 01, Sum and difference lists; source 004, the basic loop.
+-- The sum and the difference list: every byte of them, the refusals, and what their builders leave. Document 01, Sum and difference lists; source 004, the basic loop.
 use mathlib.Core.Path.{_≡_}
-use mathlib.Core.Bool.{Bool, cond, not, _&&_, _||_}
+use mathlib.Core.Bool.{Bool, not, _&&_, _||_}
 use mathlib.Core.Logic.{_⊎_}
-use mathlib.Core.List.{List, [], _∷_, _++_}
+use mathlib.Core.List.{List, [], _∷_}
 use Prim.Native.Nat.{ℕ, _+_, _*_, _≤_}
 use lib.Dec.{eqb, ltb}
-use lib.ListN.{length, drop}
+use lib.ListN.{length}
 use Rattle.judge.specs.declared.Instruction.{Instruction}
 use Rattle.judge.specs.Judge.{numbered}
-use Rattle.builders.specs.declared.Built.{Built}
 use Rattle.builders.specs.Lists.{logicFrom, logicAt, storeAt, encoded, rounds}
+use Rattle.builders.specs.Building.{BuiltLeft, builtWith}
 
 -- ---- the lists: a field is a start, its least significant bit, and a width n
 
@@ -99,22 +99,10 @@ pub record Fields (a b s n : ℕ) : Type 0 where
   pub clearA : Clear s a n
   pub clearB : Clear s b n
 
--- ---- what a builder leaves
+-- ---- what the two builders leave
 
--- The answer, and the buffer afterwards.
-pub record Left : Type 0 where
-  pub answer : Built
-  pub list : List ℕ
-
--- Refused with a number, "nothing is written and the count is 0. Else only those first bytes are, and their count is given."
-abbrev pub builtWith : ℕ → List ℕ → List ℕ → Left
-builtWith number bytes buffer =
-    cond (eqb number 0)
-    (record { answer = record { number = 0; count = length bytes }; list = bytes ++ drop (length bytes) buffer })
-    (record { answer = record { number = number; count = 0 }; list = buffer })
-
-unfoldable pub sumBuilt : ℕ → ℕ → ℕ → ℕ → List ℕ → Left
+unfoldable pub sumBuilt : ℕ → ℕ → ℕ → ℕ → List ℕ → BuiltLeft
 sumBuilt a b s n buffer = builtWith (fieldsFault 1 a b s n (length buffer)) (encoded (sumList a b s n)) buffer
 
-unfoldable pub differenceBuilt : ℕ → ℕ → ℕ → ℕ → List ℕ → Left
+unfoldable pub differenceBuilt : ℕ → ℕ → ℕ → ℕ → List ℕ → BuiltLeft
 differenceBuilt a b s n buffer = builtWith (fieldsFault 2 a b s n (length buffer)) (encoded (differenceList a b s n)) buffer
