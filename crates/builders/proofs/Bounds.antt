@@ -7,7 +7,7 @@ use native.Mathlib.Omega.{arith}
 use lib.Dec.{eqb}
 use lib.ListN.{length, drop}
 use borrow.Author.Tests.{eqb-true}
-use Rattle.judge.proofs.RowLaws.{numbered-high}
+use Rattle.bits.proofs.Rows.{number-high}
 use Rattle.builders.specs.declared.Built.{Built}
 use Rattle.builders.specs.Lists.{encoded}
 use Rattle.builders.specs.Sums.{sumList, differenceList, listLength, fieldRows, fieldsFault, sumBuilt, differenceBuilt}
@@ -22,7 +22,7 @@ pub record Bounded (a : Built) : Type 0 where
 
 fault-le : (lead a b s n have : ℕ) → fieldsFault lead a b s n have ≤ 33
 unfolding fieldsFault
-fault-le lead a b s n have = numbered-high 29 (fieldRows lead a b s n have)
+fault-le lead a b s n have = number-high 33 (fieldRows lead a b s n have) refl
 
 -- with one instruction before the first bit's, or two
 built-bounds : (lead a b s n : ℕ) (bytes buffer : List ℕ) → lead ≤ 2 → length bytes ≡ listLength lead n

@@ -7,7 +7,7 @@ use Prim.Native.Nat.{ℕ, _+_, _*_, _≤_}
 use lib.Dec.{eqb, ltb}
 use lib.ListN.{length}
 use Rattle.judge.specs.declared.Instruction.{Instruction}
-use Rattle.judge.specs.Judge.{numbered}
+use Rattle.bits.specs.Rows.{Row, row, numberOf}
 use Rattle.builders.specs.Lists.{logicFrom, logicAt, storeAt, encoded, rounds}
 use Rattle.builders.specs.Building.{BuiltLeft, builtWith}
 
@@ -68,17 +68,17 @@ abbrev pub listLength : ℕ → ℕ → ℕ
 listLength lead n = 8 * (lead + 5 * n)
 
 -- "33 list buffer under" that length; "in that order".
-abbrev pub fieldRows : ℕ → ℕ → ℕ → ℕ → ℕ → ℕ → List Bool
+abbrev pub fieldRows : ℕ → ℕ → ℕ → ℕ → ℕ → ℕ → List Row
 fieldRows lead a b s n have =
-    wrongWidth n
-    ∷ (beyond a n || beyond b n || beyond s n)
-    ∷ (crosses s a n || crosses s b n)
-    ∷ ltb have (listLength lead n)
+    row 30 (wrongWidth n)
+    ∷ row 31 (beyond a n || beyond b n || beyond s n)
+    ∷ row 32 (crosses s a n || crosses s b n)
+    ∷ row 33 (ltb have (listLength lead n))
     ∷ []
 
 -- The number of the first row that holds, 0 where none does.
 unfoldable pub fieldsFault : ℕ → ℕ → ℕ → ℕ → ℕ → ℕ → ℕ
-fieldsFault lead a b s n have = numbered 30 (fieldRows lead a b s n have)
+fieldsFault lead a b s n have = numberOf (fieldRows lead a b s n have)
 
 -- ---- the fields that are not refused
 

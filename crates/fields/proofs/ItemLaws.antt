@@ -11,10 +11,11 @@ use Rattle.bits.specs.Search.{count}
 use Rattle.network.specs.Answer.{passedItem}
 use Rattle.registers.specs.declared.Registers.{Registers}
 use Rattle.judge.specs.declared.Instruction.{Instruction}
+use Rattle.judge.specs.declared.Lengths.{Lengths}
 use Rattle.judge.specs.Judge.{instructionAt, takes}
 use Rattle.judge.specs.Steps.{Accepted}
 use Rattle.module.specs.Act.{State, partAt, heldItem, sourceItem, passedBy, after, acted}
-use Rattle.module.specs.Run.{begun, ranBy}
+use Rattle.module.specs.Run.{Lent, begun, ranBy}
 use Rattle.builders.specs.Lists.{decoded, itemsOf}
 use Rattle.builders.specs.Word.{folded, takenBy, foldedOn}
 use Rattle.builders.proofs.ListLaws.{items-at}
@@ -66,20 +67,20 @@ unfolding ranBy count acted
 ran-taken list items s zero = sym (add-zero (s .taken))
 ran-taken list items s (suc k) = omega (arith, ran-taken list items s k)
 
-module _ (mem regs : ℕ) (list items : List ℕ) (out : ℕ) (fit : Accepted mem regs list (length items) out)
-    (k : ℕ) (there : k < length list / 8) (outside : takes (instructionAt list k) ≡ true) where
+module _ (lengths : Lengths) (lent : Lent Registers) (fit : Accepted lengths (lent .list)) (have : lengths .items ≡ length (lent .items))
+    (k : ℕ) (there : k < length (lent .list) / 8) (outside : takes (instructionAt (lent .list) k) ≡ true) where
   -- an outside source is the part of the items whose number is the count of those taken before
-  pub takes-part : (m o : List ℕ) (r : Registers)
-      → (let s = ranBy list items (begun m o r) k in sourceItem (instructionAt list k) (s .mem) items (s .regs) (s .taken))
-      ≡ partAt items (count (λ j. takes (instructionAt list j)) k)
+  pub takes-part : (r : Registers)
+      → (let s = ranBy (lent .list) (lent .items) (begun lent r) k in sourceItem (instructionAt (lent .list) k) (s .mem) (lent .items) (s .regs) (s .taken))
+      ≡ partAt (lent .items) (count (λ j. takes (instructionAt (lent .list) j)) k)
   unfolding sourceItem
-  takes-part m o r =
-      let s = ranBy list items (begun m o r) k in
-      ap (λ (t : Bool). cond t (partAt items (s .taken)) (heldItem (instructionAt list k) (s .mem) (s .regs))) outside
-      ∙ ap (partAt items) (ran-taken list items (begun m o r) k ∙ zero-add _)
+  takes-part r =
+      let s = ranBy (lent .list) (lent .items) (begun lent r) k in
+      ap (λ (t : Bool). cond t (partAt (lent .items) (s .taken)) (heldItem (instructionAt (lent .list) k) (s .mem) (s .regs))) outside
+      ∙ ap (partAt (lent .items)) (ran-taken (lent .list) (lent .items) (begun lent r) k ∙ zero-add _)
 
   -- and in an accepted list it is there
-  pub part-there : length (partAt items (count (λ j. takes (instructionAt list j)) k)) ≡ 32
+  pub part-there : length (partAt (lent .items) (count (λ j. takes (instructionAt (lent .list) j)) k)) ≡ 32
   part-there =
       let room = fit .supplied k there outside in
       simp (length-take, length-drop) (omega arith)

@@ -28,7 +28,7 @@ use Rattle.registers.specs.Rows.{withM}
 use Rattle.registers.proofs.LogicLaws.{logic-X, logic-Y}
 use Rattle.judge.specs.declared.Instruction.{Instruction}
 use Rattle.judge.specs.Judge.{instructionAt, takes}
-use Rattle.module.specs.Act.{State, partAt, held, heldItem, sourceItem, passedBy, regsAfter, memAfter, acted}
+use Rattle.module.specs.Act.{State, modeOf, partAt, held, heldItem, sourceItem, passedBy, regsAfter, memAfter, acted}
 use Rattle.module.specs.Run.{ranBy}
 use Rattle.builders.specs.Lists.{decoded}
 use Rattle.builders.specs.Word.{Word, heldBit, sourceBit, afterBit, actedWord, folded, ranWord, Each, none, more}
@@ -115,7 +115,7 @@ passed-from p i items s w hp sl a =
 module _ (p : ℕ) (hp : p < 256) where
   -- what the passed item f does
   module _ (i : Instruction) (f : List ℕ) (s : State) (v : Word) (sl : Sliced i) (a : At p s v) where
-    word-at : (b : ℕ) → b < 256 → table (cell (memAfter i (s .mem) (s .regs .m) f)) p b
+    word-at : (b : ℕ) → b < 256 → table (cell (memAfter i (modeOf i (s .regs)) (s .mem) (s .regs .m) f)) p b
         ≡ cond ((eqb (i .kind) 2 || (eqb (i .kind) 3 && eqb (maskOf (s .regs .m) (i .flip) p) 1)) && eqb b (i .addr)) (bitOf f p) (v .bits b)
     unfolding memAfter
     word-at b hb = go (eqb (i .kind) 2) (eqb (i .kind) 3)

@@ -6,17 +6,16 @@ use Prim.Native.Nat.{ℕ, zero, suc, _+_, _*_, _/_, _%_, _<_, _≤_}
 use native.Mathlib.Decide.{ℕ-discrete}
 use native.Mathlib.Omega.{arith}
 use borrow.Author.Tests.{eq-eqb, le-ltb}
-use lib.Dec.{eqb}
 use lib.ListN.{length}
 use Rattle.bits.specs.Search.{count}
 use Rattle.registers.specs.Rows.{registersOf, bytesOf}
 use Rattle.judge.specs.declared.Instruction.{Instruction}
+use Rattle.judge.specs.declared.Lengths.{Lengths}
 use Rattle.judge.specs.declared.Answer.{Answer}
-use Rattle.judge.specs.Judge.{instructionAt, takes, gives, unfit, instructionRows, judged}
-use Rattle.judge.specs.Table.{NoRow}
-use Rattle.judge.proofs.Table.{all-done}
+use Rattle.judge.specs.Judge.{instructionAt, takes, gives, unfit, faultOf, judged}
+use Rattle.judge.proofs.Accepted.{run-of}
 use Rattle.module.specs.Act.{State, passedBy, acted}
-use Rattle.module.specs.Run.{begun, ran}
+use Rattle.module.specs.Run.{Lent, Left, runLengths, begun}
 use Rattle.module.proofs.ActLaws.{no-out}
 use Rattle.module.proofs.RunLaws.{ran-done}
 use Rattle.builders.specs.Lists.{encoded, decoded}
@@ -24,20 +23,21 @@ use Rattle.builders.proofs.ListLaws.{length-encoded, decoded-encoded}
 use Rattle.builders.specs.Word.{folded, takenBy, Each, none, more}
 use Rattle.builders.proofs.Takes.{taken-decoded}
 use Rattle.fields.specs.Line.{Local}
+use Rattle.fields.specs.Value.{runOf}
 use Rattle.builders.proofs.Folds.{each-at, each-map}
 use Rattle.fields.proofs.LineLaws.{ran-folded}
 
 -- An instruction that gives nothing and that no row refuses.
 pub record Quiet (i : Instruction) : Type 0 where
   pub gives-none : gives i ≡ false
-  pub formed : NoRow (instructionRows i)
+  pub formed : faultOf i ≡ 0
 
 -- One that also keeps to its line and takes nothing.
 pub record Plain (i : Instruction) : Type 0 where
   pub local : Local i
   pub takes-none : takes i ≡ false
   pub gives-none : gives i ≡ false
-  pub formed : NoRow (instructionRows i)
+  pub formed : faultOf i ≡ 0
 
 -- ---- counts
 
@@ -60,6 +60,16 @@ count-beyond f k (suc n) h t = go (ℕ-discrete k n) (λ l. count-beyond f k n l
     go (no u) ih = let r = ih (omega arith) in omega arith
 
 -- ---- a quiet list
+
+-- what a run that gives nothing leaves, from the state at its end
+abbrev pub leftBy : Lent (List ℕ) → State → ℕ → ℕ → Left (List ℕ) Answer
+leftBy lent s steps taken =
+    record {
+      memory = s .mem;
+      registers = bytesOf (s .regs);
+      out = lent .out;
+      answer = record { number = 0; place = 0; steps = steps; taken = taken; given = 0 };
+    }
 
 -- nothing is put out
 folded-out : (l : List Instruction) (items : List ℕ) (s : State) → Each Quiet l → folded (λ i. acted i items) l s .out ≡ s .out
@@ -89,34 +99,31 @@ module _ (l : List Instruction) (quiet : Each Quiet l) (few : length l ≤ 4096)
   fits unit n e h = ap₂ (λ (x y : Bool). not x || y) (eq-eqb (n % unit) 0 e) (le-ltb 32768 n h)
 
   -- number 0, as many steps as instructions, as many taken as take one, and nothing given
-  pub judged-quiet : (mem regs items out : ℕ) → mem ≡ 8192 → regs ≡ 96 → unfit 32 items ≡ false → 32 * takenBy l ≤ items
-      → judged mem regs (encoded l) items out ≡ record { number = 0; place = 0; steps = length l; taken = takenBy l; given = 0 }
-  judged-quiet mem regs items out hm hr hi enough =
-      all-done mem regs (encoded l) items out (
-        (ap (λ (n : ℕ). not (eqb n 8192)) hm, (ap (λ (n : ℕ). not (eqb n 96)) hr, (fits 8 (length (encoded l)) (omega (arith, length-encoded l)) (omega (arith, length-encoded l)), (hi, tt)))),
-        λ j h. quiet-at j h .formed,
-        λ j h t. let c = count-beyond (λ k. takes (instructionAt (encoded l) k)) j (length (encoded l) / 8) h t in omega (arith, taken-all),
-        λ j h t. absurd (true≢false (sym t ∙ quiet-at j h .gives-none)),
-      )
+  pub judged-quiet : (lengths : Lengths) → lengths .memory ≡ 8192 → lengths .registers ≡ 96 → unfit 32 (lengths .items) ≡ false → 32 * takenBy l ≤ lengths .items
+      → judged lengths (encoded l) ≡ record { number = 0; place = 0; steps = length l; taken = takenBy l; given = 0 }
+  judged-quiet lengths hm hr hi enough =
+      run-of lengths (encoded l) hm hr (fits 8 (length (encoded l)) (omega (arith, length-encoded l)) (omega (arith, length-encoded l))) hi
+      (λ j h. quiet-at j h .formed)
+      (λ j h t. let c = count-beyond (λ k. takes (instructionAt (encoded l) k)) j (length (encoded l) / 8) h t in omega (arith, taken-all))
+      (λ j h t. absurd (true≢false (sym t ∙ quiet-at j h .gives-none)))
       ∙ (λ t. record { number = 0; place = 0; steps = eighth t; taken = taken-all t; given = no-room t })
     where
       no-room : count (λ k. gives (instructionAt (encoded l) k)) (length (encoded l) / 8) ≡ 0
       no-room = count-none (λ k. gives (instructionAt (encoded l) k)) (length (encoded l) / 8) (λ k h. quiet-at k h .gives-none)
 
   -- ItemLaws says what each instruction of the fold takes
-  pub ran-quiet : (mem regs items out : List ℕ) → length mem ≡ 8192 → length regs ≡ 96 → unfit 32 (length items) ≡ false → 32 * takenBy l ≤ length items
-      → ran mem regs (encoded l) items out
-      ≡ (let s = folded (λ i. acted i items) l (begun mem out (registersOf regs)) in
-      record { mem = s .mem; regs = bytesOf (s .regs); out = out; answer = record { number = 0; place = 0; steps = length l; taken = takenBy l; given = 0 } })
-  ran-quiet mem regs items out hm hr hi enough =
-      let start = begun mem out (registersOf regs) in
-      let s = folded (λ i. acted i items) l start in
+  pub ran-quiet : (lent : Lent (List ℕ)) → length (lent .memory) ≡ 8192 → length (lent .registers) ≡ 96 → unfit 32 (length (lent .items)) ≡ false
+      → 32 * takenBy l ≤ length (lent .items)
+      → runOf (encoded l) lent ≡ leftBy lent (folded (λ i. acted i (lent .items)) l (begun lent (registersOf (lent .registers)))) (length l) (takenBy l)
+  ran-quiet lent hm hr hi enough =
+      let start = begun lent (registersOf (lent .registers)) in
+      let s = folded (λ i. acted i (lent .items)) l start in
       let a : Answer = record { number = 0; place = 0; steps = length l; taken = takenBy l; given = 0 } in
-      sym (ran-done mem regs (encoded l) items out a
-      (sym (judged-quiet (length mem) (length regs) (length items) (length out) hm hr hi enough)) refl (registersOf regs) s (bytesOf (s .regs)) refl
-      (sym (ran-folded (encoded l) items start (length (encoded l) / 8) ∙ ap (λ (z : List Instruction). folded (λ i. acted i items) z start) back))
+      let given : Lent (List ℕ) = record { memory = lent .memory; registers = lent .registers; list = encoded l; items = lent .items; out = lent .out } in
+      sym (ran-done given a (sym (judged-quiet (runLengths given) hm hr hi enough)) refl (registersOf (lent .registers)) s (bytesOf (s .regs)) refl
+      (sym (ran-folded (encoded l) (lent .items) start (length (encoded l) / 8) ∙ ap (λ (z : List Instruction). folded (λ i. acted i (lent .items)) z start) back))
       refl)
-      ∙ ap (λ (z : List ℕ). record { mem = s .mem; regs = bytesOf (s .regs); out = z; answer = a }) (folded-out l items start quiet)
+      ∙ ap (λ (z : List ℕ). record { memory = s .mem; registers = bytesOf (s .regs); out = z; answer = a }) (folded-out l (lent .items) start quiet)
 
 -- ---- a plain list
 
@@ -127,12 +134,10 @@ taken-plain (more {i} h e) = ap₂ (λ (t : Bool) (n : ℕ). cond t 1 0 + n) (h 
 
 module _ (l : List Instruction) (plain : Each Plain l) (few : length l ≤ 4096) where
   -- nothing is taken either
-  pub ran-plain : (mem regs items out : List ℕ) → length mem ≡ 8192 → length regs ≡ 96 → unfit 32 (length items) ≡ false
-      → ran mem regs (encoded l) items out
-      ≡ (let s = folded (λ i. acted i items) l (begun mem out (registersOf regs)) in
-      record { mem = s .mem; regs = bytesOf (s .regs); out = out; answer = record { number = 0; place = 0; steps = length l; taken = 0; given = 0 } })
-  ran-plain mem regs items out hm hr hi =
-      let s = folded (λ i. acted i items) l (begun mem out (registersOf regs)) in
+  pub ran-plain : (lent : Lent (List ℕ)) → length (lent .memory) ≡ 8192 → length (lent .registers) ≡ 96 → unfit 32 (length (lent .items)) ≡ false
+      → runOf (encoded l) lent ≡ leftBy lent (folded (λ i. acted i (lent .items)) l (begun lent (registersOf (lent .registers)))) (length l) 0
+  ran-plain lent hm hr hi =
+      let s = folded (λ i. acted i (lent .items)) l (begun lent (registersOf (lent .registers))) in
       let none = taken-plain plain in
-      ran-quiet l (each-map (λ i h. record { gives-none = h .gives-none; formed = h .formed }) plain) few mem regs items out hm hr hi (omega arith)
-      ∙ ap (λ (n : ℕ). record { mem = s .mem; regs = bytesOf (s .regs); out = out; answer = record { number = 0; place = 0; steps = length l; taken = n; given = 0 } }) none
+      ran-quiet l (each-map (λ i h. record { gives-none = h .gives-none; formed = h .formed }) plain) few lent hm hr hi (omega arith)
+      ∙ ap (leftBy lent s (length l)) none

@@ -13,7 +13,7 @@ use Rattle.bits.specs.Search.{count}
 use Rattle.network.specs.Shifts.{permitted}
 use Rattle.judge.specs.declared.Instruction.{Instruction}
 use Rattle.judge.specs.declared.Lengths.{Lengths}
-use Rattle.judge.specs.Judge.{instructionAt, takes, gives, wrongMemory, unfit, wrongKind, wrongSource, wrongPass, wrongLogic, runRows, stepRows, instructionRows, faultOf, refusal, done, orElse, judgedList, judgedBy, judged, judgedStep}
+use Rattle.judge.specs.Judge.{instructionAt, takes, gives, wrongMemory, wrongRegisters, unfit, wrongKind, wrongSource, wrongPass, wrongLogic, runRows, stepRows, instructionRows, faultOf, refusal, done, orElse, judgedList, judgedBy, judged, judgedStep}
 use Rattle.judge.specs.Steps.{Accepted}
 use Rattle.judge.specs.Numbers.{Served, Unrefused}
 use Rattle.judge.proofs.RowLaws.{or-none, and-none, fit-whole, fit-size}
@@ -61,6 +61,21 @@ module _ (l : Lengths) (list : List ℕ) where
 
     pub run-done : judged l list ≡ done list
     run-done = done-is (runRows l list) l list why
+
+  -- and the other way: a list of which all this holds is done
+  pub run-of : l .memory ≡ 8192 → l .registers ≡ 96 → unfit 8 (length list) ≡ false → unfit 32 (l .items) ≡ false
+      → ((k : ℕ) → k < length list / 8 → faultOf (instructionAt list k) ≡ 0)
+      → Served takes list (l .items) (length list / 8) → Served gives list (l .out) (length list / 8)
+      → judged l list ≡ done list
+  unfolding faultOf
+  run-of m r fit items formed supplied roomy =
+      done-is (runRows l list) l list
+      (record {
+        lent = (ap (λ (n : ℕ). wrongMemory n) m, (ap (λ (n : ℕ). wrongRegisters n) r, (fit, (items, tt))));
+        formed = λ k h. number-none (instructionRows (instructionAt list k)) refl (formed k h);
+        items = supplied;
+        room = roomy;
+      })
 
 -- ---- a step: its instruction is 8 bytes, and accepted as a list of one
 

@@ -15,7 +15,7 @@ use Rattle.judge.specs.Judge.{refusal, judged, judgedStep}
 use Rattle.judge.specs.Steps.{Accepted}
 use Rattle.judge.proofs.Accepted.{step-accepted, step-as-run, step-unlike}
 use Rattle.module.specs.Act.{State}
-use Rattle.module.specs.Run.{Lent, Left, unmoved, runLengths, stepLengths, ranAll, ran, stepped}
+use Rattle.module.specs.Run.{Lent, Left, unmoved, stepLengths, ranAll, ran, stepped, lentBytes, leftBytes}
 use Rattle.module.proofs.PartLaws.{registers-bytes, length-bytes}
 
 module _ (l : Lent Registers) (a : Answer) (judge : a ≡ judgedStep (stepLengths l) (l .list)) where
@@ -62,13 +62,6 @@ stored-if-done l u e =
         ∙ simp (ne-eqb _ _ n)
 
 -- ---- "A step answers, refuses and leaves its buffers as a run of a list of that one instruction does."
-
--- what is lent to a step, and what it leaves, with the record as the bytes of a run
-abbrev pub lentBytes : Lent Registers → Lent (List ℕ)
-lentBytes l = record { memory = l .memory; registers = bytesOf (l .registers); list = l .list; items = l .items; out = l .out }
-
-abbrev pub leftBytes : Left Registers Answer → Left (List ℕ) Answer
-leftBytes u = record { memory = u .memory; registers = bytesOf (u .registers); out = u .out; answer = u .answer }
 
 module _ (l : Lent Registers) where
   -- an instruction of 8 bytes

@@ -72,3 +72,10 @@ stepped l =
     cond (eqb (a .number) 0)
     (record { memory = s .mem; registers = s .regs; out = s .out; answer = a })
     (unmoved l a)
+
+-- What is lent to a step, and what it leaves, with the record as the bytes of a run.
+abbrev pub lentBytes : Lent Registers → Lent (List ℕ)
+lentBytes l = record { memory = l .memory; registers = bytesOf (l .registers); list = l .list; items = l .items; out = l .out }
+
+abbrev pub leftBytes : Left Registers Answer → Left (List ℕ) Answer
+leftBytes u = record { memory = u .memory; registers = bytesOf (u .registers); out = u .out; answer = u .answer }

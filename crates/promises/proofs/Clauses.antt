@@ -46,15 +46,18 @@ module _ {M : Type 1} (𝓤 : URA M) (H : Heap 𝓤) (A : Atoms 𝓤) (memory : 
       → (c κs a .requires g ≡ ⊤ₛ) × (c κs a .ensures g r e ≡ p κs a r e)
 
   pub run-clauses : Says run.ended (run.clauses 𝓤 H A memory runs) (λ κs a r e.
-      ⌜ Run (now (a .0)) (now (a .1 .0)) (now (a .1 .1 .0)) (now (a .1 .1 .1 .0)) (now (a .1 .1 .1 .1 .0)) (now (e .0)) (now (e .1 .0)) (now (e .1 .1 .1 .1 .0)) r ⌝)
+      ⌜ Run (record { memory = now (a .0); registers = now (a .1 .0); list = now (a .1 .1 .0); items = now (a .1 .1 .1 .0); out = now (a .1 .1 .1 .1 .0) })
+      (record { memory = now (e .0); registers = now (e .1 .0); out = now (e .1 .1 .1 .1 .0); answer = r }) ⌝)
   run-clauses κs a g r e = (refl, refl)
 
   pub step-clauses : Says step.ended (step.clauses 𝓤 H A memory runs) (λ κs a r e.
-      ⌜ Step (now (a .0)) (now (a .1 .0)) (now (a .1 .1 .1 .1 .0)) (now (a .1 .1 .0)) (now (a .1 .1 .1 .0)) (now (e .0)) (now (e .1 .0)) (now (e .1 .1 .1 .0)) r ⌝)
+      ⌜ Step (record { memory = now (a .0); registers = now (a .1 .0); list = now (a .1 .1 .0); items = now (a .1 .1 .1 .0); out = now (a .1 .1 .1 .1 .0) })
+      (record { memory = now (e .0); registers = now (e .1 .0); out = now (e .1 .1 .1 .1 .0); answer = r }) ⌝)
   step-clauses κs a g r e = (refl, refl)
 
   pub advance-clauses : Says advance.ended (advance.clauses 𝓤 H A memory runs) (λ κs a r e.
-      ⌜ Step (now (a .0)) (a .1 .1 .1 .0) (now (a .1 .1 .1 .1 .0)) (now (a .1 .1 .0)) (now (a .1 .0)) (now (e .0)) (r .regs) (now (e .1 .0)) (r .answer) ⌝)
+      ⌜ Step (record { memory = now (a .0); registers = a .1 .0; list = now (a .1 .1 .0); items = now (a .1 .1 .1 .0); out = now (a .1 .1 .1 .1 .0) })
+      (record { memory = now (e .0); registers = r .regs; out = now (e .1 .1 .1 .1 .0); answer = r .answer }) ⌝)
   advance-clauses κs a g r e = (refl, refl)
 
   pub pass-clauses : Says pass.ended (pass.clauses 𝓤 H A memory runs) (λ κs a r e.
@@ -92,11 +95,13 @@ module _ {M : Type 1} (𝓤 : URA M) (H : Heap 𝓤) (A : Atoms 𝓤) (memory : 
   -- ---- the library for C
 
   pub library-run-clauses : Says staran_run.ended (staran_run.clauses 𝓤 H A memory runs) (λ κs a r e.
-      ⌜ LibraryRun (now (a .0)) (now (a .1 .0)) (now (a .1 .1 .0)) (now (a .1 .1 .1 .0)) (now (a .1 .1 .1 .1 .0)) (now (e .0)) (now (e .1 .0)) (now (e .1 .1 .1 .1 .0)) (now (e .1 .1 .1 .1 .1 .0)) ⌝)
+      ⌜ LibraryRun (record { memory = now (a .0); registers = now (a .1 .0); list = now (a .1 .1 .0); items = now (a .1 .1 .1 .0); out = now (a .1 .1 .1 .1 .0) })
+      (record { memory = now (e .0); registers = now (e .1 .0); out = now (e .1 .1 .1 .1 .0); answer = now (e .1 .1 .1 .1 .1 .0) }) ⌝)
   library-run-clauses κs a g r e = (refl, refl)
 
   pub library-step-clauses : Says staran_step.ended (staran_step.clauses 𝓤 H A memory runs) (λ κs a r e.
-      ⌜ LibraryStep (now (a .0)) (now (a .1 .0)) (now (a .1 .1 .0)) (now (a .1 .1 .1 .0)) (now (a .1 .1 .1 .1 .0)) (now (e .0)) (now (e .1 .0)) (now (e .1 .1 .1 .0)) (now (e .1 .1 .1 .1 .1 .0)) ⌝)
+      ⌜ LibraryStep (record { memory = now (a .0); registers = now (a .1 .0); list = now (a .1 .1 .0); items = now (a .1 .1 .1 .0); out = now (a .1 .1 .1 .1 .0) })
+      (record { memory = now (e .0); registers = now (e .1 .0); out = now (e .1 .1 .1 .1 .0); answer = now (e .1 .1 .1 .1 .1 .0) }) ⌝)
   library-step-clauses κs a g r e = (refl, refl)
 
   pub library-pass-clauses : Says staran_pass.ended (staran_pass.clauses 𝓤 H A memory runs) (λ κs a r e.

@@ -6,24 +6,24 @@ use Rattle.network.specs.declared.Passed.{Passed}
 use Rattle.network.specs.Answer.{answer}
 use Rattle.registers.specs.declared.Registers.{Registers}
 use Rattle.judge.specs.declared.Answer.{Answer}
-use Rattle.module.specs.Run.{Left, ran, Updated, stepped}
+use Rattle.module.specs.Run.{Lent, Left, ran, stepped}
 use Rattle.builders.specs.declared.Built.{Built}
 use Rattle.builders.specs.Sums.{sumBuilt, differenceBuilt}
 use Rattle.builders.specs.Building.{BuiltLeft as Buffer}
 use Rattle.contents.specs.declared.Moved.{Moved}
 use Rattle.contents.specs.Content.{ContentLeft, contentRead, contentWritten}
 use Rattle.pictures.specs.Picture.{PictureLeft, pictureRead, pictureWritten}
-use Rattle.library.specs.Left.{RunLeft, runLeft, StepLeft, stepLeft, PassLeft, passLeft, BufferLeft, TargetsLeft, readPictureLeft, version}
+use Rattle.library.specs.Left.{runLeft, stepLeft, PassLeft, passLeft, BufferLeft, TargetsLeft, readPictureLeft, version}
 
 -- ---- the array
 
--- `module::run`
-abbrev pub Run : (mem regs list items out mem′ regs′ out′ : List ℕ) → Answer → Type 0
-Run mem regs list items out mem′ regs′ out′ a = _≡_ {A = Left} (record { mem = mem′; regs = regs′; out = out′; answer = a }) (ran mem regs list items out)
+-- `module::run`: what is lent, and what is left of it
+abbrev pub Run : Lent (List ℕ) → Left (List ℕ) Answer → Type 0
+Run l u = u ≡ ran l
 
 -- `module::step` on the record that it is lent, and `module::advance` on one by value
-abbrev pub Step : (mem : List ℕ) → Registers → (instruction items out mem′ : List ℕ) → Registers → (out′ : List ℕ) → Answer → Type 0
-Step mem r instruction items out mem′ r′ out′ a = _≡_ {A = Updated} (record { mem = mem′; regs = r′; out = out′; answer = a }) (stepped mem r instruction items out)
+abbrev pub Step : Lent Registers → Left Registers Answer → Type 0
+Step l u = u ≡ stepped l
 
 -- ---- the network
 
@@ -64,14 +64,12 @@ WritePicture kind memory registers out out′ r =
 -- ---- the library for C: each contract is one equation of all that a function leaves, its answer's numbers included
 
 -- `staran_run`
-abbrev pub LibraryRun : (memory registers list items out memory′ registers′ out′ answer′ : List ℕ) → Type 0
-LibraryRun memory registers list items out memory′ registers′ out′ answer′ =
-    _≡_ {A = RunLeft} (record { memory = memory′; registers = registers′; out = out′; answer = answer′ }) (runLeft memory registers list items out)
+abbrev pub LibraryRun : Lent (List ℕ) → Left (List ℕ) (List ℕ) → Type 0
+LibraryRun l u = u ≡ runLeft l
 
 -- `staran_step`
-abbrev pub LibraryStep : (memory : List ℕ) → Registers → (items out instruction memory′ : List ℕ) → Registers → (out′ answer′ : List ℕ) → Type 0
-LibraryStep memory r items out instruction memory′ r′ out′ answer′ =
-    _≡_ {A = StepLeft} (record { memory = memory′; registers = r′; out = out′; answer = answer′ }) (stepLeft memory r items out instruction)
+abbrev pub LibraryStep : Lent Registers → Left Registers (List ℕ) → Type 0
+LibraryStep l u = u ≡ stepLeft l
 
 -- `staran_pass` and `staran_wired_pass`
 abbrev pub LibraryPass : (item : List ℕ) (flip code : ℕ) (passed′ answer′ : List ℕ) → Type 0

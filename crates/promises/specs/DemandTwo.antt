@@ -21,8 +21,8 @@ use Rattle.registers.specs.Logic.{functionBit, newX, newY, logicOf}
 use Rattle.registers.specs.Resolver.{resolved}
 use Rattle.judge.specs.declared.Instruction.{Instruction}
 use Rattle.judge.specs.Judge.{instructionAt, takes, gives, done, judged}
-use Rattle.module.specs.Act.{State, partAt, putPart, passedBy, acted}
-use Rattle.module.specs.Run.{begun, ranBy, ran}
+use Rattle.module.specs.Act.{State, modeOf, partAt, putPart, passedBy, acted}
+use Rattle.module.specs.Run.{Lent, unmoved, runLengths, begun, ranBy, ran}
 use Rattle.blocks.specs.Sums.{at}
 use Rattle.contents.specs.File.{done as put}
 use Rattle.contents.specs.Content.{over, contentRead, contentWritten}
@@ -105,22 +105,22 @@ left i s mem out regs = record { mem = mem; out = out; regs = regs; taken = s .t
 pub record Acts (i : Instruction) (items f : List ℕ) (s : State) : Type 0 where
   pub logic : i .kind ≡ 0 → acted i items s ≡ left i s (s .mem) (s .out) (logicOf (s .regs) f (i .logic))
   pub setM : i .kind ≡ 1 → acted i items s ≡ left i s (s .mem) (s .out) (withM (s .regs) f)
-  pub store : i .kind ≡ 2 → acted i items s ≡ left i s (stored (s .mem) (i .mode) (i .addr) every (bitOf f)) (s .out) (s .regs)
-  pub maskedStore : i .kind ≡ 3 → acted i items s ≡ left i s (stored (s .mem) (i .mode) (i .addr) (maskOf (s .regs .m) (i .flip)) (bitOf f)) (s .out) (s .regs)
+  pub store : i .kind ≡ 2 → acted i items s ≡ left i s (stored (s .mem) (modeOf i (s .regs)) (i .addr) every (bitOf f)) (s .out) (s .regs)
+  pub maskedStore : i .kind ≡ 3 → acted i items s ≡ left i s (stored (s .mem) (modeOf i (s .regs)) (i .addr) (maskOf (s .regs .m) (i .flip)) (bitOf f)) (s .out) (s .regs)
   pub deliver : i .kind ≡ 4 → acted i items s ≡ left i s (s .mem) (putPart (s .out) (s .given) f) (s .regs)
   pub resolve : i .kind ≡ 5 → acted i items s ≡ left i s (s .mem) (putPart (s .out) (s .given) (resolved (bitOf (s .regs .y)))) (s .regs)
 
 -- ---- a run
 
 -- Judged whole; then refused, and every buffer as it was, or each instruction of the list in turn.
-pub record Runs (mem regs list items out : List ℕ) : Type 0 where
-  pub refused : judged (length mem) (length regs) list (length items) (length out) .number ≢ 0
-      → ran mem regs list items out ≡ record { mem = mem; regs = regs; out = out; answer = judged (length mem) (length regs) list (length items) (length out) }
-  pub accepted : judged (length mem) (length regs) list (length items) (length out) .number ≡ 0
-      → (let s = ranBy list items (begun mem out (registersOf regs)) (length list / 8) in
-      ran mem regs list items out ≡ record { mem = s .mem; regs = bytesOf (s .regs); out = s .out; answer = done list })
-  pub before : (s : State) → ranBy list items s 0 ≡ s
-  pub oneMore : (s : State) (n : ℕ) → ranBy list items s (suc n) ≡ acted (instructionAt list n) items (ranBy list items s n)
+pub record Runs (l : Lent (List ℕ)) : Type 0 where
+  pub refused : judged (runLengths l) (l .list) .number ≢ 0 → ran l ≡ unmoved l (judged (runLengths l) (l .list))
+  pub accepted : judged (runLengths l) (l .list) .number ≡ 0
+      → (let s = ranBy (l .list) (l .items) (begun l (registersOf (l .registers))) (length (l .list) / 8) in
+      ran l ≡ record { memory = s .mem; registers = bytesOf (s .regs); out = s .out; answer = done (l .list) })
+  pub before : (s : State) → ranBy (l .list) (l .items) s 0 ≡ s
+  pub oneMore : (s : State) (n : ℕ)
+      → ranBy (l .list) (l .items) s (suc n) ≡ acted (instructionAt (l .list) n) (l .items) (ranBy (l .list) (l .items) s n)
 
 -- ---- the disk
 
@@ -150,5 +150,5 @@ pub record DemandTwo : Type 0 where
   pub registers : Logic
   pub sources : (i : Instruction) (mem items : List ℕ) (r : Registers) (taken : ℕ) → Sources i mem items r taken
   pub acts : (i : Instruction) (items : List ℕ) (s : State) → Acts i items (passedBy i (s .mem) items (s .regs) (s .taken)) s
-  pub runs : (mem regs list items out : List ℕ) → Runs mem regs list items out
+  pub runs : (l : Lent (List ℕ)) → Runs l
   pub disk : Returns

@@ -47,7 +47,9 @@ use Rattle.judge.proofs.rows.gives as gives
 use Rattle.judge.proofs.searches.tally as tally
 use Rattle.judge.proofs.searches.one_if as one_if
 use Rattle.judge.proofs.searches.shortage as shortage
-use Rattle.module.specs.Run.{Left, Updated}
+use Rattle.registers.specs.declared.Registers.{Registers}
+use Rattle.judge.specs.declared.Answer.{Answer}
+use Rattle.module.specs.Run.{Left}
 use Rattle.module.proofs.run as run
 use Rattle.module.proofs.step as step
 use Rattle.module.proofs.advance as advance
@@ -74,7 +76,7 @@ use Rattle.contents.proofs.write_content as write_content
 use Rattle.pictures.specs.Picture.{PictureLeft}
 use Rattle.pictures.proofs.read_picture as read_picture
 use Rattle.pictures.proofs.write_picture as write_picture
-use Rattle.library.specs.Left.{RunLeft, StepLeft, PassLeft, BufferLeft, TargetsLeft}
+use Rattle.library.specs.Left.{PassLeft, BufferLeft, TargetsLeft}
 use Rattle.library.proofs.staran_run as staran_run
 use Rattle.library.proofs.staran_step as staran_step
 use Rattle.library.proofs.staran_pass as staran_pass
@@ -115,11 +117,11 @@ module _ {M : Type 1} (𝓤 : URA M) (H : Heap 𝓤) (A : Atoms 𝓤) (memory : 
     -- `network::wired_pass`
     pub wiredPass : OneOutcome 𝓤 wired_pass.ended (wired_pass.clauses 𝓤 H A memory runs) (λ κs r e. r)
     -- `module::run`
-    pub run : OneOutcome 𝓤 run.ended (run.clauses 𝓤 H A memory runs) {O = Left} (λ κs r e. record { mem = now (e .0); regs = now (e .1 .0); out = now (e .1 .1 .1 .1 .0); answer = r })
+    pub run : OneOutcome 𝓤 run.ended (run.clauses 𝓤 H A memory runs) {O = Left (List ℕ) Answer} (λ κs r e. record { memory = now (e .0); registers = now (e .1 .0); out = now (e .1 .1 .1 .1 .0); answer = r })
     -- `module::step`
-    pub step : OneOutcome 𝓤 step.ended (step.clauses 𝓤 H A memory runs) {O = Updated} (λ κs r e. record { mem = now (e .0); regs = now (e .1 .0); out = now (e .1 .1 .1 .0); answer = r })
+    pub step : OneOutcome 𝓤 step.ended (step.clauses 𝓤 H A memory runs) {O = Left Registers Answer} (λ κs r e. record { memory = now (e .0); registers = now (e .1 .0); out = now (e .1 .1 .1 .1 .0); answer = r })
     -- `module::advance`
-    pub advance : OneOutcome 𝓤 advance.ended (advance.clauses 𝓤 H A memory runs) {O = Updated} (λ κs r e. record { mem = now (e .0); regs = r .regs; out = now (e .1 .0); answer = r .answer })
+    pub advance : OneOutcome 𝓤 advance.ended (advance.clauses 𝓤 H A memory runs) {O = Left Registers Answer} (λ κs r e. record { memory = now (e .0); registers = r .regs; out = now (e .1 .1 .1 .1 .0); answer = r .answer })
     -- `builders::sum_list`
     pub sumList : OneOutcome 𝓤 sum_list.ended (sum_list.clauses 𝓤 H A memory runs) {O = Buffer} (λ κs r e. record { answer = r; list = now (e .1 .1 .1 .1 .0) })
     -- `builders::difference_list`
@@ -136,8 +138,8 @@ module _ {M : Type 1} (𝓤 : URA M) (H : Heap 𝓤) (A : Atoms 𝓤) (memory : 
   -- ---- the library for C
 
   pub record Library : Type 2 where
-    pub run : OneOutcome 𝓤 staran_run.ended (staran_run.clauses 𝓤 H A memory runs) {O = RunLeft} (λ κs r e. record { memory = now (e .0); registers = now (e .1 .0); out = now (e .1 .1 .1 .1 .0); answer = now (e .1 .1 .1 .1 .1 .0) })
-    pub step : OneOutcome 𝓤 staran_step.ended (staran_step.clauses 𝓤 H A memory runs) {O = StepLeft} (λ κs r e. record { memory = now (e .0); registers = now (e .1 .0); out = now (e .1 .1 .1 .0); answer = now (e .1 .1 .1 .1 .1 .0) })
+    pub run : OneOutcome 𝓤 staran_run.ended (staran_run.clauses 𝓤 H A memory runs) {O = Left (List ℕ) (List ℕ)} (λ κs r e. record { memory = now (e .0); registers = now (e .1 .0); out = now (e .1 .1 .1 .1 .0); answer = now (e .1 .1 .1 .1 .1 .0) })
+    pub step : OneOutcome 𝓤 staran_step.ended (staran_step.clauses 𝓤 H A memory runs) {O = Left Registers (List ℕ)} (λ κs r e. record { memory = now (e .0); registers = now (e .1 .0); out = now (e .1 .1 .1 .1 .0); answer = now (e .1 .1 .1 .1 .1 .0) })
     pub pass : OneOutcome 𝓤 staran_pass.ended (staran_pass.clauses 𝓤 H A memory runs) {O = PassLeft} (λ κs r e. record { passed = now (e .1 .1 .1 .0); answer = now (e .1 .1 .1 .1 .0) })
     pub wiredPass : OneOutcome 𝓤 staran_wired_pass.ended (staran_wired_pass.clauses 𝓤 H A memory runs) {O = PassLeft} (λ κs r e. record { passed = now (e .1 .1 .1 .0); answer = now (e .1 .1 .1 .1 .0) })
     pub sumList : OneOutcome 𝓤 staran_sum_list.ended (staran_sum_list.clauses 𝓤 H A memory runs) {O = BufferLeft} (λ κs r e. record { buffer = now (e .1 .1 .1 .1 .0); answer = now (e .1 .1 .1 .1 .1 .0) })

@@ -9,6 +9,7 @@ use Rattle.contents.specs.Content.{over}
 use Rattle.pictures.specs.Picture.{pictureOf}
 use Rattle.contents.proofs.RoundTrip.{all-length}
 use Rattle.pictures.proofs.PictureLaws.{length-picture}
+use Rattle.judge.specs.declared.Answer.{Answer}
 use Rattle.module.specs.Run.{Left}
 use Rattle.report.proofs.ReportLaws.{report-unique}
 use Rattle.session.specs.declared.Counts.{Counts}
@@ -32,18 +33,18 @@ absent-content kind = refl
 -- ---- after.pic
 
 -- a run that is refused writes none
-pub refused-run : (s : Left) → (s .answer .number ≡ 0 → ⊥) → finished s .after ≡ []
+pub refused-run : (s : Left (List ℕ) Answer) → (s .answer .number ≡ 0 → ⊥) → finished s .after ≡ []
 unfolding finished
-refused-run s u = after-none (s .answer .number) (s .mem) (s .regs) u
+refused-run s u = after-none (s .answer .number) (s .memory) (s .registers) u
 
 -- a run that is done writes the picture of the memory and the registers that it left: 17 blocks
-pub done-run : (s : Left) → s .answer .number ≡ 0 → finished s .after ≡ blocksOf 1 (pictureOf (s .mem) (s .regs))
+pub done-run : (s : Left (List ℕ) Answer) → s .answer .number ≡ 0 → finished s .after ≡ blocksOf 1 (pictureOf (s .memory) (s .registers))
 unfolding finished
-done-run s z = after-done (s .answer .number) (s .mem) (s .regs) z
+done-run s z = after-done (s .answer .number) (s .memory) (s .registers) z
 
-pub done-size : (s : Left) → s .answer .number ≡ 0 → length (s .regs) ≡ 96 → length (finished s .after) ≡ 8704
+pub done-size : (s : Left (List ℕ) Answer) → s .answer .number ≡ 0 → length (s .registers) ≡ 96 → length (finished s .after) ≡ 8704
 done-size s z l =
-    ap length (done-run s z) ∙ all-length 1 (pictureOf (s .mem) (s .regs)) ∙ ap (λ (k : ℕ). 512 * blockCount k) (length-picture (s .mem) (s .regs) l)
+    ap length (done-run s z) ∙ all-length 1 (pictureOf (s .memory) (s .registers)) ∙ ap (λ (k : ℕ). 512 * blockCount k) (length-picture (s .memory) (s .registers) l)
 
 -- where none is written its buffer stays
 pub no-picture : (o : Outcome) (before : List ℕ) → o .after ≡ [] → over (o .after) before ≡ before

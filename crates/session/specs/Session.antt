@@ -7,7 +7,8 @@ use lib.ListN.{length, take, drop}
 use Rattle.contents.specs.declared.Moved.{Moved}
 use Rattle.contents.specs.File.{done, refused, contentOf, fileJudged, blocksOf}
 use Rattle.pictures.specs.Picture.{pictureOf, scrambled}
-use Rattle.module.specs.Run.{Left, ran}
+use Rattle.judge.specs.declared.Answer.{Answer}
+use Rattle.module.specs.Run.{Lent, Left, ran}
 use Rattle.report.specs.Report.{printed}
 use Rattle.session.specs.declared.Found.{Found}
 use Rattle.session.specs.declared.Found.the-variants.{Absent, Failed, Bytes}
@@ -65,16 +66,27 @@ unfoldable pub afterOf : ℕ → List ℕ → List ℕ → List ℕ
 afterOf number mem regs = cond (eqb number 0) (blocksOf 1 (pictureOf mem regs)) []
 
 -- "Otherwise there is one r line. After a run that is done, each given item follows": a run that is refused has given none.
-unfoldable pub finished : Left → Outcome
+unfoldable pub finished : Left (List ℕ) Answer → Outcome
 finished s =
     record {
       text = printed 114 (s .answer .number) (s .answer .place) (s .answer .steps) (s .answer .taken) (s .answer .given) (s .out);
-      after = afterOf (s .answer .number) (s .mem) (s .regs);
+      after = afterOf (s .answer .number) (s .memory) (s .registers);
     }
 
 -- "Has 8,192 out bytes."
 unfoldable pub outBytes : List ℕ
 outBytes = replicate 8192 0
+
+-- What the run is lent: the contents of the three files, and those out bytes.
+abbrev pub lentBy : File → File → File → Lent (List ℕ)
+lentBy picture list items =
+    record {
+      memory = scrambled (contentIn picture);
+      registers = drop 8192 (contentIn picture);
+      list = contentIn list;
+      items = contentIn items;
+      out = outBytes;
+    }
 
 -- "It reads before.pic, run.lst and in.itm in that order", and runs: the letters are p, l and i.
 unfoldable pub outcome : File → File → File → Outcome
@@ -82,4 +94,4 @@ outcome picture list items =
     cond (not (eqb (pictureAnswer picture .number) 0)) (onlyLine 112 (pictureAnswer picture))
     (cond (not (eqb (contentAnswer 2 list .number) 0)) (onlyLine 108 (contentAnswer 2 list))
     (cond (not (eqb (contentAnswer 3 items .number) 0)) (onlyLine 105 (contentAnswer 3 items))
-    (finished (ran (scrambled (contentIn picture)) (drop 8192 (contentIn picture)) (contentIn list) (contentIn items) outBytes))))
+    (finished (ran (lentBy picture list items)))))

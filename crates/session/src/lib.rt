@@ -158,8 +158,15 @@ fn finish(
     text: &mut [u8],
 ) -> Counts
     requires { ⌜ (length (now memory) ≡ 8192) × (length (now registers) ≡ 96) × (length (now out) ≡ 8192) × (length (now after) ≡ 8704) × (16697 ≤ length (now text)) ⌝ }
-    ensures text { λ r. ⌜ Shown (finished (ran (now (memory .entry)) (now (registers .entry)) (now (list .entry)) (now (items .entry)) (now (out .entry)))) r (now (text .entry)) (now (text .exit)) ⌝ }
-    ensures after { λ r. ⌜ now (after .exit) ≡ over (finished (ran (now (memory .entry)) (now (registers .entry)) (now (list .entry)) (now (items .entry)) (now (out .entry))) .after) (now (after .entry)) ⌝ }
+    ensures text { λ r. ⌜
+        Shown (finished (ran (record { memory = now (memory .entry); registers = now (registers .entry); list = now (list .entry); items = now (items .entry); out = now (out .entry) })))
+        r (now (text .entry)) (now (text .exit))
+        ⌝ }
+    ensures after { λ r. ⌜
+        now (after .exit)
+        ≡ over (finished (ran (record { memory = now (memory .entry); registers = now (registers .entry); list = now (list .entry); items = now (items .entry); out = now (out .entry) })) .after)
+        (now (after .entry))
+        ⌝ }
 {
     let a = module::run(memory, registers, list, items, out);
     let n = print_run(a, out, text);

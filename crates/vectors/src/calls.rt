@@ -80,7 +80,7 @@ fn call_step(
         return only(0);
     }
     let old = module::parts::registers_of(registers);
-    let r = advance(memory, out, items, old, instruction);
+    let r = advance(memory, old, instruction, items, out);
     let answer = r.answer;
     let regs = r.regs;
     module::parts::write_registers(registers, regs);
