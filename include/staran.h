@@ -214,16 +214,16 @@ void staran_run(uint8_t *memory, size_t memory_length, uint8_t *registers, size_
  *
  * memory        8,192 bytes, else 1
  * registers     the record; it is updated where it stands. 2 is never given
+ * instruction   exactly 8 bytes, else 3
  * items         a multiple of 32 bytes, at most 32,768, else 4; the step takes the first, if it takes one
  * out           any length; the step gives to its first 32 bytes, if it gives
- * instruction   exactly 8 bytes, else 3
  * answer        number, place, steps, taken, given
  *
  * Judged: 1, 3, 4, then 5 to 11, then 12, then 13. The place is always 0.
  * Done: steps is 1; taken and given are 0 or 1. Refused: all three are 0, and memory, registers and out are as they were.
  * Stack: at most 2,560 bytes. */
-void staran_step(uint8_t *memory, size_t memory_length, staran_registers *registers, const uint8_t *items, size_t items_length,
-                 uint8_t *out, size_t out_length, const uint8_t *instruction, size_t instruction_length,
+void staran_step(uint8_t *memory, size_t memory_length, staran_registers *registers, const uint8_t *instruction,
+                 size_t instruction_length, const uint8_t *items, size_t items_length, uint8_t *out, size_t out_length,
                  uint32_t answer[STARAN_RUN_NUMBERS]);
 
 /* Passes an item through the network, in arithmetic form: line I goes to I xor flip, and then by the shift that code names (byte 6 of

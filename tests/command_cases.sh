@@ -200,6 +200,17 @@ bare good; [ $status -eq 0 ] && [ ! -s "$work/err" ]; judge "no python3: a folde
 bare; [ $status -eq 0 ] && grep -qx 'r 0 0 163 1 1' "$work/out" && grep -q 'python3 is not on PATH' "$work/err"; judge "no python3: the demonstration says so" $?
 bare why bad; [ $status -eq 1 ] && grep -q 'no mode was given' "$work/out" && grep -q 'python3 is not on PATH' "$work/err"; judge "no python3: why says what it can, and so" $?
 
+# ---- the list that docs/MACHINE.md works through: its commands as they stand there, and what it says they print
+mkdir page; ln -s "$here/tests" page/tests; ln -s "$staran" page/staran
+sed -n '/^    mkdir first/,/^    .\/staran first/s/^    //p' "$here/docs/MACHINE.md" >page/commands
+awk '/^It prints$/ { on = 1; next } on && /^    / { print substr($0, 5); seen = 1; next } on && seen { exit }' "$here/docs/MACHINE.md" >page/want
+call sh -c 'cd page && sh -eu commands'
+[ $status -eq 0 ] && [ "$(wc -l <page/want)" -eq 4 ] && cmp -s page/want out; judge "the manual's first list" $?
+# the bytes of its table are those of its commands
+# shellcheck disable=SC2016
+grep -oE '^\| [0-9] \| `([0-9A-F]{2} ){7}[0-9A-F]{2}`' "$here/docs/MACHINE.md" | sed 's/.*`\(.*\)`/\1/' | tr -d ' ' >page/bytes
+"$blocks" list page/again "$(cat page/bytes)" && cmp -s page/again page/first/run.lst; judge "and its table" $?
+
 # ---- make_blocks.py
 mkdir made
 call "$blocks" picture made/p; [ $status -eq 0 ] && cp made/p made/q; judge "a picture is made" $?

@@ -102,6 +102,7 @@ int main(void)
     uint8_t before[sizeof memory];
     memcpy(before, memory, sizeof memory);
     wrong += run("a store without a mode:", no_mode, sizeof no_mode) != STARAN_REFUSED_NO_MODE;
+    printf("%-28s %s\n", "what that number means:", staran_meaning(STARAN_REFUSED_NO_MODE));
     int moved = memcmp(before, memory, sizeof memory) != 0;
     printf("the memory moved: %s\n", moved ? "yes" : "no");
     return wrong + moved != 0;

@@ -156,7 +156,7 @@ static void step_once(size_t memory, size_t instruction, size_t items, size_t ou
     fill_with(LIST, deliver_outside);
     expect_run(1, expected);
     answer = lend_answer(5, end);
-    staran_step(WHOLE(MEMORY), (staran_registers *)(void *)buffers[REGISTERS].bytes, WHOLE(ITEMS), WHOLE(OUT), WHOLE(LIST), answer);
+    staran_step(WHOLE(MEMORY), (staran_registers *)(void *)buffers[REGISTERS].bytes, WHOLE(LIST), WHOLE(ITEMS), WHOLE(OUT), answer);
     settle(answer, 5, expected);
 }
 
@@ -225,7 +225,7 @@ static void refused_instructions(int step)
         lend(OUT, 96, end);
         answer = lend_answer(5, end);
         if (step)
-            staran_step(WHOLE(MEMORY), (staran_registers *)(void *)buffers[REGISTERS].bytes, WHOLE(ITEMS), WHOLE(OUT), WHOLE(LIST), answer);
+            staran_step(WHOLE(MEMORY), (staran_registers *)(void *)buffers[REGISTERS].bytes, WHOLE(LIST), WHOLE(ITEMS), WHOLE(OUT), answer);
         else
             staran_run(WHOLE(MEMORY), WHOLE(REGISTERS), WHOLE(LIST), WHOLE(ITEMS), WHOLE(OUT), answer);
         settle(answer, 5, expected);
@@ -256,7 +256,7 @@ static void record_order(void)
         if ((uint8_t *)record->m != buffers[REGISTERS].bytes || record->x != record->m + 32 || record->y != record->m + 64 || sizeof *record != 96)
             wrong("the record is not 96 bytes, M, X, Y");
         answer = lend_answer(5, end);
-        staran_step(WHOLE(MEMORY), record, WHOLE(ITEMS), WHOLE(OUT), WHOLE(LIST), answer);
+        staran_step(WHOLE(MEMORY), record, WHOLE(LIST), WHOLE(ITEMS), WHOLE(OUT), answer);
         settle(answer, 5, expected);
     }
     function("step, record");
@@ -536,10 +536,10 @@ static void refused_long(uint8_t *far, size_t long_by)
     LONG_CALL(run(WHOLE(MEMORY), far, long_by + 96, WHOLE(LIST), WHOLE(ITEMS), WHOLE(OUT), answer), 5, 2);
     LONG_CALL(run(WHOLE(MEMORY), WHOLE(REGISTERS), far, long_by + 8, WHOLE(ITEMS), WHOLE(OUT), answer), 5, 3);
     LONG_CALL(run(WHOLE(MEMORY), WHOLE(REGISTERS), WHOLE(LIST), far, long_by + 32, WHOLE(OUT), answer), 5, 4);
-    LONG_CALL(step(far, long_by + 8192, record, WHOLE(ITEMS), WHOLE(OUT), WHOLE(LIST), answer), 5, 1);
-    LONG_CALL(step(WHOLE(MEMORY), record, WHOLE(ITEMS), WHOLE(OUT), far, long_by + 8, answer), 5, 3);
+    LONG_CALL(step(far, long_by + 8192, record, WHOLE(LIST), WHOLE(ITEMS), WHOLE(OUT), answer), 5, 1);
+    LONG_CALL(step(WHOLE(MEMORY), record, far, long_by + 8, WHOLE(ITEMS), WHOLE(OUT), answer), 5, 3);
     lend_bytes(LIST, deliver_outside, 8, LAST);
-    LONG_CALL(step(WHOLE(MEMORY), record, far, long_by + 32, WHOLE(OUT), WHOLE(LIST), answer), 5, 4);
+    LONG_CALL(step(WHOLE(MEMORY), record, WHOLE(LIST), far, long_by + 32, WHOLE(OUT), answer), 5, 4);
     LONG_CALL(read_content(STARAN_CONTENT_LIST, far, long_by + 512, WHOLE(OUT), answer), 3, 20);
     LONG_CALL(read_picture(STARAN_CONTENT_PICTURE, far, long_by + 8704, WHOLE(MEMORY), WHOLE(REGISTERS), answer), 3, 20);
     LONG_CALL(write_content(STARAN_CONTENT_LIST, far, long_by + 8, WHOLE(OUT), answer), 3, 26);
@@ -590,7 +590,7 @@ static void done_long(uint8_t *far, size_t long_by)
     LONG_CALL(run(WHOLE(MEMORY), WHOLE(REGISTERS), WHOLE(LIST), WHOLE(ITEMS), far, long_by + 31, answer), 5, 0, 0, 1, 1, 1);
     written_long(far, long_by, buffers[ITEMS].bytes, 32);
     staran_registers *record = (staran_registers *)(void *)buffers[REGISTERS].bytes;
-    LONG_CALL(step(WHOLE(MEMORY), record, WHOLE(ITEMS), far, long_by, WHOLE(LIST), answer), 5, 0, 0, 1, 1, 1);
+    LONG_CALL(step(WHOLE(MEMORY), record, WHOLE(LIST), WHOLE(ITEMS), far, long_by, answer), 5, 0, 0, 1, 1, 1);
     written_long(far, long_by, buffers[ITEMS].bytes, 32);
     model_list(1, 0, 64, 128, 64, made, 2568);
     LONG_CALL(sum_list(0, 64, 128, 64, far, long_by, answer), 2, 0, 2568);

@@ -155,7 +155,7 @@ static unsigned call(const outside_case *c, int end, uint32_t words[WORDS])
         return 1u << MEMORY | 1u << REGISTERS | 1u << OUT;
     case 1:
         a = lend_answer(5, end);
-        staran_step(WHOLE(MEMORY), (staran_registers *)(void *)buffers[REGISTERS].bytes, WHOLE(ITEMS), WHOLE(OUT), WHOLE(LIST), a);
+        staran_step(WHOLE(MEMORY), (staran_registers *)(void *)buffers[REGISTERS].bytes, WHOLE(LIST), WHOLE(ITEMS), WHOLE(OUT), a);
         memcpy(words, a, 20);
         return 1u << MEMORY | 1u << REGISTERS | 1u << OUT;
     case 2:

@@ -35,8 +35,8 @@ static void call(const char *name, const uint8_t *list, size_t length, size_t it
         expect(number, answer);
         if (length == STARAN_INSTRUCTION_BYTES) {
             snprintf(calling, sizeof calling, "step that writes nothing: %s", name);
-            staran_step(buffers[MEMORY].bytes, buffers[MEMORY].length, (staran_registers *)buffers[REGISTERS].bytes, buffers[ITEMS].bytes, items, buffers[OUT].bytes, out,
-                        buffers[LIST].bytes, length, answer);
+            staran_step(buffers[MEMORY].bytes, buffers[MEMORY].length, (staran_registers *)buffers[REGISTERS].bytes, buffers[LIST].bytes, length, buffers[ITEMS].bytes, items,
+                        buffers[OUT].bytes, out, answer);
             expect(number, answer);
         }
         open_rooms();

@@ -75,7 +75,7 @@ static int call(const char *name, size_t length)
     else if (strcmp(name, "judge") == 0)
         run(many, sizeof many);
     else if (strcmp(name, "step") == 0)
-        staran_step(memory, sizeof memory, &record, item, 0, out, sizeof out, list, STARAN_INSTRUCTION_BYTES, answer);
+        staran_step(memory, sizeof memory, &record, list, STARAN_INSTRUCTION_BYTES, item, 0, out, sizeof out, answer);
     else if (strcmp(name, "read-list") == 0)
         read_list(sizeof file);
     else if (strcmp(name, "read-damaged") == 0) {

@@ -27,7 +27,7 @@ static void run(size_t k)
 {
     staran_run(memory, sizeof memory, registers, sizeof registers, kinds[k], sizeof kinds[k], items, sizeof items, out, sizeof out, answer);
 }
-static void step(size_t k) { staran_step(memory, sizeof memory, &record, items, sizeof items, out, sizeof out, kinds[k], sizeof kinds[k], answer); }
+static void step(size_t k) { staran_step(memory, sizeof memory, &record, kinds[k], sizeof kinds[k], items, sizeof items, out, sizeof out, answer); }
 static void pass(size_t k) { staran_pass(item, k == 0 ? 90 : 0, 0x83, passed, answer); }
 static void wired_pass(size_t k) { staran_wired_pass(item, k == 0 ? 90 : 0, 0x83, passed, answer); }
 static void sum_list(size_t k) { staran_sum_list(0, 32, k == 0 ? 64 : 1, WIDTH, list, sizeof list, answer); }

@@ -160,8 +160,8 @@ void staran_run(uint8_t *memory, size_t memory_length, uint8_t *registers, size_
         run_list(memory, registers, registers + 32, registers + 64, list, list_length / 8, items, out);
 }
 
-void staran_step(uint8_t *memory, size_t memory_length, staran_registers *registers, const uint8_t *items, size_t items_length, uint8_t *out,
-                 size_t out_length, const uint8_t *instruction, size_t instruction_length, uint32_t answer[5])
+void staran_step(uint8_t *memory, size_t memory_length, staran_registers *registers, const uint8_t *instruction, size_t instruction_length,
+                 const uint8_t *items, size_t items_length, uint8_t *out, size_t out_length, uint32_t answer[5])
 {
     if (memory_length == MEMORY && instruction_length != 8)
         give(answer, STARAN_REFUSED_LIST_LENGTH, 0, 0, 0, 0);
