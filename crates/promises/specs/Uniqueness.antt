@@ -123,9 +123,9 @@ module _ {M : Type 1} (𝓤 : URA M) (H : Heap 𝓤) (A : Atoms 𝓤) (memory : 
     pub sumList : OneOutcome 𝓤 sum_list.ended (sum_list.clauses 𝓤 H A memory runs) {O = Buffer} (λ κs r e. record { answer = r; list = now (e .1 .1 .1 .1 .0) })
     -- `builders::difference_list`
     pub differenceList : OneOutcome 𝓤 difference_list.ended (difference_list.clauses 𝓤 H A memory runs) {O = Buffer} (λ κs r e. record { answer = r; list = now (e .1 .1 .1 .1 .0) })
-    -- `pictures::read_content`
+    -- `contents::read_content`
     pub readContent : OneOutcome 𝓤 read_content.ended (read_content.clauses 𝓤 H A memory runs) {O = ContentLeft} (λ κs r e. record { answer = r; buffer = now (e .1 .1 .0) })
-    -- `pictures::write_content`
+    -- `contents::write_content`
     pub writeContent : OneOutcome 𝓤 write_content.ended (write_content.clauses 𝓤 H A memory runs) {O = ContentLeft} (λ κs r e. record { answer = r; buffer = now (e .1 .1 .0) })
     -- `pictures::read_picture`
     pub readPicture : OneOutcome 𝓤 read_picture.ended (read_picture.clauses 𝓤 H A memory runs) {O = PictureLeft} (λ κs r e. record { answer = r; memory = now (e .1 .1 .0); registers = now (e .1 .1 .1 .0) })
