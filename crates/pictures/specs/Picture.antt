@@ -8,7 +8,7 @@ use Rattle.contents.specs.declared.Moved.{Moved}
 use Rattle.contents.specs.File.{pictureKind, pictureBytes, contentOf, blocksOf}
 use Rattle.contents.specs.Content.{readAnswer, writeAnswer, changed, over, ContentLeft}
 -- The words of a scrambled memory in plain order, and the scrambled memory of the words that a content begins with.
-unfoldable pub use Rattle.memory.specs.Plain.{plainWords, scrambled}
+unfoldable pub use Rattle.words.specs.Plain.{plainWords, scrambled}
 
 -- The bytes of a picture's words, which are a memory's, and of its registers, behind them.
 abbrev pub pictureWords : ℕ

@@ -45,7 +45,7 @@ fn unload_picture(bytes: &[u8], memory: &mut [u8], registers: &mut [u8])
     while v < 32 {
         let mut words = [0u8; 256];
         contents::part_of(bytes, 256 * v, &mut words);
-        memory::words_in(memory, v, &words);
+        words::words_in(memory, v, &words);
         v += 1;
     }
     contents::part_of(bytes, WORDS, registers);
@@ -77,7 +77,7 @@ fn put_picture(memory: &[u8], registers: &[u8], out: &mut [u8])
 {
     let mut v: usize = 0;
     while v < 32 {
-        let words = memory::words_out(memory, v);
+        let words = words::words_out(memory, v);
         contents::put_part(&words, 256 * v, out);
         v += 1;
     }
