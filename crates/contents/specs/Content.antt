@@ -6,7 +6,8 @@ use Prim.Native.Nat.{ℕ, _*_}
 use lib.Dec.{eqb, leb, ltb}
 use lib.ListN.{length, drop}
 use Rattle.contents.specs.declared.Moved.{Moved}
-use Rattle.contents.specs.File.{done, refused, contentOf, kindRight, sizeFits, fileJudged, blockCount, blocksOf}
+use Rattle.blocks.specs.Block.{blockBytes}
+use Rattle.contents.specs.File.{pictureKind, done, refused, contentOf, kindRight, sizeFits, fileJudged, blockCount, blocksOf}
 
 -- Reading: a file that stands when judged is refused with 26 if its targets do not fit.
 unfoldable pub readAnswer : ℕ → List ℕ → Bool → Moved
@@ -19,8 +20,8 @@ unfoldable pub writeAnswer : ℕ → Bool → ℕ → ℕ → Moved
 writeAnswer kind fits size room =
     cond (not (kindRight kind)) (refused 22 0)
     (cond (not fits) (refused 26 0)
-    (cond (ltb room (512 * blockCount size)) (refused 27 0)
-    (done (512 * blockCount size))))
+    (cond (ltb room (blockBytes * blockCount size)) (refused 27 0)
+    (done (blockBytes * blockCount size))))
 
 -- "Targets change only on success": what a target holds after an answer, new or old.
 abbrev pub changed : Moved → List ℕ → List ℕ → List ℕ
@@ -34,11 +35,11 @@ over new old = new ++ drop (length new) old
 
 -- The target is not too short.
 abbrev pub targetFits : ℕ → List ℕ → List ℕ → Bool
-targetFits kind bytes target = ltb 1 kind && leb (length (contentOf bytes)) (length target)
+targetFits kind bytes target = ltb pictureKind kind && leb (length (contentOf bytes)) (length target)
 
 -- The content is of the right size.
 abbrev pub contentFits : ℕ → List ℕ → Bool
-contentFits kind content = ltb 1 kind && sizeFits kind (length content)
+contentFits kind content = ltb pictureKind kind && sizeFits kind (length content)
 
 -- What an entry leaves that writes to one buffer: its answer, and the buffer.
 pub record ContentLeft : Type 0 where

@@ -4,7 +4,7 @@ use mathlib.Core.Bool.{true}
 use mathlib.Core.List.{List}
 use Prim.Native.Nat.{ℕ, _/_, _<_}
 use lib.ListN.{length}
-use Rattle.blocks.specs.Block.{fault}
+use Rattle.blocks.specs.Block.{blockBytes, fault}
 use Rattle.contents.specs.declared.Moved.{Moved}
 use Rattle.contents.specs.File.{blockAt, kindRight, lengthRight}
 
@@ -22,8 +22,8 @@ GoodBelow kind bytes count n = (j : ℕ) → j < n → fault (blockAt bytes j) k
 
 -- The kind and the length are right, block k is there, those before it are good at their places, and the row holds of it.
 abbrev pub MetBlock : ℕ → List ℕ → ℕ → (List ℕ → Type 0) → Type 0
-MetBlock kind bytes k row = Asked kind bytes × (k < length bytes / 512) × GoodBelow kind bytes (length bytes / 512) k × row (blockAt bytes k)
+MetBlock kind bytes k row = Asked kind bytes × (k < length bytes / blockBytes) × GoodBelow kind bytes (length bytes / blockBytes) k × row (blockAt bytes k)
 
 -- The kind and the length are right, and every block is good at its place.
 abbrev pub Sound : ℕ → List ℕ → Type 0
-Sound kind bytes = Asked kind bytes × GoodBelow kind bytes (length bytes / 512) (length bytes / 512)
+Sound kind bytes = Asked kind bytes × GoodBelow kind bytes (length bytes / blockBytes) (length bytes / blockBytes)

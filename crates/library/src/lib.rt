@@ -119,9 +119,10 @@ pub extern "C" fn staran_read_content(
     target: &mut [u8],
     answer: &mut [u32; 3],
 )
-    ensures { λ _. ⌜ record { buffer = now (target .exit); answer = now (answer .exit) } ≡ readLeft kind (now (bytes .entry)) (now (target .entry)) ⌝ }
+    ensures { λ _. ⌜ record { buffer = now (target .exit); answer = now (answer .exit) }
+        ≡ readLeft kind (now (bytes .entry)) (now (target .entry)) ⌝ }
 {
-    let r = pictures::read_content(kind, bytes, target);
+    let r = contents::read_content(kind, bytes, target);
     *answer = answers::three(r);
 }
 
@@ -133,9 +134,10 @@ pub extern "C" fn staran_write_content(
     out: &mut [u8],
     answer: &mut [u32; 3],
 )
-    ensures { λ _. ⌜ record { buffer = now (out .exit); answer = now (answer .exit) } ≡ writeLeft kind (now (content .entry)) (now (out .entry)) ⌝ }
+    ensures { λ _. ⌜ record { buffer = now (out .exit); answer = now (answer .exit) }
+        ≡ writeLeft kind (now (content .entry)) (now (out .entry)) ⌝ }
 {
-    let r = pictures::write_content(kind, content, out);
+    let r = contents::write_content(kind, content, out);
     *answer = answers::three(r);
 }
 
@@ -148,7 +150,8 @@ pub extern "C" fn staran_read_picture(
     registers: &mut [u8],
     answer: &mut [u32; 3],
 )
-    ensures { λ _. ⌜ record { memory = now (memory .exit); registers = now (registers .exit); answer = now (answer .exit) } ≡ readPictureLeft kind (now (bytes .entry)) (now (memory .entry)) (now (registers .entry)) ⌝ }
+    ensures { λ _. ⌜ record { memory = now (memory .exit); registers = now (registers .exit); answer = now (answer .exit) }
+        ≡ readPictureLeft kind (now (bytes .entry)) (now (memory .entry)) (now (registers .entry)) ⌝ }
 {
     let r = pictures::read_picture(kind, bytes, memory, registers);
     *answer = answers::three(r);
@@ -163,7 +166,8 @@ pub extern "C" fn staran_write_picture(
     out: &mut [u8],
     answer: &mut [u32; 3],
 )
-    ensures { λ _. ⌜ record { buffer = now (out .exit); answer = now (answer .exit) } ≡ writePictureLeft kind (now (memory .entry)) (now (registers .entry)) (now (out .entry)) ⌝ }
+    ensures { λ _. ⌜ record { buffer = now (out .exit); answer = now (answer .exit) }
+        ≡ writePictureLeft kind (now (memory .entry)) (now (registers .entry)) (now (out .entry)) ⌝ }
 {
     let r = pictures::write_picture(kind, memory, registers, out);
     *answer = answers::three(r);

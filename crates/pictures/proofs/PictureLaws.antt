@@ -12,7 +12,7 @@ use borrow.Author.Tests.{eqb-true}
 use Rattle.bits.specs.Steps.{putAt}
 use Rattle.bits.proofs.Puts.{put-nil, put-put, put-all, length-put, put-bytes}
 use Rattle.blocks.proofs.BlockLaws.{and-left, and-right}
-use Rattle.memory.proofs.PlainLaws.{length-plain, plain-bytes, scrambled-front, plain-scrambled, scrambled-plain}
+use Rattle.words.proofs.PlainLaws.{length-plain, plain-bytes, scrambled-front, plain-scrambled, scrambled-plain}
 use Rattle.contents.specs.declared.Moved.{Moved}
 use Rattle.contents.specs.File.{done, contentOf, sizeFits, fileJudged, blockCount, blocksOf}
 use Rattle.contents.specs.Content.{over, changed}

@@ -10,7 +10,7 @@ use lib.Seq.{take-at, drop-at}
 use borrow.Author.Tests.{le-leb, eq-eqb}
 use Rattle.blocks.specs.Sums.{at}
 use Rattle.blocks.proofs.BlockLaws.{and-left, and-right}
-use Rattle.memory.proofs.PlainLaws.{length-plain, length-scrambled}
+use Rattle.words.proofs.PlainLaws.{length-plain, length-scrambled}
 use Rattle.contents.specs.declared.Moved.{Moved}
 use Rattle.contents.specs.File.{done, contentOf, kindRight, sizeFits, fileJudged, blockCount, blocksOf}
 use Rattle.contents.specs.Content.{readAnswer, writeAnswer, changed, over, targetFits, contentFits, contentRead, contentWritten}

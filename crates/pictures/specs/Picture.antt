@@ -5,10 +5,17 @@ use Prim.Native.Nat.{ℕ}
 use lib.Dec.{eqb}
 use lib.ListN.{length, drop}
 use Rattle.contents.specs.declared.Moved.{Moved}
-use Rattle.contents.specs.File.{contentOf, blocksOf}
+use Rattle.contents.specs.File.{pictureKind, pictureBytes, contentOf, blocksOf}
 use Rattle.contents.specs.Content.{readAnswer, writeAnswer, changed, over, ContentLeft}
 -- The words of a scrambled memory in plain order, and the scrambled memory of the words that a content begins with.
-unfoldable pub use Rattle.memory.specs.Plain.{plainWords, scrambled}
+unfoldable pub use Rattle.words.specs.Plain.{plainWords, scrambled}
+
+-- The bytes of a picture's words, which are a memory's, and of its registers, behind them.
+abbrev pub pictureWords : ℕ
+pictureWords = 8192
+
+abbrev pub pictureRegisters : ℕ
+pictureRegisters = 96
 
 -- The content of a picture.
 abbrev pub pictureOf : List ℕ → List ℕ → List ℕ
@@ -16,7 +23,7 @@ pictureOf memory registers = plainWords memory ++ registers
 
 -- The two buffers of a picture: "exactly 8,192 and 96". Another kind asked for here has no buffers that fit (docs/DECISIONS.md).
 abbrev pub pictureFits : ℕ → ℕ → ℕ → Bool
-pictureFits kind memory registers = eqb kind 1 && eqb memory 8192 && eqb registers 96
+pictureFits kind memory registers = eqb kind pictureKind && eqb memory pictureWords && eqb registers pictureRegisters
 
 -- What `read_picture` leaves: its answer, and the two buffers.
 pub record PictureLeft : Type 0 where
@@ -30,11 +37,11 @@ pictureRead kind bytes memory registers =
     record {
       answer = a;
       memory = changed a (scrambled (contentOf bytes)) memory;
-      registers = changed a (drop 8192 (contentOf bytes)) registers;
+      registers = changed a (drop pictureWords (contentOf bytes)) registers;
     }
 
 -- What `write_picture` leaves.
 unfoldable pub pictureWritten : ℕ → List ℕ → List ℕ → List ℕ → ContentLeft
 pictureWritten kind memory registers out =
-    let a = writeAnswer kind (pictureFits kind (length memory) (length registers)) 8288 (length out) in
+    let a = writeAnswer kind (pictureFits kind (length memory) (length registers)) pictureBytes (length out) in
     record { answer = a; buffer = changed a (over (blocksOf kind (pictureOf memory registers)) out) out }

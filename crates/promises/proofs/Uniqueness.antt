@@ -19,7 +19,7 @@ use Rattle.report.specs.Report.{printed}
 use Rattle.session.specs.declared.Counts.{Counts}
 use Rattle.session.specs.Session.{Outcome}
 use Rattle.session.specs.Shown.{Shown}
-use Rattle.promises.specs.Uniqueness.{Sight, OneOutcome, Same, Entries, Library, Program, OfBits, OfMemory, OfNetwork, OfRegisters, OfJudge, OfModule, OfBlocks, OfContents, Uniqueness}
+use Rattle.promises.specs.Uniqueness.{Sight, OneOutcome, Same, Entries, Library, Program, OfBits, OfMemory, OfWords, OfNetwork, OfRegisters, OfJudge, OfModule, OfBlocks, OfContents, Uniqueness}
 
 -- ---- the laws
 
@@ -124,6 +124,13 @@ module _ {M : Type 1} (𝓤 : URA M) (H : Heap 𝓤) (A : Atoms 𝓤) (memory : 
         store = equation 𝓤 _ (λ κs a g r e. refl);
         storeMasked = equation 𝓤 _ (λ κs a g r e. refl);
         lineMask = equation 𝓤 _ (λ κs a g r e. refl);
+        partner = equation-and 𝓤 _ _ (λ κs a g r e. refl);
+        readAll = equation 𝓤 _ (λ κs a g r e. refl);
+      }
+
+  of-words : OfWords 𝓤 H A memory runs
+  of-words =
+      record {
         wordsOut = equation 𝓤 _ (λ κs a g r e. refl);
         wordsIn = equation 𝓤 _ (λ κs a g r e. refl);
       }
@@ -201,6 +208,7 @@ module _ {M : Type 1} (𝓤 : URA M) (H : Heap 𝓤) (A : Atoms 𝓤) (memory : 
         program = program;
         ofBits = of-bits;
         ofMemory = of-memory;
+        ofWords = of-words;
         ofNetwork = of-network;
         ofRegisters = of-registers;
         ofJudge = of-judge;

@@ -43,11 +43,11 @@ DifferenceList a b s n list list′ r = _≡_ {A = Buffer} (record { answer = r;
 
 -- ---- the disk
 
--- `pictures::read_content`
+-- `contents::read_content`
 abbrev pub ReadContent : (kind : ℕ) (bytes target target′ : List ℕ) → Moved → Type 0
 ReadContent kind bytes target target′ r = _≡_ {A = ContentLeft} (record { answer = r; buffer = target′ }) (contentRead kind bytes target)
 
--- `pictures::write_content`
+-- `contents::write_content`
 abbrev pub WriteContent : (kind : ℕ) (content out out′ : List ℕ) → Moved → Type 0
 WriteContent kind content out out′ r = _≡_ {A = ContentLeft} (record { answer = r; buffer = out′ }) (contentWritten kind content out)
 

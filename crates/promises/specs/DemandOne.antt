@@ -19,9 +19,9 @@ use Rattle.judge.specs.Numbers.{Gives, Refused, Unrefused}
 use Rattle.module.specs.Run.{Lent, Left, unmoved, runLengths, stepLengths, lentBytes, leftBytes}
 use Rattle.builders.specs.declared.Built.{Built}
 use Rattle.builders.specs.Sums.{Fields, listLength, fieldRows}
-use Rattle.blocks.specs.Block.{sumsDiffer, otherKind, misplaced, misfilled}
+use Rattle.blocks.specs.Block.{blockBytes, sumsDiffer, otherKind, misplaced, misfilled}
 use Rattle.contents.specs.declared.Moved.{Moved}
-use Rattle.contents.specs.File.{contentOf, kindRight, lengthRight, sizeFits, blockCount}
+use Rattle.contents.specs.File.{pictureBytes, contentOf, kindRight, lengthRight, sizeFits, blockCount}
 use Rattle.contents.specs.Content.{targetFits, contentFits}
 use Rattle.contents.specs.Numbers.{Answers, MetBlock, Sound}
 use Rattle.pictures.specs.Picture.{pictureFits}
@@ -71,10 +71,10 @@ pub record ReadTable (kind : ℕ) (bytes : List ℕ) (fits : Bool) (r : Moved) :
   -- "22 kind not the one asked"; and "a kind asked for that is not 1 to 3 is 22, place 0, before all else"
   pub row-22 : (k : ℕ) → Answers r 22 k ↔ ((k ≡ 0) × (kindRight kind ≡ false)) ⊎ MetBlock kind bytes k (λ b. After (sumsDiffer b ∷ []) (otherKind b kind))
   -- "23 number not its place or count not that of the blocks there"
-  pub row-23 : (k : ℕ) → Answers r 23 k ↔ MetBlock kind bytes k (λ b. After (sumsDiffer b ∷ otherKind b kind ∷ []) (misplaced b k (length bytes / 512)))
+  pub row-23 : (k : ℕ) → Answers r 23 k ↔ MetBlock kind bytes k (λ b. After (sumsDiffer b ∷ otherKind b kind ∷ []) (misplaced b k (length bytes / blockBytes)))
   -- "24 used wrong or a byte not 0 that must be"
   pub row-24 : (k : ℕ) → Answers r 24 k
-      ↔ MetBlock kind bytes k (λ b. After (sumsDiffer b ∷ otherKind b kind ∷ misplaced b k (length bytes / 512) ∷ []) (misfilled b k (length bytes / 512)))
+      ↔ MetBlock kind bytes k (λ b. After (sumsDiffer b ∷ otherKind b kind ∷ misplaced b k (length bytes / blockBytes) ∷ []) (misfilled b k (length bytes / blockBytes)))
   -- "then 25 size unfit for the kind (8,288; a list or items as in 3 and 4)"
   pub row-25 : (k : ℕ) → Answers r 25 k ↔ (k ≡ 0) × Sound kind bytes × (sizeFits kind (length (contentOf bytes)) ≡ false)
   -- "26 target too short, or for a picture not exactly 8,192 and 96"
@@ -91,9 +91,9 @@ pub record WriteTable (kind : ℕ) (fits : Bool) (size room : ℕ) (r : Moved) :
   -- "26 content of wrong size"
   pub row-26 : (k : ℕ) → Answers r 26 k ↔ (k ≡ 0) × (kindRight kind ≡ true) × (fits ≡ false)
   -- "27 output too short"
-  pub row-27 : (k : ℕ) → Answers r 27 k ↔ (k ≡ 0) × (kindRight kind ≡ true) × (fits ≡ true) × (room < 512 * blockCount size)
-  pub row-0 : (r .number ≡ 0) ↔ (kindRight kind ≡ true) × (fits ≡ true) × (512 * blockCount size ≤ room)
-  pub done-is : r .number ≡ 0 → r ≡ record { number = 0; place = 0; bytes = 512 * blockCount size }
+  pub row-27 : (k : ℕ) → Answers r 27 k ↔ (k ≡ 0) × (kindRight kind ≡ true) × (fits ≡ true) × (room < blockBytes * blockCount size)
+  pub row-0 : (r .number ≡ 0) ↔ (kindRight kind ≡ true) × (fits ≡ true) × (blockBytes * blockCount size ≤ room)
+  pub done-is : r .number ≡ 0 → r ≡ record { number = 0; place = 0; bytes = blockBytes * blockCount size }
   pub refused-is : r .number ≢ 0 → r .bytes ≡ 0
 
 -- ---- the entries
@@ -145,7 +145,7 @@ pub record DemandOne : Type 0 where
   -- `write_picture`
   pub writePicture : (kind : ℕ) (memory registers out out′ : List ℕ) (r : Moved)
       → WritePicture kind memory registers out out′ r
-      → WriteTable kind (pictureFits kind (length memory) (length registers)) 8288 (length out) r × Kept (r .number) out out′
+      → WriteTable kind (pictureFits kind (length memory) (length registers)) pictureBytes (length out) r × Kept (r .number) out out′
   -- ---- the library for C: the numbers in its answer array are those of the same tables, and a refusal leaves every other lent byte as it was
 
   -- `staran_pass` and `staran_wired_pass`: "it gives 10 and a zero item", so the item is always written
@@ -175,7 +175,7 @@ pub record DemandOne : Type 0 where
       × Kept (r .number) memory memory′ × Kept (r .number) registers registers′
   -- `staran_write_picture`
   pub libraryWritePicture : (kind : ℕ) (memory registers out out′ answer′ : List ℕ) → LibraryBuffer (writePictureLeft kind memory registers out) out′ answer′
-      → (r : Moved) × (answer′ ≡ three r) × WriteTable kind (pictureFits kind (length memory) (length registers)) 8288 (length out) r
+      → (r : Moved) × (answer′ ≡ three r) × WriteTable kind (pictureFits kind (length memory) (length registers)) pictureBytes (length out) r
       × Kept (r .number) out out′
   -- `staran_version` has no number of the tables: 1.0, and nothing else
   pub libraryVersion : (r : ℕ) → LibraryVersion r → r ≡ 65536

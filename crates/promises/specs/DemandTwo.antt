@@ -24,9 +24,9 @@ use Rattle.judge.specs.Judge.{instructionAt, takes, gives, done, judged}
 use Rattle.module.specs.Act.{State, modeOf, partAt, putPart, passedBy, acted}
 use Rattle.module.specs.Run.{Lent, unmoved, runLengths, begun, ranBy, ran}
 use Rattle.blocks.specs.Sums.{at}
-use Rattle.contents.specs.File.{done as put}
+use Rattle.contents.specs.File.{pictureKind, pictureBytes, done as put}
 use Rattle.contents.specs.Content.{over, contentRead, contentWritten}
-use Rattle.pictures.specs.Picture.{pictureRead, pictureWritten}
+use Rattle.pictures.specs.Picture.{pictureWords, pictureRegisters, pictureRead, pictureWritten}
 
 -- ---- storage, access, and the unscrambled table
 
@@ -134,13 +134,13 @@ pub record Returns : Type 0 where
       → (let r = contentRead kind bytes target in
       contentWritten kind (take (r .answer .bytes) (r .buffer)) out ≡ record { answer = put (length bytes); buffer = over bytes out })
   pub picture : (kind : ℕ) (memory registers out memory′ registers′ : List ℕ) → ((k : ℕ) → at memory k < 256)
-      → pictureWritten kind memory registers out .answer .number ≡ 0 → length memory′ ≡ 8192 → length registers′ ≡ 96
+      → pictureWritten kind memory registers out .answer .number ≡ 0 → length memory′ ≡ pictureWords → length registers′ ≡ pictureRegisters
       → (let w = pictureWritten kind memory registers out in
-      pictureRead 1 (take (w .answer .bytes) (w .buffer)) memory′ registers′ ≡ record { answer = put 8288; memory = memory; registers = registers })
+      pictureRead pictureKind (take (w .answer .bytes) (w .buffer)) memory′ registers′ ≡ record { answer = put pictureBytes; memory = memory; registers = registers })
   pub pictureAgain : (kind : ℕ) (bytes memory registers out : List ℕ) → ((k : ℕ) → at bytes k < 256)
       → pictureRead kind bytes memory registers .answer .number ≡ 0 → length bytes ≤ length out
       → (let r = pictureRead kind bytes memory registers in
-      pictureWritten 1 (r .memory) (r .registers) out ≡ record { answer = put (length bytes); buffer = over bytes out })
+      pictureWritten pictureKind (r .memory) (r .registers) out ≡ record { answer = put (length bytes); buffer = over bytes out })
 
 -- ---- the demand
 

@@ -23,8 +23,10 @@ use Rattle.memory.proofs.load as load
 use Rattle.memory.proofs.store as store
 use Rattle.memory.proofs.store_masked as store_masked
 use Rattle.memory.proofs.line_mask as line_mask
-use Rattle.memory.proofs.words_out as words_out
-use Rattle.memory.proofs.«words_in» as words-in
+use Rattle.memory.proofs.places.partner as partner
+use Rattle.memory.proofs.reading.read_all as read_all
+use Rattle.words.proofs.words_out as words_out
+use Rattle.words.proofs.«words_in» as words-in
 use Rattle.network.proofs.pass as pass
 use Rattle.network.proofs.wired_pass as wired_pass
 use Rattle.network.proofs.pass_item as pass_item
@@ -126,9 +128,9 @@ module _ {M : Type 1} (𝓤 : URA M) (H : Heap 𝓤) (A : Atoms 𝓤) (memory : 
     pub sumList : OneOutcome 𝓤 sum_list.ended (sum_list.clauses 𝓤 H A memory runs) {O = Buffer} (λ κs r e. record { answer = r; list = now (e .1 .1 .1 .1 .0) })
     -- `builders::difference_list`
     pub differenceList : OneOutcome 𝓤 difference_list.ended (difference_list.clauses 𝓤 H A memory runs) {O = Buffer} (λ κs r e. record { answer = r; list = now (e .1 .1 .1 .1 .0) })
-    -- `pictures::read_content`
+    -- `contents::read_content`
     pub readContent : OneOutcome 𝓤 read_content.ended (read_content.clauses 𝓤 H A memory runs) {O = ContentLeft} (λ κs r e. record { answer = r; buffer = now (e .1 .1 .0) })
-    -- `pictures::write_content`
+    -- `contents::write_content`
     pub writeContent : OneOutcome 𝓤 write_content.ended (write_content.clauses 𝓤 H A memory runs) {O = ContentLeft} (λ κs r e. record { answer = r; buffer = now (e .1 .1 .0) })
     -- `pictures::read_picture`
     pub readPicture : OneOutcome 𝓤 read_picture.ended (read_picture.clauses 𝓤 H A memory runs) {O = PictureLeft} (λ κs r e. record { answer = r; memory = now (e .1 .1 .0); registers = now (e .1 .1 .1 .0) })
@@ -172,6 +174,11 @@ module _ {M : Type 1} (𝓤 : URA M) (H : Heap 𝓤) (A : Atoms 𝓤) (memory : 
     pub store : OneOutcome 𝓤 store.ended (store.clauses 𝓤 H A memory runs) (λ κs r e. now (e .0))
     pub storeMasked : OneOutcome 𝓤 store_masked.ended (store_masked.clauses 𝓤 H A memory runs) (λ κs r e. now (e .0))
     pub lineMask : OneOutcome 𝓤 line_mask.ended (line_mask.clauses 𝓤 H A memory runs) (λ κs r e. r)
+    pub partner : OneOutcome 𝓤 partner.ended (partner.clauses 𝓤 H A memory runs) (λ κs r e. r)
+    pub readAll : OneOutcome 𝓤 read_all.ended (read_all.clauses 𝓤 H A memory runs) (λ κs r e. r)
+
+  -- `words`
+  pub record OfWords : Type 2 where
     pub wordsOut : OneOutcome 𝓤 words_out.ended (words_out.clauses 𝓤 H A memory runs) (λ κs r e. r)
     pub wordsIn : OneOutcome 𝓤 words-in.ended (words-in.clauses 𝓤 H A memory runs) (λ κs r e. now (e .0))
 
@@ -237,6 +244,7 @@ module _ {M : Type 1} (𝓤 : URA M) (H : Heap 𝓤) (A : Atoms 𝓤) (memory : 
     pub program : Program
     pub ofBits : OfBits
     pub ofMemory : OfMemory
+    pub ofWords : OfWords
     pub ofNetwork : OfNetwork
     pub ofRegisters : OfRegisters
     pub ofJudge : OfJudge

@@ -6,11 +6,11 @@ use denote.Ref.{now}
 use borrow.Rule.Slice.PartMut.{mid-len, same-len-mid}
 use Rattle.bits.specs.Steps.{written}
 use Rattle.bits.proofs.Writes.{written-more}
 use Rattle.memory.proofs.GroupLaws.{chip-written}
 use borrow.Author.Needs.{needs}
 use native.Mathlib.Omega.{arith}
-use Rattle.memory.proofs.ordering.put_group.Statement.{statement}
-use Rattle.memory.proofs.ordering.put_group.Tie as tie
+use Rattle.words.proofs.ordering.put_group.Statement.{statement}
+use Rattle.words.proofs.ordering.put_group.Tie as tie
 
 abbrev Inv-loop : tie.InvT-loop
 Inv-loop mem₀ k i bytes t₀ mem t = (t ≤ 8) × (length mem ≡ 8192) × (mem ≡ written (λ n. 32 * (8 * k + n) + i) (λ n o. getD bytes (32 * n + i) 0) mem₀ t)

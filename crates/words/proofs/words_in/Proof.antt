@@ -2,10 +2,10 @@
 use mathlib.Core.Path.{_∙_}
 use denote.Ref.{now}
 use native.Mathlib.Omega.{arith}
-use Rattle.memory.proofs.PlainLaws.{eight-in}
+use Rattle.words.proofs.PlainLaws.{eight-in}
 use borrow.Author.Needs.{needs}
-use Rattle.memory.proofs.words_in.Statement.{statement}
-use Rattle.memory.proofs.words_in.Tie as tie
+use Rattle.words.proofs.words_in.Statement.{statement}
+use Rattle.words.proofs.words_in.Tie as tie
 
 turned-requires : tie.Need-turned-requires
 turned-requires c κs = search needs

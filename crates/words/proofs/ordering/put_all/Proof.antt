@@ -8,8 +8,8 @@ use Rattle.bits.specs.Steps.{written}
 use Rattle.bits.proofs.Writes.{length-written, then-written}
 use borrow.Author.Needs.{needs}
 use native.Mathlib.Omega.{arith}
-use Rattle.memory.proofs.ordering.put_all.Statement.{statement}
-use Rattle.memory.proofs.ordering.put_all.Tie as tie
+use Rattle.words.proofs.ordering.put_all.Statement.{statement}
+use Rattle.words.proofs.ordering.put_all.Tie as tie
 
 abbrev Inv-loop : tie.InvT-loop
 Inv-loop mem₀ v bytes i₀ mem i = (i ≤ 32) × (length mem ≡ 8192) × (mem ≡ written (λ n. 32 * (8 * bitXor v (n / 8) + n % 8) + n / 8) (λ n o. getD bytes (32 * (n % 8) + n / 8) 0) mem₀ (8 * i))

@@ -17,11 +17,12 @@ use Rattle.bits.proofs.Items.{length-listed, getD-listed, listed-ext, listed-by
 use Rattle.bits.proofs.Puts.{put-at, put-off}
 use Rattle.bits.proofs.Writes.{length-written, written-at, written-off, written-bytes}
 use Rattle.bits.proofs.Xor.{xor-twice, xor-cancel}
 use Rattle.memory.specs.Table.{table}
 use Rattle.memory.specs.Memory.{cell}
-use Rattle.memory.specs.Plain.{plainBit, plainWords, scrambledBit, scrambled}
-use Rattle.memory.specs.Groups.{spot, lineDigit, turnedByte, turned}
+use Rattle.words.specs.Plain.{plainBit, plainWords, scrambledBit, scrambled}
+use Rattle.memory.specs.Groups.{spot, lineDigit}
+use Rattle.words.specs.Turned.{turnedByte, turned}
 use Rattle.memory.proofs.GroupLaws.{chip-group, cell-byte, place-word}
 
 -- ---- one rule for both
 

@@ -7,8 +7,8 @@ use Rattle.bits.specs.Bits.{listed}
 use Rattle.bits.proofs.Items.{fill-more, fill-done, listed-is}
 use borrow.Author.Needs.{needs}
 use native.Mathlib.Omega.{arith}
-use Rattle.memory.proofs.ordering.put_row.Statement.{statement}
-use Rattle.memory.proofs.ordering.put_row.Tie as tie
+use Rattle.words.proofs.ordering.put_row.Statement.{statement}
+use Rattle.words.proofs.ordering.put_row.Tie as tie
 
 abbrev Inv-loop : tie.InvT-loop
 Inv-loop row part₀ i₀ part i = (i ≤ 32) × (length part ≡ 32) × (take i part ≡ listed (λ k. getD row k 0) i)

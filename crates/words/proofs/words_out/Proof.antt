@@ -2,10 +2,10 @@
 use mathlib.Core.Path.{_∙_}
 use denote.Ref.{now}
 use native.Mathlib.Omega.{arith}
-use Rattle.memory.proofs.PlainLaws.{eight-out}
+use Rattle.words.proofs.PlainLaws.{eight-out}
 use borrow.Author.Needs.{needs}
-use Rattle.memory.proofs.words_out.Statement.{statement}
-use Rattle.memory.proofs.words_out.Tie as tie
+use Rattle.words.proofs.words_out.Statement.{statement}
+use Rattle.words.proofs.words_out.Tie as tie
 
 mul-read-all : tie.Need-mul-read-all
 mul-read-all c = search needs

@@ -6,12 +6,12 @@ use denote.Ref.{now}
 use borrow.Rule.Slice.PartMut.{same-len-mid}
 use Rattle.bits.specs.Bits.{listed}
 use Rattle.bits.proofs.Items.{fill-done}
-use Rattle.memory.specs.Groups.{turnedByte, turned}
-use Rattle.memory.proofs.PlainLaws.{turned-more}
+use Rattle.words.specs.Turned.{turnedByte, turned}
+use Rattle.words.proofs.PlainLaws.{turned-more}
 use borrow.Author.Needs.{needs}
 use native.Mathlib.Omega.{arith}
-use Rattle.memory.proofs.ordering.turned.Statement.{statement}
-use Rattle.memory.proofs.ordering.turned.Tie as tie
+use Rattle.words.proofs.ordering.turned.Statement.{statement}
+use Rattle.words.proofs.ordering.turned.Tie as tie
 
 abbrev Inv-loop : tie.InvT-loop
 Inv-loop bytes out₀ a₀ out a = (a ≤ 8) × (length out ≡ 256) × (take (32 * a) out ≡ listed (turnedByte bytes) (32 * a))

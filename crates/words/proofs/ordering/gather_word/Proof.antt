@@ -5,12 +5,12 @@ use lib.ListN.{take, drop}
 use denote.Ref.{now}
 use Rattle.bits.specs.Bits.{listed, digitsOf}
 use Rattle.bits.proofs.Binary.{digit-bit}
 use Rattle.memory.specs.Groups.{placeOf, lineDigit}
 use Rattle.memory.proofs.GroupLaws.{place-word, lane-digit, gather-more}
 use borrow.Author.Needs.{needs}
 use native.Mathlib.Omega.{arith}
-use Rattle.memory.proofs.reading.gather_word.Statement.{statement}
-use Rattle.memory.proofs.reading.gather_word.Tie as tie
+use Rattle.words.proofs.ordering.gather_word.Statement.{statement}
+use Rattle.words.proofs.ordering.gather_word.Tie as tie
 
 abbrev Inv-loop : tie.InvT-loop
 Inv-loop bytes addr out₀ j₀ out j = (j ≤ 8) × (out ≡ listed (λ i. digitsOf (lineDigit bytes 255 addr i) j) 32)
@@ -25,8 +25,8 @@ loop-holds c = (omega arith, refl)
 partner-requires : tie.Need-partner-requires Inv-loop μ-loop
 partner-requires c κs = search needs
 
-wide-requires : tie.Need-wide-requires Inv-loop μ-loop
-wide-requires c κs = search needs
+cast-from : tie.Need-cast-from Inv-loop μ-loop
+cast-from c = search needs
 
 mul-from : tie.Need-mul-from Inv-loop μ-loop
 mul-from c = search needs
@@ -54,15 +54,14 @@ loop-less c = search needs
 
 loop-again : tie.Need-loop-again Inv-loop μ-loop
 loop-again c =
-    let a = c .before .before .before .before .before .before .before .before .args in
-    let l = c .before .before .before .before .before .before .loop in
-    let t = c .before .before .before .before .partner in
-    let w = c .before .before .before .wide in
-    let from = 32 * w .result in (
+    let a = c .before .before .before .before .before .before .before .args in
+    let l = c .before .before .before .before .before .loop in
+    let t = c .before .before .before .partner in
+    let from = 32 * t .result in (
       omega arith,
       c .keep-lane .ensures
           ∙ gather-more (lineDigit (now (a .bytes)) 255 (a .addr)) (λ i k. digit-bit _ _) (l .out) (take (from + 32 - from) (drop from (now (a .bytes)))) (l .j) (l .j) (omega arith) (l .inv .1)
-          (λ i h. lane-digit (now (a .bytes)) 255 (a .addr) (l .j) (t .result) from (l .j) (from + 32 - from) i (t .ensures .0) (ap (λ (x : ℕ). 32 * x) (w .ensures)) (place-word (a .addr) (l .j) (omega arith) ∙ ap (placeOf 255 (a .addr)) (sym (t .ensures .0))) (omega arith)),
+          (λ i h. lane-digit (now (a .bytes)) 255 (a .addr) (l .j) (t .result) from (l .j) (from + 32 - from) i (t .ensures .0) refl (place-word (a .addr) (l .j) (omega arith) ∙ ap (placeOf 255 (a .addr)) (sym (t .ensures .0))) (omega arith)),
     )
 
 returns : tie.Need-returns Inv-loop μ-loop
@@ -79,7 +78,7 @@ gather-word-spec =
     μ-loop
     loop-holds
     partner-requires
-    wide-requires
+    cast-from
     mul-from
     add-keep-lane
     sub-keep-lane

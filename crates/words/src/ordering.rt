@@ -1,11 +1,29 @@
 // Eight neighbouring words in plain order and in the chips. Bit B of word W is location B of chip B xor W: mode 255 reads the same byte of each chip for the words 8v to 8v+7, and those 256 bytes hold the eight words turned.
-use super::reading::gather_word;
+use bits::lanes::keep_lane;
 ghost use mathlib.Core.Path.{_≡_};
 ghost use Prim.Native.Nat.{_+_, _*_, _/_, _%_, _<_};
 ghost use lib.Bits.{bitXor};
 ghost use lib.ListN.{length, getD, set};
 ghost use Rattle.bits.specs.Steps.{written};
-ghost use Rattle.memory.specs.Groups.{turned};
+ghost use Rattle.bits.specs.Bits.{listed, digitsOf};
+ghost use Rattle.memory.specs.Groups.{lineDigit};
+ghost use Rattle.words.specs.Turned.{turned};
+
+// A word gathered from the bytes read of the chips: under mode 255 line 8i + j's bit is digit j of its byte already, and no digit
+// moves.
+fn gather_word(bytes: &[u8], addr: u8) -> [u8; 32]
+    requires { ⌜ length (now bytes) ≡ 256 ⌝ }
+    ensures { λ r. ⌜ r ≡ listed (λ i. digitsOf (lineDigit (now (bytes .entry)) 255 addr i) 8) 32 ⌝ }
+{
+    let mut out = [0u8; 32];
+    let mut j: u8 = 0;
+    while j < 8 {
+        let from = 32 * (memory::partner(addr, j) as usize);
+        out = keep_lane(&out, &bytes[from..from + 32], j);
+        j += 1;
+    }
+    out
+}
 
 // The writer of a row, to which a row's part is lent by itself.
 fn put_row<'a>(row: &'a [u8], part: &mut [u8])
