@@ -19,7 +19,7 @@ use Rattle.judge.specs.declared.Instruction.{Instruction}
 use Rattle.judge.specs.Judge.{unfit, wrongKind, wrongSource, lacksTag, wrongTag, idleAccess, wrongPass, wrongLogic}
 use Rattle.module.specs.Act.{State, acted}
 use Rattle.module.specs.Run.{begun, Left, ran}
-use Rattle.module.proofs.PartLaws.{registers-bytes}
+use Rattle.registers.proofs.RowLaws.{registers-bytes}
 use Rattle.builders.specs.Lists.{logicFrom, logicAt, storeAt, encoded}
 use Rattle.builders.specs.Fields.{bitRound, bitRounds, sumByte, differenceByte, carryByte, moveByte, sumList, differenceList, Fields, builtWith}
 use Rattle.builders.specs.Word.{Word, folded, ranWord, Each, none, more}

@@ -3,6 +3,7 @@ mod forms;
 pub mod rows;
 pub mod searches;
 
+use bits::choices::number_or;
 ghost use mathlib.Core.Path.{_≡_};
 ghost use Prim.Native.Nat.{_+_, _*_, _<_, _≤_};
 ghost use lib.ListN.{length};
@@ -66,10 +67,10 @@ fn unfit(unit: usize, size: usize) -> bool
 fn length_fault(memory: usize, registers: usize, list: usize, items: usize) -> u8
     ensures { λ r. ⌜ r ≡ lengthFault memory registers list items ⌝ }
 {
-    let from4 = rows::number_or(unfit(32, items), 4, 0);
-    let from3 = rows::number_or(unfit(8, list), 3, from4);
-    let from2 = rows::number_or(!(registers == 96), 2, from3);
-    rows::number_or(!(memory == 8192), 1, from2)
+    let from4 = number_or(unfit(32, items), 4, 0);
+    let from3 = number_or(unfit(8, list), 3, from4);
+    let from2 = number_or(!(registers == 96), 2, from3);
+    number_or(!(memory == 8192), 1, from2)
 }
 
 fn refused(number: u8, place: usize) -> Answer

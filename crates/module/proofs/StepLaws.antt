@@ -16,7 +16,7 @@ use Rattle.judge.proofs.Table.{step-eight}
 use Rattle.judge.proofs.Accepted.{step-done}
 use Rattle.module.specs.Act.{State}
 use Rattle.module.specs.Run.{begun, ranBy, Left, ran, Updated, stepped}
-use Rattle.module.proofs.PartLaws.{registers-bytes, length-bytes}
+use Rattle.registers.proofs.RowLaws.{registers-bytes, length-bytes}
 
 module _ (mem : List ℕ) (r : Registers) (instruction items out : List ℕ) (a : Answer) (judge : a ≡ judgedStep (length mem) instruction (length items) (length out)) where
   pub step-accepted : a .number ≡ 0 → Accepted (length mem) 96 instruction (length items) (length out)

@@ -33,10 +33,10 @@ fn write_answer(a: Answer) {
 fn step_on(mem: &mut [u8], regs: &mut [u8], list: &[u8], items: &[u8], out: &mut [u8]) -> Answer
     requires { ⌜ length (now regs) ≡ 96 ⌝ }
 {
-    let r = module::parts::registers_of(regs);
+    let r = registers::rows::registers_of(regs);
     let s = module::advance(mem, out, items, r, list);
     let t = s.regs;
-    module::parts::write_registers(regs, t);
+    registers::rows::write_registers(regs, t);
     s.answer
 }
 
