@@ -1,30 +1,41 @@
 /* The library for C of the STARAN array: one module of 256 words by 256 bits, with its registers, its network, lists and disk blocks.
  *
- * Build it with `make library`, which proves it and writes target/staticlib/libstaran.a, for x86-64. Link that file; no other is needed.
+ * `make library` proves it and writes target/staticlib/libstaran.a, for x86-64; `make install PREFIX=..` puts that file, this header
+ * and a pkg-config file where a compiler looks. No other library is needed. docs/MACHINE.md is the machine's manual.
  *
  * WHAT HOLDS FOR EVERY FUNCTION
  *
- * - It gives nothing back as a function. It writes its answer, numbers of 32 bits, to the array `answer` that the caller lends: every one of them on
- *   every call, whatever stood there. answer[0] is always the number: 0 (done), or the refusal from the table below.
+ * - It writes its answer, numbers of 32 bits, to the array `answer` that the caller lends: every one of them on every call, whatever
+ *   stood there. answer[0] is always the number: 0 (done), or a refusal's, from staran_numbers.h. (staran_version alone takes nothing,
+ *   and gives its answer back as a function.)
+ * - "Judged" says the order in which a function looks for a refusal: the first that applies is given, and nothing after it matters.
  * - Lengths are counted in bytes. Any length and any bytes may be lent: what does not fit is refused, with a number.
  * - A refusal writes no lent byte but the answer's, not even the same one. (staran_pass and staran_wired_pass also give a zero item.)
  * - What is done changes only what is said here to change. A buffer marked const is never written.
- * - Each pointer leads to as many bytes as its length says, or as its type says where it has no length. NO POINTER MAY BE NULL, also where its length
- *   is 0: then it may lead to any byte at all, which is not touched. `answer` is aligned as uint32_t is; bytes need no alignment.
+ * - Each pointer leads to as many bytes as its length says, or as its type says where it has no length. NO POINTER MAY BE NULL, also
+ *   where its length is 0: then it may lead to any byte at all, which is not touched. `answer` is aligned as uint32_t is; bytes need
+ *   no alignment.
  * - THE BUFFERS OF ONE CALL DO NOT OVERLAP, not in one byte, the answer included. Buffers of length 0 overlap nothing.
  * - Whether pointers keep these two rules is not looked at and cannot be: a call that breaks them may do anything.
- * - Nothing is kept between calls, nothing is allocated, no file is opened and no system call is made. Calls on different buffers may run at once.
+ * - Nothing is kept between calls, nothing is allocated, no file is opened and no system call is made. Calls on different buffers may
+ *   run at once. Nothing throws, and nothing is called back.
+ * - "Stack" is how many bytes of stack a call needs at most below its caller. tests/c/run measures it; docs/PERFORMANCE.md has counts.
+ * - The calling convention is C's own on x86-64 Linux (System V): a compiler that reads this header follows it. From another language,
+ *   each parameter below is one of size_t, uint8_t, uint32_t or a pointer, in the order in which it stands, in the registers rdi,
+ *   rsi, rdx, rcx, r8 and r9, then on the stack; staran_version gives its number in eax.
  *
  * ITEMS, MEMORY, REGISTERS
  *
- * - An item is 32 bytes, 256 bits. Number k (a line, a word, a bit or a location) is bit k mod 8 of byte k div 8; bit 0 is the least significant.
- * - The memory is 8,192 bytes: 256 chips, chip C has bytes 32C to 32C + 31, which are an item of its 256 locations. Location B of chip C holds bit B of
- *   word B xor C. So bit b of word w is bit b mod 8 of byte 32 * (b xor w) + b div 8. All-zero bytes are a memory whose words are all 0.
- * - Under mode M and address G, line P meets bit ((not M) and G) xor (M and P) of word (M and G) xor ((not M) and P). Mode 0 is bit G of every word, word
- *   P on line P; mode 255 is word G, bit P on line P.
+ * - An item is 32 bytes, 256 bits. Number k (a line, a word, a bit or a location) is bit k mod 8 of byte k div 8; bit 0 is the least
+ *   significant.
+ * - The memory is 8,192 bytes: 256 chips, chip C has bytes 32C to 32C + 31, which are an item of its 256 locations. Location B of chip
+ *   C holds bit B of word B xor C. So bit b of word w is bit b mod 8 of byte 32 * (b xor w) + b div 8. All-zero bytes are a memory
+ *   whose words are all 0.
+ * - Under mode M and address G, line P meets bit ((not M) and G) xor (M and P) of word (M and G) xor ((not M) and P). Mode 0 is bit G
+ *   of every word, word P on line P; mode 255 is word G, bit P on line P.
  * - The registers are 96 bytes: M at 0 to 31, X at 32 to 63, Y at 64 to 95, an item each.
  *
- * INSTRUCTIONS, 8 bytes each
+ * INSTRUCTIONS, 8 bytes each: the names and macros below make them
  *
  *   byte 0   kind: 0 logic, 1 set M, 2 store, 3 masked store, 4 deliver, 5 resolve
  *   byte 1   source: 0 memory, 1 M, 2 X, 3 Y, 4 outside (the next 32 bytes of the lent items, for each use)
@@ -32,61 +43,31 @@
  *   byte 3   mode
  *   byte 4   address
  *   byte 5   flip F: line I moves to line I xor F
- *   byte 6   shift, after the flip: 16p + m with m < p <= 8 keeps I div 2^p and moves the rest to (rest + 2^m) mod 2^p; 0 shifts nothing
- *   byte 7   logic alone: 16 * choice + function. Function bit 2r + f is the new register bit for old bit r and passed bit f. Choice 0: X; 1: Y;
- *            2: both; 3: X where Y is 1; 4: X where the old Y is 1, and Y everywhere
+ *   byte 6   shift, after the flip: 16p + m with m < p <= 8 keeps I div 2^p and moves the rest to (rest + 2^m) mod 2^p; 0 shifts
+ *            nothing
+ *   byte 7   logic alone: 16 * choice + function. Function bit 2r + f is the new register bit for old bit r and passed bit f.
+ *            Choice 0: X; 1: Y; 2: both; 3: X where Y is 1; 4: X where the old Y is 1, and Y everywhere
  *
- * The source item makes one pass, flip and then shift. Logic joins it to X and Y; set M puts it into M; a store writes line P's bit where line P points
- * under mode and address; a masked store does so only for a bit whose M bit is 1, that of the line that the bit came from, before the flip; deliver puts
- * it into the next 32 bytes of the out buffer. Resolve delivers 1 if any bit of Y is set and else 0, then the smallest such number or 0, then thirty zeros.
- *
- * THE NUMBERS
- *
- * The numbers of one function are judged in the order in which the function names them, and the first that applies is given. */
+ * The source item makes one pass, flip and then shift. Logic joins it to X and Y; set M puts it into M; a store writes line P's bit
+ * where line P points under mode and address; a masked store does so only for a bit whose M bit is 1, that of the line that the bit
+ * came from, before the flip; deliver puts it into the next 32 bytes of the out buffer. Resolve delivers 1 if any bit of Y is set and
+ * else 0, then the smallest such number or 0, then thirty zeros. */
 #ifndef STARAN_H
 #define STARAN_H
 
 #include <stddef.h>
 #include <stdint.h>
 
+#include "staran_numbers.h" /* the numbers, STARAN_DONE and STARAN_REFUSED_.., and staran_meaning */
+
 #ifdef __cplusplus
 extern "C" {
 #endif
 
-enum {
-    STARAN_DONE = 0,
-    /* run and step; only 10 is given by a pass too */
-    STARAN_MEMORY_LENGTH = 1,    /* the memory is not 8,192 bytes */
-    STARAN_REGISTERS_LENGTH = 2, /* run: the registers are not 96 bytes */
-    STARAN_LIST_LENGTH = 3,      /* run: the list is not a multiple of 8 bytes, or over 32,768; step: the instruction is not 8 bytes */
-    STARAN_ITEMS_LENGTH = 4,     /* the items are not a multiple of 32 bytes, or over 32,768 */
-    STARAN_KIND = 5,             /* byte 0, the kind, is over 5 */
-    STARAN_SOURCE = 6,           /* byte 1, the source, is over 4; it is 0 for kind 2 or 3; it is not 0 for kind 5 */
-    STARAN_NO_MODE = 7,          /* memory is touched and byte 2, the mode tag, is 0: no mode was given. Tag 0 is not mode 0 */
-    STARAN_MODE_TAG = 8,         /* memory is touched and the mode tag is over 1 */
-    STARAN_MODE_UNUSED = 9,      /* memory is not touched, and byte 2, 3 or 4 is not 0 */
-    STARAN_SHIFT = 10,           /* byte 6 is none of the 37 shifts; it is not 0 for kind 2 or 3; byte 5 or 6 is not 0 for kind 5 */
-    STARAN_LOGIC = 11,           /* byte 7: the choice is over 4 for kind 0; byte 7 is not 0 for any other kind */
-    STARAN_ITEMS_TOO_FEW = 12,   /* an instruction with source 4 finds no item left */
-    STARAN_OUT_TOO_SHORT = 13,   /* an instruction of kind 4 or 5 finds less than 32 bytes of the out buffer left */
-    /* disk blocks */
-    STARAN_FILE_LENGTH = 20,   /* the file is 0 bytes, not a multiple of 512, or over 34,304 */
-    STARAN_BLOCK_SUMS = 21,    /* a block's sums are not those of its bytes */
-    STARAN_BLOCK_KIND = 22,    /* a block is of another kind than the one asked for; or the kind asked for is not 1 to 3 */
-    STARAN_BLOCK_NUMBER = 23,  /* a block's number is not its place, or its count is not that of the blocks there */
-    STARAN_BLOCK_FORM = 24,    /* a block's count of used payload is wrong, or a byte is not 0 that must be */
-    STARAN_CONTENT_SIZE = 25,  /* the content's size is unfit for its kind: a picture 8,288; a list as in 3; items as in 4 */
-    STARAN_LENT_LENGTH = 26,   /* reading: the target is too short, or for a picture not exactly 8,192 and 96; writing: the content is of a wrong size */
-    STARAN_OUTPUT_LENGTH = 27, /* writing: the output is shorter than the blocks */
-    /* sum and difference lists */
-    STARAN_WIDTH = 30,         /* the width is not 1 to 64 */
-    STARAN_FIELD_BEYOND = 31,  /* a start plus the width is over 256, as whole numbers */
-    STARAN_FIELDS_CROSS = 32,  /* S overlaps A without having A's start, or overlaps B without having B's */
-    STARAN_LIST_TOO_SHORT = 33 /* the list buffer is shorter than the list */
-};
-
-/* Kinds of content on disk. */
-enum { STARAN_PICTURE = 1, STARAN_LIST = 2, STARAN_ITEMS = 3 };
+/* The version of this header, and the linked library's: see staran_version. */
+#define STARAN_VERSION_MAJOR 1
+#define STARAN_VERSION_MINOR 0
+#define STARAN_VERSION (STARAN_VERSION_MAJOR * UINT32_C(65536) + STARAN_VERSION_MINOR)
 
 /* Lengths in bytes. */
 #define STARAN_MEMORY_BYTES 8192
@@ -100,8 +81,90 @@ enum { STARAN_PICTURE = 1, STARAN_LIST = 2, STARAN_ITEMS = 3 };
 #define STARAN_SUM_LIST_BYTES(n) (8 * (1 + 5 * (size_t)(n)))
 #define STARAN_DIFFERENCE_LIST_BYTES(n) (8 * (2 + 5 * (size_t)(n)))
 
-/* The length of the blocks of a list or of items of n bytes, n at most 32,768: a block has 496 bytes of payload, and no content takes one block. */
+/* The length of the blocks of a list or of items of n bytes, n at most 32,768: a block has 496 bytes of payload, and no content takes
+ * one block. */
 #define STARAN_FILE_BYTES(n) ((n) == 0 ? (size_t)512 : 512 * (((size_t)(n) + 495) / 496))
+
+/* How many numbers an answer has: of a run or a step, of reading or writing, of a list's builder, of a pass. */
+#define STARAN_RUN_NUMBERS 5
+#define STARAN_DISK_NUMBERS 3
+#define STARAN_LIST_NUMBERS 2
+#define STARAN_PASS_NUMBERS 1
+
+/* Kinds of content on disk. */
+enum { STARAN_CONTENT_PICTURE = 1, STARAN_CONTENT_LIST = 2, STARAN_CONTENT_ITEMS = 3 };
+
+/* Byte 0 of an instruction. */
+enum {
+    STARAN_KIND_LOGIC = 0,
+    STARAN_KIND_SET_M = 1,
+    STARAN_KIND_STORE = 2,
+    STARAN_KIND_MASKED_STORE = 3,
+    STARAN_KIND_DELIVER = 4,
+    STARAN_KIND_RESOLVE = 5
+};
+
+/* Byte 1. */
+enum {
+    STARAN_SOURCE_MEMORY = 0,
+    STARAN_SOURCE_M = 1,
+    STARAN_SOURCE_X = 2,
+    STARAN_SOURCE_Y = 3,
+    STARAN_SOURCE_OUTSIDE = 4
+};
+
+/* Byte 3: the two modes with a name; each of the 256 is a mode. */
+enum { STARAN_MODE_SLICE = 0, STARAN_MODE_WORD = 255 };
+
+/* Byte 7, the high half: which register takes the new bits. */
+enum {
+    STARAN_CHOICE_X = 0,
+    STARAN_CHOICE_Y = 1,
+    STARAN_CHOICE_BOTH = 2,
+    STARAN_CHOICE_X_WHERE_Y = 3,
+    STARAN_CHOICE_X_WHERE_Y_AND_Y = 4
+};
+
+/* Byte 7, the low half: what the new bit is, of the register's old bit and the item's. Each of 0 to 15 is a function. */
+enum {
+    STARAN_FUNCTION_CLEAR = 0,    /* 0 */
+    STARAN_FUNCTION_NOT_OLD = 3,  /* not old */
+    STARAN_FUNCTION_NOT_ITEM = 5, /* not item */
+    STARAN_FUNCTION_XOR = 6,      /* one of old and item, and not both */
+    STARAN_FUNCTION_AND = 8,      /* old and item */
+    STARAN_FUNCTION_EQUAL = 9,    /* both of old and item, or none */
+    STARAN_FUNCTION_ITEM = 10,    /* item */
+    STARAN_FUNCTION_OLD = 12,     /* old */
+    STARAN_FUNCTION_OR = 14,      /* old or item */
+    STARAN_FUNCTION_SET = 15      /* 1 */
+};
+
+/* Byte 6: a shift by 2^m modulo 2^p, m < p <= 8; and none. */
+#define STARAN_SHIFT(p, m) (16 * (p) + (m))
+#define STARAN_NO_SHIFT 0
+#define STARAN_NO_FLIP 0
+
+/* An instruction's eight bytes, with commas between, for an initializer: uint8_t list[] = {STARAN_STORE(..), STARAN_RESOLVE};
+ * The short ones set what must be 0 to 0. What touches memory takes mode and address; what does not is called _FROM and takes a
+ * source. */
+#define STARAN_INSTRUCTION(kind, source, tag, mode, address, flip, shift, logic) \
+    (uint8_t)(kind), (uint8_t)(source), (uint8_t)(tag), (uint8_t)(mode), (uint8_t)(address), (uint8_t)(flip), (uint8_t)(shift), \
+        (uint8_t)(logic)
+#define STARAN_LOGIC(mode, address, flip, shift, choice, function) \
+    STARAN_INSTRUCTION(STARAN_KIND_LOGIC, STARAN_SOURCE_MEMORY, 1, mode, address, flip, shift, 16 * (choice) + (function))
+#define STARAN_LOGIC_FROM(source, flip, shift, choice, function) \
+    STARAN_INSTRUCTION(STARAN_KIND_LOGIC, source, 0, 0, 0, flip, shift, 16 * (choice) + (function))
+#define STARAN_SET_M(mode, address, flip, shift) \
+    STARAN_INSTRUCTION(STARAN_KIND_SET_M, STARAN_SOURCE_MEMORY, 1, mode, address, flip, shift, 0)
+#define STARAN_SET_M_FROM(source, flip, shift) STARAN_INSTRUCTION(STARAN_KIND_SET_M, source, 0, 0, 0, flip, shift, 0)
+#define STARAN_STORE(source, mode, address, flip) \
+    STARAN_INSTRUCTION(STARAN_KIND_STORE, source, 1, mode, address, flip, STARAN_NO_SHIFT, 0)
+#define STARAN_MASKED_STORE(source, mode, address, flip) \
+    STARAN_INSTRUCTION(STARAN_KIND_MASKED_STORE, source, 1, mode, address, flip, STARAN_NO_SHIFT, 0)
+#define STARAN_DELIVER(mode, address, flip, shift) \
+    STARAN_INSTRUCTION(STARAN_KIND_DELIVER, STARAN_SOURCE_MEMORY, 1, mode, address, flip, shift, 0)
+#define STARAN_DELIVER_FROM(source, flip, shift) STARAN_INSTRUCTION(STARAN_KIND_DELIVER, source, 0, 0, 0, flip, shift, 0)
+#define STARAN_RESOLVE STARAN_INSTRUCTION(STARAN_KIND_RESOLVE, 0, 0, 0, 0, 0, 0, 0)
 
 /* The register record that a step is lent: the same 96 bytes in the same order as a run's registers. */
 typedef struct {
@@ -109,6 +172,21 @@ typedef struct {
     uint8_t x[32];
     uint8_t y[32];
 } staran_registers;
+
+#if defined(__cplusplus) && __cplusplus >= 201103L
+static_assert(sizeof(staran_registers) == STARAN_REGISTERS_BYTES, "the register record is 96 bytes");
+#elif defined(__STDC_VERSION__) && __STDC_VERSION__ >= 201112L
+_Static_assert(sizeof(staran_registers) == STARAN_REGISTERS_BYTES, "the register record is 96 bytes");
+#else
+typedef char staran_register_record_is_96_bytes[sizeof(staran_registers) == STARAN_REGISTERS_BYTES ? 1 : -1];
+#endif
+
+/* The version of the library that is linked: 65,536 times the major number, plus the minor. It takes nothing and changes nothing.
+ *
+ * A later version may write longer answers or a longer register record: see docs/CHANGELOG.md. So a program that was compiled with one
+ * version and is linked with another asks before its first call that staran_version() == STARAN_VERSION.
+ * Stack: at most 64 bytes. */
+uint32_t staran_version(void);
 
 /* Runs a list of instructions.
  *
@@ -119,57 +197,76 @@ typedef struct {
  * out         any length
  * answer      number, place, steps, taken, given
  *
- * The whole is judged before the first instruction acts: 1, 2, 3, 4 (place 0); then 5 to 11 for each instruction in turn, in this order within it; then
- * 12; then 13. The place of 5 to 11 is the number of the instruction, counted from 0; that of 12 and 13 is the first instruction that lacks its item or
- * its 32 bytes of room.
- * Done: place 0; steps is the count of instructions, taken that of the items taken (source 4), given that of the items given (kinds 4 and 5). Memory and
- * registers are as the instructions leave them; the first 32 * given bytes of out are the items given, and the bytes past them stay.
- * Refused: steps, taken and given are 0, and memory, registers and out are as they were. */
-void staran_run(uint8_t *memory, size_t memory_length, uint8_t *registers, size_t registers_length, const uint8_t *list, size_t list_length,
-                const uint8_t *items, size_t items_length, uint8_t *out, size_t out_length, uint32_t answer[5]);
+ * Judged: 1, 2, 3, 4 (place 0); then 5 to 11 for each instruction in turn, in this order within it; then 12; then 13; all before the
+ * first instruction acts. The place of 5 to 11 is the number of the instruction, counted from 0; that of 12 and 13 is the first
+ * instruction that lacks its item or its 32 bytes of room.
+ * Done: place 0; steps is the count of instructions, taken that of the items taken (source 4), given that of the items given (kinds 4
+ * and 5). Memory and registers are as the instructions leave them; the first 32 * given bytes of out are the items given, and the
+ * bytes past them stay.
+ * Refused: steps, taken and given are 0, and memory, registers and out are as they were.
+ * Stack: at most 2,560 bytes. */
+void staran_run(uint8_t *memory, size_t memory_length, uint8_t *registers, size_t registers_length, const uint8_t *list,
+                size_t list_length, const uint8_t *items, size_t items_length, uint8_t *out, size_t out_length,
+                uint32_t answer[STARAN_RUN_NUMBERS]);
 
-/* Takes one step, as an operator's console does: it answers, refuses and leaves its buffers as staran_run of the list of that one instruction does.
+/* Takes one step, as an operator's console does: it answers, refuses and leaves its buffers as staran_run of the list of that one
+ * instruction does.
  *
  * memory        8,192 bytes, else 1
  * registers     the record; it is updated where it stands. 2 is never given
+ * instruction   exactly 8 bytes, else 3
  * items         a multiple of 32 bytes, at most 32,768, else 4; the step takes the first, if it takes one
  * out           any length; the step gives to its first 32 bytes, if it gives
- * instruction   exactly 8 bytes, else 3
  * answer        number, place, steps, taken, given
  *
- * Judged in the order 1, 3, 4, 5 to 11, 12, 13. The place is always 0.
- * Done: steps is 1; taken and given are 0 or 1. Refused: all three are 0, and memory, registers and out are as they were. */
-void staran_step(uint8_t *memory, size_t memory_length, staran_registers *registers, const uint8_t *items, size_t items_length, uint8_t *out,
-                 size_t out_length, const uint8_t *instruction, size_t instruction_length, uint32_t answer[5]);
+ * Judged: 1, 3, 4, then 5 to 11, then 12, then 13. The place is always 0.
+ * Done: steps is 1; taken and given are 0 or 1. Refused: all three are 0, and memory, registers and out are as they were.
+ * Stack: at most 2,560 bytes. */
+void staran_step(uint8_t *memory, size_t memory_length, staran_registers *registers, const uint8_t *instruction,
+                 size_t instruction_length, const uint8_t *items, size_t items_length, uint8_t *out, size_t out_length,
+                 uint32_t answer[STARAN_RUN_NUMBERS]);
 
-/* Passes an item through the network, in arithmetic form: line I goes to I xor flip, and then by the shift that code names (byte 6 of an instruction).
+/* Passes an item through the network, in arithmetic form: line I goes to I xor flip, and then by the shift that code names (byte 6 of
+ * an instruction).
  *
  * item     the item to pass
  * flip     any
- * code     0 for no shift, or 16p + m with m < p <= 8: 37 codes in all; any other is 10
+ * code     0 for no shift, or 16p + m with m < p <= 8: 37 codes in all, else 10
  * passed   the item passed
  * answer   number
  *
- * Done: passed is the item passed. Refused with 10: passed is 32 zeros; it is written on every call. */
-void staran_pass(const uint8_t item[32], uint8_t flip, uint8_t code, uint8_t passed[32], uint32_t answer[1]);
+ * Judged: 10 alone.
+ * Done: passed is the item passed. Refused: passed is 32 zeros; it is written on every call.
+ * Stack: at most 1,024 bytes. */
+void staran_pass(const uint8_t item[32], uint8_t flip, uint8_t code, uint8_t passed[32], uint32_t answer[STARAN_PASS_NUMBERS]);
 
-/* The same in wired form, through eight levels of switches and a table of signals: the same contract, and always the same answer and item. */
-void staran_wired_pass(const uint8_t item[32], uint8_t flip, uint8_t code, uint8_t passed[32], uint32_t answer[1]);
+/* The same in wired form, through eight levels of switches and a table of signals: the same contract, and always the same answer and
+ * item.
+ * Stack: at most 3,584 bytes. */
+void staran_wired_pass(const uint8_t item[32], uint8_t flip, uint8_t code, uint8_t passed[32],
+                       uint32_t answer[STARAN_PASS_NUMBERS]);
 
-/* Builds the list of instructions that, run, sets field S of every word to A plus B modulo 2^n; Y is then the carry out of each word, and X is 0.
+/* Builds the list of instructions that, run, sets field S of every word to A plus B modulo 2^n; Y is then the carry out of each word,
+ * and X is 0.
  *
  * a, b, s   the starts of the fields, which are the numbers of their least significant bits: any numbers of 32 bits
  * n         the width of all three: any number of 32 bits
  * list      any length; the list has 8 * (1 + 5n) bytes
  * answer    number, count of bytes written
  *
- * Judged in the order 30 (n not 1 to 64), 31 (a + n, b + n or s + n over 256), 32 (S overlaps A or B without having its start), 33 (list_length under
- * 8 * (1 + 5n)). S may be A's field or B's, where it is apart from the other; A and B may overlap each other.
- * Done: the first bytes of list are the list, the count is its length, and the bytes past it stay. Refused: the count is 0 and list is as it was. */
-void staran_sum_list(uint32_t a, uint32_t b, uint32_t s, uint32_t n, uint8_t *list, size_t list_length, uint32_t answer[2]);
+ * Judged: 30 (n is not 1 to 64); 31 (a + n, b + n or s + n is over 256, as whole numbers); 32 (S overlaps A without having A's start,
+ * or overlaps B without having B's); 33 (list_length is under 8 * (1 + 5n)). S may be A's field or B's, where it is apart from the
+ * other; A and B may overlap each other.
+ * Done: the first bytes of list are the list, the count is its length, and the bytes past it stay. Refused: the count is 0 and list is
+ * as it was.
+ * Stack: at most 128 bytes. */
+void staran_sum_list(uint32_t a, uint32_t b, uint32_t s, uint32_t n, uint8_t *list, size_t list_length,
+                     uint32_t answer[STARAN_LIST_NUMBERS]);
 
-/* The same for A minus B modulo 2^n; Y is then 1 in each word that needs no borrow. The list has 8 * (2 + 5n) bytes, in 33 too. */
-void staran_difference_list(uint32_t a, uint32_t b, uint32_t s, uint32_t n, uint8_t *list, size_t list_length, uint32_t answer[2]);
+/* The same for A minus B modulo 2^n; Y is then 1 in each word that needs no borrow. The list has 8 * (2 + 5n) bytes, in 33 too.
+ * Stack: at most 128 bytes. */
+void staran_difference_list(uint32_t a, uint32_t b, uint32_t s, uint32_t n, uint8_t *list, size_t list_length,
+                            uint32_t answer[STARAN_LIST_NUMBERS]);
 
 /* Reads the blocks of a list or of items.
  *
@@ -178,12 +275,14 @@ void staran_difference_list(uint32_t a, uint32_t b, uint32_t s, uint32_t n, uint
  * target   at least as long as the content
  * answer   number, place, bytes put out
  *
- * Judged in this order: 22 at place 0 (kind is not 1 to 3); 20; then for each block in turn 21, 22, 23, 24; then 25; then 26 (target_length is under the
- * content's size). The place of 21 to 24 is the number of the block, counted from 0; else it is 0. Kind 1 is judged in the same way, as a picture, and
- * if the file stands the answer is 26: a picture has two targets, see staran_read_picture.
+ * Judged: 22 at place 0 (kind is not 1 to 3); 20; then for each block in turn 21, 22, 23, 24; then 25; then 26 (target_length is under
+ * the content's size). The place of 21 to 24 is the number of the block, counted from 0; else it is 0. Kind 1 is judged in the same
+ * way, as a picture, and if the file stands the answer is 26: a picture has two targets, see staran_read_picture.
  * Done: place 0; the first bytes of target are the content, the third number is its size, and the bytes past it stay.
- * Refused: 0 bytes, and target is as it was. */
-void staran_read_content(size_t kind, const uint8_t *bytes, size_t bytes_length, uint8_t *target, size_t target_length, uint32_t answer[3]);
+ * Refused: 0 bytes, and target is as it was.
+ * Stack: at most 256 bytes. */
+void staran_read_content(size_t kind, const uint8_t *bytes, size_t bytes_length, uint8_t *target, size_t target_length,
+                         uint32_t answer[STARAN_DISK_NUMBERS]);
 
 /* Writes a list or items as blocks.
  *
@@ -192,11 +291,13 @@ void staran_read_content(size_t kind, const uint8_t *bytes, size_t bytes_length,
  * out       at least 512 bytes for each 496 of the content or part of it, and 512 for none: STARAN_FILE_BYTES
  * answer    number, place, bytes put out
  *
- * Judged in this order, all at place 0: 22 (kind is not 1 to 3); 26 (content_length is unfit for the kind; kind 1 always); 27 (out_length is under the
- * length of the blocks).
+ * Judged, all at place 0: 22 (kind is not 1 to 3); 26 (content_length is unfit for the kind; kind 1 always); 27 (out_length is under
+ * the length of the blocks).
  * Done: the first bytes of out are the blocks, the third number is their length, and the bytes past them stay.
- * Refused: 0 bytes, and out is as it was. */
-void staran_write_content(size_t kind, const uint8_t *content, size_t content_length, uint8_t *out, size_t out_length, uint32_t answer[3]);
+ * Refused: 0 bytes, and out is as it was.
+ * Stack: at most 256 bytes. */
+void staran_write_content(size_t kind, const uint8_t *content, size_t content_length, uint8_t *out, size_t out_length,
+                          uint32_t answer[STARAN_DISK_NUMBERS]);
 
 /* Reads the blocks of a picture: the 256 words in plain order and the registers.
  *
@@ -206,12 +307,13 @@ void staran_write_content(size_t kind, const uint8_t *content, size_t content_le
  * registers   exactly 96 bytes
  * answer      number, place, bytes put out
  *
- * Judged as staran_read_content judges, 22, 20, 21 to 24, 25; then 26 (memory_length is not 8,192 or registers_length is not 96). Kinds 2 and 3 are judged
- * in the same way, as a list or items, and if the file stands the answer is 26.
+ * Judged: as staran_read_content judges, 22, 20, 21 to 24, 25; then 26 (memory_length is not 8,192 or registers_length is not 96).
+ * Kinds 2 and 3 are judged in the same way, as a list or items, and if the file stands the answer is 26.
  * Done: place 0; memory has the words, scrambled as above, registers has M, X and Y, and the third number is 8,288.
- * Refused: 0 bytes, and memory and registers are as they were. */
-void staran_read_picture(size_t kind, const uint8_t *bytes, size_t bytes_length, uint8_t *memory, size_t memory_length, uint8_t *registers,
-                         size_t registers_length, uint32_t answer[3]);
+ * Refused: 0 bytes, and memory and registers are as they were.
+ * Stack: at most 1,280 bytes. */
+void staran_read_picture(size_t kind, const uint8_t *bytes, size_t bytes_length, uint8_t *memory, size_t memory_length,
+                         uint8_t *registers, size_t registers_length, uint32_t answer[STARAN_DISK_NUMBERS]);
 
 /* Writes a picture as blocks.
  *
@@ -221,12 +323,13 @@ void staran_read_picture(size_t kind, const uint8_t *bytes, size_t bytes_length,
  * out         at least 8,704 bytes
  * answer      number, place, bytes put out
  *
- * Judged in this order, all at place 0: 22 (kind is not 1 to 3); 26 (memory_length is not 8,192 or registers_length is not 96; kinds 2 and 3 always);
- * 27 (out_length is under 8,704).
+ * Judged, all at place 0: 22 (kind is not 1 to 3); 26 (memory_length is not 8,192 or registers_length is not 96; kinds 2 and 3
+ * always); 27 (out_length is under 8,704).
  * Done: the first 8,704 bytes of out are the 17 blocks, the third number is 8,704, and the bytes past them stay.
- * Refused: 0 bytes, and out is as it was. */
-void staran_write_picture(size_t kind, const uint8_t *memory, size_t memory_length, const uint8_t *registers, size_t registers_length, uint8_t *out,
-                          size_t out_length, uint32_t answer[3]);
+ * Refused: 0 bytes, and out is as it was.
+ * Stack: at most 1,280 bytes. */
+void staran_write_picture(size_t kind, const uint8_t *memory, size_t memory_length, const uint8_t *registers, size_t registers_length,
+                          uint8_t *out, size_t out_length, uint32_t answer[STARAN_DISK_NUMBERS]);
 
 #ifdef __cplusplus
 }

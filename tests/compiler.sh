@@ -1,5 +1,6 @@
 # For the scripts that build C for x86-64 on either kind of machine: `. tests/compiler.sh`, with `here` the top of the repository, `room` a folder of their own, and a `die`.
 # `compiler` is gcc on x86-64; on another machine it is Debian's cross compiler, installed here where it is missing, with -static in `static`, and `emulator` runs what it builds.
+# shellcheck shell=sh disable=SC2034,SC2154
 emulator='' static=''
 if [ "$(uname -m)" = x86_64 ]; then
     compiler=gcc

@@ -1,6 +1,7 @@
 # For the scripts that run an x86-64 program on either kind of machine: `. tests/kit.sh`, after a `die` of their own.
 # The kit is where `rt` stands. `tools` is its toolchain for this machine, `loader` its loader with the C library in $tools/lib, and `emulator` what runs
 # them on another machine than x86-64, empty on x86-64.
+# shellcheck shell=sh
 rt=$(command -v rt) || die "rt, the command of the Rattle kit, is not on PATH"
 while [ -L "$rt" ]; do
     link=$(readlink "$rt")

@@ -5,14 +5,24 @@
     make_blocks.py list FILE HEX..       a list: HEX is any number of hex digits and blanks, in one word or several
     make_blocks.py items FILE HEX..      items, likewise
     make_blocks.py picture FILE          a picture whose words and registers are all 0
-    make_blocks.py example FOLDER        before.pic and run.lst of the document's printed example
+    make_blocks.py example FOLDER        before.pic and run.lst of the example that document 01 prints
     make_blocks.py demo FOLDER           before.pic, run.lst and in.itm of the demonstration
-    make_blocks.py heights FOLDER        the demonstration's stations before and after, in words
+    make_blocks.py heights FOLDER        the stations of before.pic and after.pic: every word that is not all zero
+
+Options: --replace   a picture that is there may be overwritten
+         --unfit     content is written that the program will refuse
+         --signed    heights are signed numbers
 """
 import os
 import sys
 
 PICTURE, LIST, ITEMS = 1, 2, 3
+NAMES = {PICTURE: 'picture', LIST: 'list', ITEMS: 'items'}
+CODES = [0] + [16 * p + m for p in range(1, 9) for m in range(p)]
+
+
+class Refused(Exception):
+    """What the program would not take, in a sentence."""
 
 
 def two(n):
@@ -37,18 +47,94 @@ def blocks(kind, content):
     return out
 
 
-def content(kind, data):
-    """The content of a file of blocks, or a complaint."""
+def block_fault(kind, block, number, count):
+    """The first of 21 to 24 that a block at its place meets, or 0."""
+    used = block[6] + 256 * block[7]
+    last = number == count - 1
+    if block[508:] != sums(block[:508]):
+        return 21
+    if block[:2] != two(kind):
+        return 22
+    if block[2:6] != two(number) + two(count):
+        return 23
+    if used > 496 or (not last and used != 496) or (last and used == 0 and count > 1) or any(block[8:12] + block[12 + used:508]):
+        return 24
+    return 0
+
+
+def size_fault(kind, size):
+    """Why no content of that kind has that many bytes, or nothing."""
+    if kind == PICTURE:
+        return '' if size == 8288 else 'a picture has 8,288 bytes, and not %d' % size
+    unit = 8 if kind == LIST else 32
+    if size % unit:
+        return '%s are whole %s of %d bytes, and %d bytes are not' % (
+            'lists' if kind == LIST else 'items', 'instructions' if kind == LIST else 'items', unit, size)
+    if size > 16 * 496:
+        return 'the program takes at most %d %s in a file, and not %d' % (
+            16 * 496 // unit, 'instructions' if kind == LIST else 'items', size // unit)
+    return ''
+
+
+def content(kind, data, name='the file'):
+    """The content of a file of blocks; Refused says what is wrong with it."""
     if not data or len(data) % 512:
-        sys.exit('not a file of blocks')
+        raise Refused('%s: %d bytes are no blocks of 512 (20)' % (name, len(data)))
+    count = len(data) // 512
     out = b''
-    for number in range(len(data) // 512):
+    for number in range(count):
         block = data[512 * number:512 * number + 512]
-        used = block[6] + 256 * block[7]
-        if block[508:] != sums(block[:508]) or block[:6] != two(kind) + two(number) + two(len(data) // 512):
-            sys.exit('block %d is damaged' % number)
-        out += block[12:12 + used]
+        fault = block_fault(kind, block, number, count)
+        if fault:
+            raise Refused('%s: block %d is refused with %d, see docs/NUMBERS.md' % (name, number, fault))
+        out += block[12:12 + block[6] + 256 * block[7]]
+    if size_fault(kind, len(out)):
+        raise Refused('%s: %s (25)' % (name, size_fault(kind, len(out))))
     return out
+
+
+def touches(i):
+    """Whether an instruction touches memory."""
+    return i[0] in (2, 3) or (i[0] in (0, 1, 4) and i[1] == 0)
+
+
+def instruction_fault(i):
+    """The first of 5 to 11 that an instruction meets, or 0."""
+    rows = [
+        (5, i[0] > 5),
+        (6, i[1] > 4 or (i[0] in (2, 3) and i[1] == 0) or (i[0] == 5 and i[1] != 0)),
+        (7, touches(i) and i[2] == 0),
+        (8, touches(i) and i[2] > 1),
+        (9, not touches(i) and any(i[2:5])),
+        (10, i[6] not in CODES or (i[0] in (2, 3) and i[6] != 0) or (i[0] == 5 and any(i[5:7]))),
+        (11, i[7] // 16 > 4 if i[0] == 0 else i[7] != 0),
+    ]
+    return next((number for number, met in rows if met), 0)
+
+
+def list_fault(data):
+    """Why the program would refuse a run of this list, whatever its items are, or nothing."""
+    given = 0
+    for at in range(0, len(data), 8):
+        i = data[at:at + 8]
+        fault = instruction_fault(i)
+        if fault:
+            return 'instruction %d, %s, would be refused with %d: ./staran numbers %d' % (at // 8, i.hex(' '), fault, fault)
+        given += i[0] in (4, 5)
+        if given > 256:
+            return 'instruction %d would be refused with 13: the program has room for 256 items' % (at // 8)
+    return ''
+
+
+def digits(words):
+    """The bytes of hex digits."""
+    text = ''.join(''.join(words).split())
+    strange = [c for c in text if c not in '0123456789abcdefABCDEF']
+    if strange:
+        raise Refused('%r is no hex digit' % strange[0])
+    if len(text) % 2:
+        raise Refused('%d hex digits are no whole bytes' % len(text))
+    return bytes.fromhex(text)
 
 
 def picture(words, registers=bytes(96)):
@@ -76,53 +162,81 @@ SHIFT = 47
 
 def station(height, shift, total):
     """A word of three fields. Bit k of a word is bit k mod 8 of its byte k div 8, so a field's lowest byte comes first."""
-    return height.to_bytes(4, 'little') + shift.to_bytes(4, 'little') + total.to_bytes(4, 'little') + bytes(20)
+    return b''.join(field.to_bytes(4, 'little') for field in (height, shift, total)) + bytes(20)
 
 
-def heights(folder):
-    """The stations around word 13, before and after."""
-    rows = []
-    for name in ('before.pic', 'after.pic'):
-        with open(os.path.join(folder, name), 'rb') as file:
-            plain = content(PICTURE, file.read())
-        rows.append([[int.from_bytes(plain[32 * w + f:32 * w + f + 4], 'little') for f in (0, 4, 8)] for w in range(256)])
-    print('word      before: height   shift     sum       after: height   shift     sum   (millimetres)')
-    for w in list(range(8)) + [11, 12, 13, 14, 15, 255]:
-        print('%4d %20d %7d %7d %19d %7d %7d' % (w, *rows[0][w], *rows[1][w]))
-    wrong = [w for w in range(256) if w != 13 and rows[1][w] != rows[0][w][:2] + [rows[0][w][0] + rows[0][w][1]]]
-    print('every word but 13 has the sum of its height and its shift, and its own height and shift as before: %s' % ('no' if wrong else 'yes'))
-    return not wrong
+def words_of(path):
+    """The 256 words of a picture file."""
+    with open(path, 'rb') as file:
+        plain = content(PICTURE, file.read(), path)
+    return [plain[32 * w:32 * w + 32] for w in range(256)]
 
 
-def write(path, data):
+def heights(folder, signed):
+    """The table of the stations before and, where there is an after.pic, after."""
+    pictures = [words_of(os.path.join(folder, 'before.pic'))]
+    after = os.path.join(folder, 'after.pic')
+    if os.path.exists(after):
+        pictures.append(words_of(after))
+    heads = ['%20s %11s %11s' % (name + ' height', 'shift', 'sum') for name in ('before:', 'after:')]
+    print('word' + ''.join(heads[:len(pictures)]))
+    for w in range(256):
+        if any(any(words[w]) for words in pictures):
+            fields = [[int.from_bytes(words[w][f:f + 4], 'little', signed=signed) for f in (0, 4, 8)] for words in pictures]
+            print('%4d' % w + ''.join('%20d %11d %11d' % tuple(row) for row in fields))
+
+
+# ---- the command
+
+def write(path, data, replace=True):
+    if not replace and os.path.exists(path):
+        raise Refused('%s is there, and a picture is not overwritten without --replace' % path)
     with open(path, 'wb') as file:
         file.write(data)
 
 
+def write_hex(kind, path, words, unfit):
+    data = digits(words)
+    fault = size_fault(kind, len(data)) or (list_fault(data) if kind == LIST else '')
+    if fault and not unfit:
+        raise Refused('%s; --unfit writes it all the same' % fault)
+    write(path, blocks(kind, data))
+
+
 def main(words):
-    if len(words) < 2:
+    options = {word for word in words if word in ('--replace', '--unfit', '--signed')}
+    words = [word for word in words if word not in options]
+    if len(words) < 2 or (words[0] not in ('list', 'items') and len(words) > 2):
         sys.exit(__doc__)
-    what, path, rest = words[0], words[1], bytes.fromhex(''.join(words[2:]))
-    if what == 'list':
-        write(path, blocks(LIST, rest))
-    elif what == 'items':
-        write(path, blocks(ITEMS, rest))
+    what, path = words[:2]
+    replace = '--replace' in options
+
+    def beside(name):
+        return os.path.join(path, name)
+    if what in ('list', 'items'):
+        write_hex(LIST if what == 'list' else ITEMS, path, words[2:], '--unfit' in options)
     elif what == 'picture':
-        write(path, picture([bytes(32)] * 256))
+        write(path, picture([bytes(32)] * 256), replace)
     elif what == 'example':
-        write(os.path.join(path, 'before.pic'), picture([bytes(32)] * 256))
-        write(os.path.join(path, 'run.lst'), blocks(LIST, bytes.fromhex('000200000000001F 0500000000000000')))
+        write(beside('before.pic'), picture([bytes(32)] * 256), replace)
+        write(beside('run.lst'), blocks(LIST, bytes.fromhex('000200000000001F 0500000000000000')))
     elif what == 'demo':
-        words = [station(100000 + 1000 * w, SHIFT, 0) if w < STATIONS else bytes(32) for w in range(256)]
-        write(os.path.join(path, 'before.pic'), picture(words))
+        stations = [station(100000 + 1000 * w, SHIFT, 0) if w < STATIONS else bytes(32) for w in range(256)]
+        write(beside('before.pic'), picture(stations), replace)
         # the sum; then word 13 is stored from outside (mode 255, address 13), and delivered
         steps = sum_list(0, 32, 64, 32) + bytes([2, 4, 1, 255, 13, 0, 0, 0]) + bytes([4, 0, 1, 255, 13, 0, 0, 0])
-        write(os.path.join(path, 'run.lst'), blocks(LIST, steps))
-        write(os.path.join(path, 'in.itm'), blocks(ITEMS, station(250000, 0, 250000)))
+        write(beside('run.lst'), blocks(LIST, steps))
+        write(beside('in.itm'), blocks(ITEMS, station(250000, 0, 250000)))
     elif what == 'heights':
-        sys.exit(0 if heights(path) else 1)
+        heights(path, '--signed' in options)
     else:
         sys.exit(__doc__)
 
 
-main(sys.argv[1:])
+if __name__ == '__main__':
+    try:
+        main(sys.argv[1:])
+    except Refused as refused:
+        sys.exit('make_blocks.py: %s' % refused)
+    except OSError as error:
+        sys.exit('make_blocks.py: %s: %s' % (error.filename or 'standard output', error.strerror))

@@ -1,31 +1,35 @@
 #!/bin/bash
 # The program on folders of every kind, from outside: absent, empty, too long, damaged and unreadable files; what happens to an old after.pic;
-# what is left behind; two runs in one folder. Prints a line for each case, and at last 'N passed, 0 failed'. Run it from anywhere; it builds the program if there is none.
+# what is left behind; the command's exit status; two runs in one folder. Prints a line for each case, and at last 'N passed, 0 failed'. Run it from
+# anywhere; it builds the program if the sources have changed.
 #   tests/program_cases.sh
 set -u
 here=$(cd "$(dirname "$0")/.." && pwd -P)
-make="python3 $here/tests/make_blocks.py"
 work=$(mktemp -d)
 trap 'chmod -R u+rwx "$work" 2>/dev/null; rm -rf "$work"' EXIT
 passed=0 failed=0
+blocks() { python3 -B "$here/tests/make_blocks.py" --unfit "$@"; }
+times() { yes "$2" | head -n "$1"; } # COUNT TEXT: so many lines of it
 die() { printf 'tests/program_cases.sh: %s\n' "$*" >&2; exit 2; }
+"$here/staran" --build >"$work/build" 2>&1 || { cat "$work/build" >&2; die "the program cannot be built"; }
 
 # A fresh folder with the document's example: an all-zero picture, no items, and a list of two instructions.
 fresh() { rm -rf "$work/f"; mkdir "$work/f"; cp "$here"/crates/program/data/* "$work/f"; cd "$work/f" || exit 2; }
 
 # Runs the program in the folder, and keeps what it says.
-run() { timeout 20 "$here/staran" "$work/f" >"$work/out" 2>"$work/err"; }
+run() { timeout 20 "$here/staran" "$work/f" >"$work/out" 2>"$work/err"; status=$?; }
 
 judge() { # NAME CONDITION: counts a case; CONDITION is the status of the test before it
     if [ "$2" -eq 0 ]; then passed=$((passed + 1)); echo "ok   $1"
     else failed=$((failed + 1)); echo "FAIL $1"; sed 's/^/     out: /' "$work/out"; sed 's/^/     err: /' "$work/err"; fi
 }
 
-# NAME LINES [REASON]: the program prints LINES, on standard error REASON or nothing, and leaves no other file.
+# NAME LINES [REASON]: the program prints LINES, on standard error REASON or nothing, and leaves no other file; the status is that of its first line.
 says() {
     run
     printf '%b' "$2" >"$work/want"
-    cmp -s "$work/out" "$work/want" && [ "$(left)" -eq 0 ] &&
+    case $2 in 'r 0 '*) expected=0 ;; '') expected=2 ;; *) expected=1 ;; esac
+    cmp -s "$work/out" "$work/want" && [ "$status" -eq "$expected" ] && [ "$(left)" -eq 0 ] &&
         if [ -n "${3:-}" ]; then grep -qx -- "$3" "$work/err"; else [ ! -s "$work/err" ]; fi
     judge "$1" $?
 }
@@ -45,14 +49,14 @@ size=$(wc -c <"$work/f/after.pic"); [ "$size" -eq 8704 ]; judge "after.pic is 17
 fresh; rm run.lst; says "absent run.lst is the empty list" "r 0 0 0 0 0\n"; same "the empty list leaves the picture as it was"
 fresh; rm before.pic; old; says "absent before.pic" "p 20 0 0 0 0\n"; kept "a refusal keeps an old after.pic"
 fresh; rm before.pic run.lst; says "an empty folder" "p 20 0 0 0 0\n"; none "a refusal makes no after.pic"
-fresh; $make items in.itm; says "a lone block of no items" "$done_lines"
-fresh; $make list run.lst; says "a lone block of no instructions" "r 0 0 0 0 0\n"
+fresh; blocks items in.itm; says "a lone block of no items" "$done_lines"
+fresh; blocks list run.lst; says "a lone block of no instructions" "r 0 0 0 0 0\n"
 
 # ---- files with no bytes, and of a wrong length
 for name in before.pic:p run.lst:l in.itm:i; do
     file=${name%:*} letter=${name#*:}
     fresh; : >"$file"; says "empty $file" "$letter 20 0 0 0 0\n"; none "no after.pic with an empty $file"
-    fresh; [ -f "$file" ] || $make items in.itm; printf x >>"$file"; says "$file and a byte more" "$letter 20 0 0 0 0\n"
+    fresh; [ -f "$file" ] || blocks items in.itm; printf x >>"$file"; says "$file and a byte more" "$letter 20 0 0 0 0\n"
 done
 fresh; head -c 9216 /dev/zero >before.pic; says "a picture file of 18 blocks" "p 20 0 0 0 0\n"
 fresh; head -c 8704 /dev/zero >before.pic; says "17 blocks of zeros are read" "p 22 0 0 0 0\n"
@@ -64,24 +68,25 @@ fresh; truncate -s 1T run.lst; says "a list of 2^40 bytes is not read to its end
 fresh; truncate -s 1T before.pic; says "a picture of 2^40 bytes is not read to its end" "p 20 0 0 0 0\n"
 
 # ---- damaged blocks
+# shellcheck disable=SC2059
 change() { printf "$3" | dd of="$1" bs=1 seek="$2" conv=notrunc status=none; } # FILE INDEX BYTES
 fresh; change before.pic 600 '\001'; old; says "a byte altered in block 1 of the picture" "p 21 1 0 0 0\n"; kept "a damaged picture keeps an old after.pic"
 fresh; change run.lst 20 '\377'; says "a byte altered in the list" "l 21 0 0 0 0\n"
-fresh; $make list in.itm; says "a list under the name of the items" "i 22 0 0 0 0\n"
+fresh; blocks list in.itm; says "a list under the name of the items" "i 22 0 0 0 0\n"
 fresh; head -c 512 before.pic >x; mv x before.pic; says "the first block of a picture alone" "p 23 0 0 0 0\n"
-fresh; $make list run.lst 000200; says "a list of three bytes" "l 25 0 0 0 0\n"
-fresh; $make items in.itm 00; says "items of one byte" "i 25 0 0 0 0\n"
+fresh; blocks list run.lst 000200; says "a list of three bytes" "l 25 0 0 0 0\n"
+fresh; blocks items in.itm 00; says "items of one byte" "i 25 0 0 0 0\n"
 fresh; change before.pic 600 '\001'; change run.lst 20 '\377'; : >in.itm; says "three bad files: the picture is named" "p 21 1 0 0 0\n"
 fresh; change run.lst 20 '\377'; : >in.itm; says "two bad files: the list is named" "l 21 0 0 0 0\n"
-fresh; $make list run.lst FF00000000000000; : >in.itm; says "bad items hide a bad instruction" "i 20 0 0 0 0\n"
+fresh; blocks list run.lst FF00000000000000; : >in.itm; says "bad items hide a bad instruction" "i 20 0 0 0 0\n"
 
 # ---- runs that are refused
-fresh; $make list run.lst 000200000000001F FF00000000000000; old; says "a kind over 5" "r 5 1 0 0 0\n"; kept "a refused run keeps an old after.pic"
-fresh; $make list run.lst 02030000FF000000; says "a store without a mode" "r 7 0 0 0 0\n"; none "a refused run makes no after.pic"
-fresh; $make list run.lst 0404000000000000; says "items too few" "r 12 0 0 0 0\n"
-fresh; $make list run.lst $(for i in $(seq 257); do echo 0500000000000000; done); says "the out buffer too short for 257" "r 13 256 0 0 0\n"
-fresh; $make list run.lst $(for i in $(seq 256); do echo 0500000000000000; done); says "256 items fit" "r 0 0 256 0 256\n$(for i in $(seq 256); do echo "$zeros\\n"; done | tr -d '\n')"
-fresh; $make list run.lst 0404000000000000; $make items in.itm 0123456789abcdef${zeros#????????????????}; says "an item goes out as it came in" "r 0 0 1 1 1\n0123456789abcdef${zeros#????????????????}\n"
+fresh; blocks list run.lst 000200000000001F FF00000000000000; old; says "a kind over 5" "r 5 1 0 0 0\n"; kept "a refused run keeps an old after.pic"
+fresh; blocks list run.lst 02030000FF000000; says "a store without a mode" "r 7 0 0 0 0\n"; none "a refused run makes no after.pic"
+fresh; blocks list run.lst 0404000000000000; says "items too few" "r 12 0 0 0 0\n"
+fresh; blocks list run.lst "$(times 257 0500000000000000)"; says "the out buffer too short for 257" "r 13 256 0 0 0\n"
+fresh; blocks list run.lst "$(times 256 0500000000000000)"; says "256 items fit" "r 0 0 256 0 256\n$(times 256 "$zeros")\n"
+fresh; blocks list run.lst 0404000000000000; blocks items in.itm "0123456789abcdef${zeros#????????????????}"; says "an item goes out as it came in" "r 0 0 1 1 1\n0123456789abcdef${zeros#????????????????}\n"
 
 # ---- what cannot be opened or read
 for name in before.pic:p run.lst:l in.itm:i; do
@@ -107,7 +112,7 @@ fi
 # ---- two runs in one folder: each has a new file of its own, so after.pic is the old one or a whole new one, whatever the order
 # shellcheck source=tests/kit.sh
 . "$here/tests/kit.sh"
-room=$work
+export room=$work
 # shellcheck source=tests/compiler.sh
 . "$here/tests/compiler.sh"
 for name in one two; do "$compiler" -std=gnu11 -Wall -Wextra -Werror -O2 -shared -fPIC -nostdlib -DNAME="\"$name\"" -o "$work/$name.so" "$here/tests/program/pause.c" || die "tests/program/pause.c does not build"; done
@@ -131,12 +136,15 @@ fresh; rm run.lst; old; hold one; hold two; : >"$work/one.fail"; : >"$work/two.f
 fresh; rm run.lst; old; hold one; { kill -KILL "$one"; wait "$one"; } 2>/dev/null; kept "a run that is killed keeps an old after.pic"
 another; run; whole "$here/demo/before.pic"; judge "and the next run is not hindered by what it left" $?
 
-# ---- printing
-fresh; timeout 20 "$here/staran" "$work/f" >/dev/full 2>"$work/err"; : >"$work/out"; grep -qx 'standard output: No space left on device' "$work/err" && [ -s "$work/f/after.pic" ]; judge "an output that takes nothing: the reason is said, and after.pic is whole" $?
+# ---- printing: by the program itself, whose output the command takes before it hands it on
+fresh; timeout 20 ${emulator:+"$emulator"} "$loader" --library-path "$tools/lib" "$here/target/bin/program" >/dev/full 2>"$work/err"; : >"$work/out"
+grep -qx 'standard output: No space left on device' "$work/err" && [ -s "$work/f/after.pic" ]; judge "an output that takes nothing: the reason is said, and after.pic is whole" $?
 
-# ---- the demonstration
+# ---- the demonstration: 20 stations, and word 13 stored by itself
 "$here/staran" >"$work/out" 2>"$work/err"; status=$?
-[ $status -eq 0 ] && grep -qx 'r 0 0 163 1 1' "$work/out" && grep -q 'as before: yes' "$work/out" && grep -q '^  13 ' "$work/out"; judge "the demonstration" $?
+[ $status -eq 0 ] && grep -qx 'r 0 0 163 1 1' "$work/out" && [ "$(grep -cE '^ +[0-9]+ ' "$work/out")" -eq 20 ]; judge "the demonstration shows its 20 stations" $?
+awk '/^ +[0-9]+ / { if ($1 == 13 ? $5 != 250000 || $6 != 0 || $7 != 250000 : $5 != $2 || $6 != $3 || $7 != $2 + $3) wrong = 1 } END { exit wrong }' "$work/out"
+judge "every word but 13 has its sum, and word 13 what in.itm has" $?
 
 echo "$passed passed, $failed failed"
 [ "$failed" -eq 0 ]

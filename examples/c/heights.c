@@ -35,24 +35,20 @@ static uint32_t get_field(const uint8_t *word, int start)
 /* Runs a list with the buffers above, and says what came back. */
 static uint32_t run(const char *what, const uint8_t *list, size_t list_length)
 {
-    uint32_t answer[5];
+    uint32_t answer[STARAN_RUN_NUMBERS];
     staran_run(memory, sizeof memory, registers, sizeof registers, list, list_length, items, sizeof items, out, sizeof out, answer);
     printf("%-28s number %u, place %u, %u steps, %u items taken, %u given\n", what, (unsigned)answer[0], (unsigned)answer[1], (unsigned)answer[2],
            (unsigned)answer[3], (unsigned)answer[4]);
     return answer[0];
 }
 
-/* One instruction for each word: mode 255 is "by word", and the address says which. */
+/* One instruction for each word: the mode is "by word", and the address says which. */
 static uint32_t run_by_words(const char *what, uint8_t kind, uint8_t source)
 {
-    uint8_t list[STATIONS * STARAN_INSTRUCTION_BYTES] = {0};
+    uint8_t list[STATIONS * STARAN_INSTRUCTION_BYTES];
     for (int w = 0; w < STATIONS; w++) {
-        uint8_t *instruction = list + STARAN_INSTRUCTION_BYTES * w;
-        instruction[0] = kind;
-        instruction[1] = source;
-        instruction[2] = 1; /* the tag: a mode is given */
-        instruction[3] = 255;
-        instruction[4] = (uint8_t)w;
+        const uint8_t instruction[] = {STARAN_INSTRUCTION(kind, source, 1, STARAN_MODE_WORD, w, STARAN_NO_FLIP, STARAN_NO_SHIFT, 0)};
+        memcpy(list + STARAN_INSTRUCTION_BYTES * w, instruction, sizeof instruction);
     }
     return run(what, list, sizeof list);
 }
@@ -75,8 +71,14 @@ static int show_stations(void)
 int main(void)
 {
     uint8_t list[STARAN_SUM_LIST_BYTES(WIDTH)];
-    uint32_t built[2];
+    uint32_t built[STARAN_LIST_NUMBERS];
     int wrong = 0;
+
+    /* A library of another version may write longer answers than the arrays here have room for. */
+    if (staran_version() != STARAN_VERSION) {
+        fputs("the library is of another version than the header\n", stderr);
+        return 2;
+    }
 
     /* The stations go in by words. The lent bytes of the memory are scrambled, so that a slice of bits and a word are equally near: an instruction knows
      * where each bit belongs, and the program does not have to. */
@@ -84,7 +86,7 @@ int main(void)
         put_field(items + STARAN_ITEM_BYTES * w, A, height_of(w));
         put_field(items + STARAN_ITEM_BYTES * w, B, shift_of(w));
     }
-    wrong += run_by_words("stations stored by words:", 2, 4) != STARAN_DONE;
+    wrong += run_by_words("stations stored by words:", STARAN_KIND_STORE, STARAN_SOURCE_OUTSIDE) != STARAN_DONE;
 
     /* The list depends on where the fields are and not on what is in them: one list serves any heights. */
     staran_sum_list(A, B, S, WIDTH, list, sizeof list, built);
@@ -92,14 +94,15 @@ int main(void)
     wrong += built[0] != STARAN_DONE;
     wrong += run("sum list run:", list, built[1]) != STARAN_DONE;
 
-    wrong += run_by_words("stations delivered by words:", 4, 0) != STARAN_DONE;
+    wrong += run_by_words("stations delivered by words:", STARAN_KIND_DELIVER, STARAN_SOURCE_MEMORY) != STARAN_DONE;
     wrong += show_stations();
 
     /* Store Y by word 13, with the mode written and its tag forgotten. Tag 0 does not mean mode 0: the instruction is refused, and nothing moves. */
-    const uint8_t no_mode[8] = {2, 3, 0, 255, 13, 0, 0, 0};
+    const uint8_t no_mode[] = {STARAN_INSTRUCTION(STARAN_KIND_STORE, STARAN_SOURCE_Y, 0, STARAN_MODE_WORD, 13, 0, 0, 0)};
     uint8_t before[sizeof memory];
     memcpy(before, memory, sizeof memory);
-    wrong += run("a store without a mode:", no_mode, sizeof no_mode) != STARAN_NO_MODE;
+    wrong += run("a store without a mode:", no_mode, sizeof no_mode) != STARAN_REFUSED_NO_MODE;
+    printf("%-28s %s\n", "what that number means:", staran_meaning(STARAN_REFUSED_NO_MODE));
     int moved = memcmp(before, memory, sizeof memory) != 0;
     printf("the memory moved: %s\n", moved ? "yes" : "no");
     return wrong + moved != 0;

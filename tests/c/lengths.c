@@ -156,7 +156,7 @@ static void step_once(size_t memory, size_t instruction, size_t items, size_t ou
     fill_with(LIST, deliver_outside);
     expect_run(1, expected);
     answer = lend_answer(5, end);
-    staran_step(WHOLE(MEMORY), (staran_registers *)(void *)buffers[REGISTERS].bytes, WHOLE(ITEMS), WHOLE(OUT), WHOLE(LIST), answer);
+    staran_step(WHOLE(MEMORY), (staran_registers *)(void *)buffers[REGISTERS].bytes, WHOLE(LIST), WHOLE(ITEMS), WHOLE(OUT), answer);
     settle(answer, 5, expected);
 }
 
@@ -225,7 +225,7 @@ static void refused_instructions(int step)
         lend(OUT, 96, end);
         answer = lend_answer(5, end);
         if (step)
-            staran_step(WHOLE(MEMORY), (staran_registers *)(void *)buffers[REGISTERS].bytes, WHOLE(ITEMS), WHOLE(OUT), WHOLE(LIST), answer);
+            staran_step(WHOLE(MEMORY), (staran_registers *)(void *)buffers[REGISTERS].bytes, WHOLE(LIST), WHOLE(ITEMS), WHOLE(OUT), answer);
         else
             staran_run(WHOLE(MEMORY), WHOLE(REGISTERS), WHOLE(LIST), WHOLE(ITEMS), WHOLE(OUT), answer);
         settle(answer, 5, expected);
@@ -256,7 +256,7 @@ static void record_order(void)
         if ((uint8_t *)record->m != buffers[REGISTERS].bytes || record->x != record->m + 32 || record->y != record->m + 64 || sizeof *record != 96)
             wrong("the record is not 96 bytes, M, X, Y");
         answer = lend_answer(5, end);
-        staran_step(WHOLE(MEMORY), record, WHOLE(ITEMS), WHOLE(OUT), WHOLE(LIST), answer);
+        staran_step(WHOLE(MEMORY), record, WHOLE(LIST), WHOLE(ITEMS), WHOLE(OUT), answer);
         settle(answer, 5, expected);
     }
     function("step, record");
@@ -421,16 +421,16 @@ static void damaged_blocks(void)
 {
     static const size_t parts[] = {0, 1, 2, 3, 4, 5, 6, 7, 8, 11, 12, 255, 507, 508, 510, 511};
     for (size_t i = 0; i < 17 * COUNT(parts) * 2; i++) {
-        size_t block = i / 2 / COUNT(parts), part = parts[i / 2 % COUNT(parts)], length = make_file(STARAN_PICTURE, 8288);
+        size_t block = i / 2 / COUNT(parts), part = parts[i / 2 % COUNT(parts)], length = make_file(STARAN_CONTENT_PICTURE, 8288);
         file[512 * block + part] ^= 1;
         if (i % 2 == 1)
             model_seal(file + 512 * block);
-        read_picture_once(STARAN_PICTURE, length, 8192, 96, (int)(block % 2));
-        length = make_file(STARAN_LIST, 8288);
+        read_picture_once(STARAN_CONTENT_PICTURE, length, 8192, 96, (int)(block % 2));
+        length = make_file(STARAN_CONTENT_LIST, 8288);
         file[512 * block + part] ^= 1;
         if (i % 2 == 1)
             model_seal(file + 512 * block);
-        read_once(STARAN_LIST, length, 65536, (int)(block % 2));
+        read_once(STARAN_CONTENT_LIST, length, 65536, (int)(block % 2));
     }
     function("damaged blocks");
 }
@@ -502,7 +502,7 @@ static void write_picture_lengths(void)
             for (size_t r = 0; r < COUNT(registers_lengths); r++)
                 for (size_t o = 0; o < COUNT(outs); o++)
                     if (memories[m] != 8192 || registers_lengths[r] != 96)
-                        write_picture_once(STARAN_PICTURE, memories[m], registers_lengths[r], outs[o], end);
+                        write_picture_once(STARAN_CONTENT_PICTURE, memories[m], registers_lengths[r], outs[o], end);
     }
     function("write_picture");
 }
@@ -536,18 +536,18 @@ static void refused_long(uint8_t *far, size_t long_by)
     LONG_CALL(run(WHOLE(MEMORY), far, long_by + 96, WHOLE(LIST), WHOLE(ITEMS), WHOLE(OUT), answer), 5, 2);
     LONG_CALL(run(WHOLE(MEMORY), WHOLE(REGISTERS), far, long_by + 8, WHOLE(ITEMS), WHOLE(OUT), answer), 5, 3);
     LONG_CALL(run(WHOLE(MEMORY), WHOLE(REGISTERS), WHOLE(LIST), far, long_by + 32, WHOLE(OUT), answer), 5, 4);
-    LONG_CALL(step(far, long_by + 8192, record, WHOLE(ITEMS), WHOLE(OUT), WHOLE(LIST), answer), 5, 1);
-    LONG_CALL(step(WHOLE(MEMORY), record, WHOLE(ITEMS), WHOLE(OUT), far, long_by + 8, answer), 5, 3);
+    LONG_CALL(step(far, long_by + 8192, record, WHOLE(LIST), WHOLE(ITEMS), WHOLE(OUT), answer), 5, 1);
+    LONG_CALL(step(WHOLE(MEMORY), record, far, long_by + 8, WHOLE(ITEMS), WHOLE(OUT), answer), 5, 3);
     lend_bytes(LIST, deliver_outside, 8, LAST);
-    LONG_CALL(step(WHOLE(MEMORY), record, far, long_by + 32, WHOLE(OUT), WHOLE(LIST), answer), 5, 4);
-    LONG_CALL(read_content(STARAN_LIST, far, long_by + 512, WHOLE(OUT), answer), 3, 20);
-    LONG_CALL(read_picture(STARAN_PICTURE, far, long_by + 8704, WHOLE(MEMORY), WHOLE(REGISTERS), answer), 3, 20);
-    LONG_CALL(write_content(STARAN_LIST, far, long_by + 8, WHOLE(OUT), answer), 3, 26);
-    LONG_CALL(write_picture(STARAN_PICTURE, far, long_by + 8192, WHOLE(REGISTERS), WHOLE(OUT), answer), 3, 26);
-    LONG_CALL(write_picture(STARAN_PICTURE, WHOLE(MEMORY), far, long_by + 96, WHOLE(OUT), answer), 3, 26);
-    lend_bytes(FILE_BYTES, file, make_file(STARAN_PICTURE, 8288), LAST);
-    LONG_CALL(read_picture(STARAN_PICTURE, WHOLE(FILE_BYTES), far, long_by + 8192, WHOLE(REGISTERS), answer), 3, 26);
-    LONG_CALL(read_picture(STARAN_PICTURE, WHOLE(FILE_BYTES), WHOLE(MEMORY), far, long_by + 96, answer), 3, 26);
+    LONG_CALL(step(WHOLE(MEMORY), record, WHOLE(LIST), far, long_by + 32, WHOLE(OUT), answer), 5, 4);
+    LONG_CALL(read_content(STARAN_CONTENT_LIST, far, long_by + 512, WHOLE(OUT), answer), 3, 20);
+    LONG_CALL(read_picture(STARAN_CONTENT_PICTURE, far, long_by + 8704, WHOLE(MEMORY), WHOLE(REGISTERS), answer), 3, 20);
+    LONG_CALL(write_content(STARAN_CONTENT_LIST, far, long_by + 8, WHOLE(OUT), answer), 3, 26);
+    LONG_CALL(write_picture(STARAN_CONTENT_PICTURE, far, long_by + 8192, WHOLE(REGISTERS), WHOLE(OUT), answer), 3, 26);
+    LONG_CALL(write_picture(STARAN_CONTENT_PICTURE, WHOLE(MEMORY), far, long_by + 96, WHOLE(OUT), answer), 3, 26);
+    lend_bytes(FILE_BYTES, file, make_file(STARAN_CONTENT_PICTURE, 8288), LAST);
+    LONG_CALL(read_picture(STARAN_CONTENT_PICTURE, WHOLE(FILE_BYTES), far, long_by + 8192, WHOLE(REGISTERS), answer), 3, 26);
+    LONG_CALL(read_picture(STARAN_CONTENT_PICTURE, WHOLE(FILE_BYTES), WHOLE(MEMORY), far, long_by + 96, answer), 3, 26);
 }
 
 /* Is what was written there these bytes, and is what stands behind them, and 2^32 further on, still 0? They are 0 again afterwards. */
@@ -569,28 +569,28 @@ static void written_long(uint8_t *far, size_t long_by, const uint8_t *expected, 
 static void done_long(uint8_t *far, size_t long_by)
 {
     static uint8_t made[65536];
-    size_t length = make_file(STARAN_LIST, 1024);
+    size_t length = make_file(STARAN_CONTENT_LIST, 1024);
     memcpy(made, buffers[ITEMS].bytes, 1024);
     nothing_lent(LAST);
     lend_bytes(FILE_BYTES, file, length, LAST);
-    LONG_CALL(read_content(STARAN_LIST, WHOLE(FILE_BYTES), far, long_by + 8, answer), 3, 0, 0, 1024);
+    LONG_CALL(read_content(STARAN_CONTENT_LIST, WHOLE(FILE_BYTES), far, long_by + 8, answer), 3, 0, 0, 1024);
     written_long(far, long_by, made, 1024);
     lend(LIST, 1024, LAST);
-    model_blocks(STARAN_LIST, buffers[LIST].bytes, 1024, made);
-    LONG_CALL(write_content(STARAN_LIST, WHOLE(LIST), far, long_by, answer), 3, 0, 0, 1536);
+    model_blocks(STARAN_CONTENT_LIST, buffers[LIST].bytes, 1024, made);
+    LONG_CALL(write_content(STARAN_CONTENT_LIST, WHOLE(LIST), far, long_by, answer), 3, 0, 0, 1536);
     written_long(far, long_by, made, 1536);
     lend(MEMORY, 8192, LAST);
     lend(REGISTERS, 96, LAST);
     model_picture(buffers[MEMORY].bytes, buffers[REGISTERS].bytes, content);
-    model_blocks(STARAN_PICTURE, content, 8288, made);
-    LONG_CALL(write_picture(STARAN_PICTURE, WHOLE(MEMORY), WHOLE(REGISTERS), far, long_by, answer), 3, 0, 0, 8704);
+    model_blocks(STARAN_CONTENT_PICTURE, content, 8288, made);
+    LONG_CALL(write_picture(STARAN_CONTENT_PICTURE, WHOLE(MEMORY), WHOLE(REGISTERS), far, long_by, answer), 3, 0, 0, 8704);
     written_long(far, long_by, made, 8704);
     lend(ITEMS, 32, LAST);
     lend_bytes(LIST, deliver_outside, 8, LAST);
     LONG_CALL(run(WHOLE(MEMORY), WHOLE(REGISTERS), WHOLE(LIST), WHOLE(ITEMS), far, long_by + 31, answer), 5, 0, 0, 1, 1, 1);
     written_long(far, long_by, buffers[ITEMS].bytes, 32);
     staran_registers *record = (staran_registers *)(void *)buffers[REGISTERS].bytes;
-    LONG_CALL(step(WHOLE(MEMORY), record, WHOLE(ITEMS), far, long_by, WHOLE(LIST), answer), 5, 0, 0, 1, 1, 1);
+    LONG_CALL(step(WHOLE(MEMORY), record, WHOLE(LIST), WHOLE(ITEMS), far, long_by, answer), 5, 0, 0, 1, 1, 1);
     written_long(far, long_by, buffers[ITEMS].bytes, 32);
     model_list(1, 0, 64, 128, 64, made, 2568);
     LONG_CALL(sum_list(0, 64, 128, 64, far, long_by, answer), 2, 0, 2568);

@@ -155,7 +155,7 @@ static unsigned call(const outside_case *c, int end, uint32_t words[WORDS])
         return 1u << MEMORY | 1u << REGISTERS | 1u << OUT;
     case 1:
         a = lend_answer(5, end);
-        staran_step(WHOLE(MEMORY), (staran_registers *)(void *)buffers[REGISTERS].bytes, WHOLE(ITEMS), WHOLE(OUT), WHOLE(LIST), a);
+        staran_step(WHOLE(MEMORY), (staran_registers *)(void *)buffers[REGISTERS].bytes, WHOLE(LIST), WHOLE(ITEMS), WHOLE(OUT), a);
         memcpy(words, a, 20);
         return 1u << MEMORY | 1u << REGISTERS | 1u << OUT;
     case 2:
@@ -180,7 +180,7 @@ static unsigned call(const outside_case *c, int end, uint32_t words[WORDS])
         return 1u << LIST;
     case 7:
         a = lend_answer(3, end);
-        staran_read_picture(STARAN_PICTURE, WHOLE(FILE_BYTES), WHOLE(MEMORY), WHOLE(REGISTERS), a);
+        staran_read_picture(STARAN_CONTENT_PICTURE, WHOLE(FILE_BYTES), WHOLE(MEMORY), WHOLE(REGISTERS), a);
         memcpy(words, a, 12);
         return 1u << MEMORY | 1u << REGISTERS;
     case 8:
@@ -190,7 +190,7 @@ static unsigned call(const outside_case *c, int end, uint32_t words[WORDS])
         return 1u << FILE_BYTES;
     default:
         a = lend_answer(3, end);
-        staran_write_picture(STARAN_PICTURE, WHOLE(MEMORY), WHOLE(REGISTERS), WHOLE(FILE_BYTES), a);
+        staran_write_picture(STARAN_CONTENT_PICTURE, WHOLE(MEMORY), WHOLE(REGISTERS), WHOLE(FILE_BYTES), a);
         memcpy(words, a, 12);
         return 1u << FILE_BYTES;
     }

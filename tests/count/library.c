@@ -29,8 +29,8 @@ static void prepare(void)
     for (size_t i = 0; i < sizeof many; i++)
         many[i] = list[i % sizeof list];
     many[sizeof many - 1] = 0x50; /* a choice over 4, or byte 7 of a store: 11 in any kind */
-    staran_write_content(STARAN_LIST, content, sizeof content, file, sizeof file, answer);
-    staran_write_picture(STARAN_PICTURE, memory, sizeof memory, registers, sizeof registers, picture, sizeof picture, answer);
+    staran_write_content(STARAN_CONTENT_LIST, content, sizeof content, file, sizeof file, answer);
+    staran_write_picture(STARAN_CONTENT_PICTURE, memory, sizeof memory, registers, sizeof registers, picture, sizeof picture, answer);
 }
 
 /* The list of `count` times the instruction that 16 hex digits say. */
@@ -51,7 +51,7 @@ static void pass(uint8_t flip, uint8_t code) { staran_pass(item, flip, code, pas
 
 static void read_list(size_t length)
 {
-    staran_read_content(STARAN_LIST, file, length, target, sizeof target, answer);
+    staran_read_content(STARAN_CONTENT_LIST, file, length, target, sizeof target, answer);
 }
 
 static int call(const char *name, size_t length)
@@ -75,7 +75,7 @@ static int call(const char *name, size_t length)
     else if (strcmp(name, "judge") == 0)
         run(many, sizeof many);
     else if (strcmp(name, "step") == 0)
-        staran_step(memory, sizeof memory, &record, item, 0, out, sizeof out, list, STARAN_INSTRUCTION_BYTES, answer);
+        staran_step(memory, sizeof memory, &record, list, STARAN_INSTRUCTION_BYTES, item, 0, out, sizeof out, answer);
     else if (strcmp(name, "read-list") == 0)
         read_list(sizeof file);
     else if (strcmp(name, "read-damaged") == 0) {
@@ -83,11 +83,11 @@ static int call(const char *name, size_t length)
         read_list(STARAN_BLOCK_BYTES);
         file[20] ^= 1;
     } else if (strcmp(name, "write-list") == 0)
-        staran_write_content(STARAN_LIST, content, sizeof content, file, sizeof file, answer);
+        staran_write_content(STARAN_CONTENT_LIST, content, sizeof content, file, sizeof file, answer);
     else if (strcmp(name, "read-picture") == 0)
-        staran_read_picture(STARAN_PICTURE, picture, sizeof picture, memory, sizeof memory, registers, sizeof registers, answer);
+        staran_read_picture(STARAN_CONTENT_PICTURE, picture, sizeof picture, memory, sizeof memory, registers, sizeof registers, answer);
     else if (strcmp(name, "write-picture") == 0)
-        staran_write_picture(STARAN_PICTURE, memory, sizeof memory, registers, sizeof registers, picture, sizeof picture, answer);
+        staran_write_picture(STARAN_CONTENT_PICTURE, memory, sizeof memory, registers, sizeof registers, picture, sizeof picture, answer);
     else
         return 0;
     return 1;

@@ -27,21 +27,23 @@ static void run(size_t k)
 {
     staran_run(memory, sizeof memory, registers, sizeof registers, kinds[k], sizeof kinds[k], items, sizeof items, out, sizeof out, answer);
 }
-static void step(size_t k) { staran_step(memory, sizeof memory, &record, items, sizeof items, out, sizeof out, kinds[k], sizeof kinds[k], answer); }
+static void step(size_t k) { staran_step(memory, sizeof memory, &record, kinds[k], sizeof kinds[k], items, sizeof items, out, sizeof out, answer); }
 static void pass(size_t k) { staran_pass(item, k == 0 ? 90 : 0, 0x83, passed, answer); }
 static void wired_pass(size_t k) { staran_wired_pass(item, k == 0 ? 90 : 0, 0x83, passed, answer); }
 static void sum_list(size_t k) { staran_sum_list(0, 32, k == 0 ? 64 : 1, WIDTH, list, sizeof list, answer); }
 static void difference_list(size_t k) { staran_difference_list(0, 32, k == 0 ? 64 : 1, WIDTH, list, sizeof list, answer); }
-static void read_content(size_t k) { staran_read_content(STARAN_LIST, file, sizeof file, content, k == 0 ? sizeof content : 1, answer); }
-static void write_content(size_t k) { staran_write_content(STARAN_LIST, content, sizeof content, file, k == 0 ? sizeof file : 1, answer); }
+static void read_content(size_t k) { staran_read_content(STARAN_CONTENT_LIST, file, sizeof file, content, k == 0 ? sizeof content : 1, answer); }
+static void write_content(size_t k) { staran_write_content(STARAN_CONTENT_LIST, content, sizeof content, file, k == 0 ? sizeof file : 1, answer); }
 static void read_picture(size_t k)
 {
-    staran_read_picture(STARAN_PICTURE, picture, sizeof picture, memory, sizeof memory, registers, k == 0 ? sizeof registers : 1, answer);
+    staran_read_picture(STARAN_CONTENT_PICTURE, picture, sizeof picture, memory, sizeof memory, registers, k == 0 ? sizeof registers : 1, answer);
 }
 static void write_picture(size_t k)
 {
-    staran_write_picture(STARAN_PICTURE, memory, sizeof memory, registers, sizeof registers, picture, k == 0 ? sizeof picture : 1, answer);
+    staran_write_picture(STARAN_CONTENT_PICTURE, memory, sizeof memory, registers, sizeof registers, picture, k == 0 ? sizeof picture : 1, answer);
 }
+
+static void version(size_t k) { answer[0] = staran_version() + (uint32_t)k; }
 
 static uint8_t stack[STACK];
 static ucontext_t here, there;
@@ -89,8 +91,8 @@ int main(void)
 {
     for (size_t i = 0; i < sizeof memory; i++)
         memory[i] = (uint8_t)(i * 167 + i / 256);
-    staran_write_content(STARAN_LIST, content, sizeof content, file, sizeof file, answer);
-    staran_write_picture(STARAN_PICTURE, memory, sizeof memory, registers, sizeof registers, picture, sizeof picture, answer);
+    staran_write_content(STARAN_CONTENT_LIST, content, sizeof content, file, sizeof file, answer);
+    staran_write_picture(STARAN_CONTENT_PICTURE, memory, sizeof memory, registers, sizeof registers, picture, sizeof picture, answer);
     measure("staran_run", run, KINDS);
     measure("staran_step", step, KINDS);
     measure("staran_pass", pass, 2);
@@ -101,5 +103,6 @@ int main(void)
     measure("staran_write_content", write_content, 2);
     measure("staran_read_picture", read_picture, 2);
     measure("staran_write_picture", write_picture, 2);
+    measure("staran_version", version, 1);
     return 0;
 }

@@ -1,6 +1,7 @@
 # For the scripts that count: `. tests/plain/build.sh`, with `here` the top of the repository, `room` a folder of their own, and a `die`.
 # Builds the plain C of this folder twice, $room/plain-gcc.a by gcc -O3 and $room/plain-clang.a by the kit's clang -O3, which is what compiles the crates,
 # and holds each to the stored outside cases: what does other work is not worth counting.
+# shellcheck shell=bash disable=SC2154
 # shellcheck source=tests/compiler.sh
 . "$here/tests/compiler.sh"
 # shellcheck source=tests/kit.sh

@@ -45,32 +45,32 @@ static uint32_t fault(const uint8_t *block, size_t kind, size_t place, size_t co
     size_t s1, s2, used = two_at(block, 6);
     sums(block, &s1, &s2);
     if (two_at(block, 508) != s1 || two_at(block, 510) != s2)
-        return STARAN_BLOCK_SUMS;
+        return STARAN_REFUSED_BLOCK_SUMS;
     if (two_at(block, 0) != kind)
-        return STARAN_BLOCK_KIND;
+        return STARAN_REFUSED_BLOCK_KIND;
     if (two_at(block, 2) != place || two_at(block, 4) != count)
-        return STARAN_BLOCK_NUMBER;
+        return STARAN_REFUSED_BLOCK_NUMBER;
     if (place + 1 < count ? used != PAYLOAD : used > PAYLOAD || (used == 0 && count != 1))
-        return STARAN_BLOCK_FORM;
+        return STARAN_REFUSED_BLOCK_FORM;
     if (!all_zero(block + 8, block + 12) || !all_zero(block + 12 + used, block + 508))
-        return STARAN_BLOCK_FORM;
+        return STARAN_REFUSED_BLOCK_FORM;
     return STARAN_DONE;
 }
 
 static int size_fits(size_t kind, size_t size)
 {
-    return kind == STARAN_PICTURE ? size == PICTURE : size % (kind == STARAN_LIST ? 8 : 32) == 0 && size <= 32768;
+    return kind == STARAN_CONTENT_PICTURE ? size == PICTURE : size % (kind == STARAN_CONTENT_LIST ? 8 : 32) == 0 && size <= 32768;
 }
 
 static void judge(size_t kind, const uint8_t *bytes, size_t length, uint32_t answer[3])
 {
     size_t size = 0;
     if (kind < 1 || kind > 3) {
-        give(answer, STARAN_BLOCK_KIND, 0, 0);
+        give(answer, STARAN_REFUSED_BLOCK_KIND, 0, 0);
         return;
     }
     if (length == 0 || length % BLOCK != 0 || length > 34304) {
-        give(answer, STARAN_FILE_LENGTH, 0, 0);
+        give(answer, STARAN_REFUSED_FILE_LENGTH, 0, 0);
         return;
     }
     for (size_t i = 0; i < length / BLOCK; i++) {
@@ -84,7 +84,7 @@ static void judge(size_t kind, const uint8_t *bytes, size_t length, uint32_t ans
     if (size_fits(kind, size))
         give(answer, STARAN_DONE, 0, (uint32_t)size);
     else
-        give(answer, STARAN_CONTENT_SIZE, 0, 0);
+        give(answer, STARAN_REFUSED_CONTENT_SIZE, 0, 0);
 }
 
 /* Header, zeros and sums of a block whose payload stands in it. */
@@ -107,8 +107,8 @@ void staran_read_content(size_t kind, const uint8_t *bytes, size_t bytes_length,
     judge(kind, bytes, bytes_length, answer);
     if (answer[0] != STARAN_DONE)
         return;
-    if (kind == STARAN_PICTURE || target_length < answer[2]) {
-        give(answer, STARAN_LENT_LENGTH, 0, 0);
+    if (kind == STARAN_CONTENT_PICTURE || target_length < answer[2]) {
+        give(answer, STARAN_REFUSED_LENT_LENGTH, 0, 0);
         return;
     }
     for (size_t i = 0; i < bytes_length / BLOCK; i++)
@@ -119,11 +119,11 @@ void staran_write_content(size_t kind, const uint8_t *content, size_t content_le
 {
     size_t count = content_length == 0 ? 1 : (content_length + PAYLOAD - 1) / PAYLOAD;
     if (kind < 1 || kind > 3)
-        give(answer, STARAN_BLOCK_KIND, 0, 0);
-    else if (kind == STARAN_PICTURE || !size_fits(kind, content_length))
-        give(answer, STARAN_LENT_LENGTH, 0, 0);
+        give(answer, STARAN_REFUSED_BLOCK_KIND, 0, 0);
+    else if (kind == STARAN_CONTENT_PICTURE || !size_fits(kind, content_length))
+        give(answer, STARAN_REFUSED_LENT_LENGTH, 0, 0);
     else if (out_length < BLOCK * count)
-        give(answer, STARAN_OUTPUT_LENGTH, 0, 0);
+        give(answer, STARAN_REFUSED_OUTPUT_TOO_SHORT, 0, 0);
     else {
         for (size_t i = 0; i < count; i++) {
             size_t left = content_length - PAYLOAD * i, used = left < PAYLOAD ? left : PAYLOAD;
@@ -163,8 +163,8 @@ void staran_read_picture(size_t kind, const uint8_t *bytes, size_t bytes_length,
     judge(kind, bytes, bytes_length, answer);
     if (answer[0] != STARAN_DONE)
         return;
-    if (kind != STARAN_PICTURE || memory_length != MEMORY || registers_length != REGISTERS) {
-        give(answer, STARAN_LENT_LENGTH, 0, 0);
+    if (kind != STARAN_CONTENT_PICTURE || memory_length != MEMORY || registers_length != REGISTERS) {
+        give(answer, STARAN_REFUSED_LENT_LENGTH, 0, 0);
         return;
     }
     for (unsigned v = 0; v < 32; v++) {
@@ -179,11 +179,11 @@ void staran_write_picture(size_t kind, const uint8_t *memory, size_t memory_leng
 {
     uint8_t words[256];
     if (kind < 1 || kind > 3)
-        give(answer, STARAN_BLOCK_KIND, 0, 0);
-    else if (kind != STARAN_PICTURE || memory_length != MEMORY || registers_length != REGISTERS)
-        give(answer, STARAN_LENT_LENGTH, 0, 0);
+        give(answer, STARAN_REFUSED_BLOCK_KIND, 0, 0);
+    else if (kind != STARAN_CONTENT_PICTURE || memory_length != MEMORY || registers_length != REGISTERS)
+        give(answer, STARAN_REFUSED_LENT_LENGTH, 0, 0);
     else if (out_length < STARAN_PICTURE_FILE_BYTES)
-        give(answer, STARAN_OUTPUT_LENGTH, 0, 0);
+        give(answer, STARAN_REFUSED_OUTPUT_TOO_SHORT, 0, 0);
     else {
         for (unsigned v = 0; v < 32; v++) {
             plain_words_out(memory, v, words);
@@ -191,7 +191,7 @@ void staran_write_picture(size_t kind, const uint8_t *memory, size_t memory_leng
         }
         put_part(out, MEMORY, registers, REGISTERS);
         for (size_t i = 0; i < 17; i++)
-            seal(STARAN_PICTURE, i, 17, i < 16 ? PAYLOAD : PICTURE - 16 * PAYLOAD, out + BLOCK * i);
+            seal(STARAN_CONTENT_PICTURE, i, 17, i < 16 ? PAYLOAD : PICTURE - 16 * PAYLOAD, out + BLOCK * i);
         give(answer, STARAN_DONE, 0, STARAN_PICTURE_FILE_BYTES);
     }
 }

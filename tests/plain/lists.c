@@ -16,10 +16,10 @@ static uint8_t *put(uint8_t *at, uint8_t kind, uint8_t source, uint8_t tag, uint
 static void build(size_t lead, uint8_t function_b, uint32_t a, uint32_t b, uint32_t s, uint32_t n, uint8_t *list, size_t length, uint32_t answer[2])
 {
     uint8_t *at = list;
-    answer[0] = n < 1 || n > 64                                   ? STARAN_WIDTH
-                : beyond(a, n) || beyond(b, n) || beyond(s, n)    ? STARAN_FIELD_BEYOND
-                : crosses(s, a, n) || crosses(s, b, n)            ? STARAN_FIELDS_CROSS
-                : length < 8 * (lead + 5 * (size_t)n)             ? STARAN_LIST_TOO_SHORT
+    answer[0] = n < 1 || n > 64                                   ? STARAN_REFUSED_WIDTH
+                : beyond(a, n) || beyond(b, n) || beyond(s, n)    ? STARAN_REFUSED_FIELD_BEYOND
+                : crosses(s, a, n) || crosses(s, b, n)            ? STARAN_REFUSED_FIELDS_CROSS
+                : length < 8 * (lead + 5 * (size_t)n)             ? STARAN_REFUSED_LIST_TOO_SHORT
                                                                   : STARAN_DONE;
     answer[1] = 0;
     if (answer[0] != STARAN_DONE)

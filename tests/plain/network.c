@@ -66,7 +66,7 @@ void plain_pass(const uint8_t item[32], uint8_t flip, uint8_t code, uint8_t out[
 
 void staran_pass(const uint8_t item[32], uint8_t flip, uint8_t code, uint8_t passed[32], uint32_t answer[1])
 {
-    answer[0] = plain_is_code(code) ? STARAN_DONE : STARAN_SHIFT;
+    answer[0] = plain_is_code(code) ? STARAN_DONE : STARAN_REFUSED_SHIFT;
     if (answer[0] == STARAN_DONE)
         plain_pass(item, flip, code, passed);
     else
@@ -91,7 +91,7 @@ static unsigned level_line(unsigned p, unsigned m, uint8_t flip, unsigned j, uns
 void staran_wired_pass(const uint8_t item[32], uint8_t flip, uint8_t code, uint8_t passed[32], uint32_t answer[1])
 {
     uint8_t lines[ITEM], next[ITEM];
-    answer[0] = plain_is_code(code) ? STARAN_DONE : STARAN_SHIFT;
+    answer[0] = plain_is_code(code) ? STARAN_DONE : STARAN_REFUSED_SHIFT;
     if (answer[0] != STARAN_DONE) {
         memset(passed, 0, ITEM);
         return;

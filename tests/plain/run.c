@@ -12,20 +12,20 @@ static int gives(const uint8_t *i) { return i[0] == 4 || i[0] == 5; }
 static uint32_t fault(const uint8_t *i)
 {
     if (i[0] > 5)
-        return STARAN_KIND;
+        return STARAN_REFUSED_KIND;
     if (i[1] > 4 || (stores(i) && i[1] == 0) || (i[0] == 5 && i[1] != 0))
-        return STARAN_SOURCE;
+        return STARAN_REFUSED_SOURCE;
     if (touches(i)) {
         if (i[2] == 0)
-            return STARAN_NO_MODE;
+            return STARAN_REFUSED_NO_MODE;
         if (i[2] > 1)
-            return STARAN_MODE_TAG;
+            return STARAN_REFUSED_MODE_TAG;
     } else if ((i[2] | i[3] | i[4]) != 0)
-        return STARAN_MODE_UNUSED;
+        return STARAN_REFUSED_MODE_UNUSED;
     if ((i[6] != 0 && (stores(i) || !plain_is_code(i[6]))) || (i[0] == 5 && (i[5] | i[6]) != 0))
-        return STARAN_SHIFT;
+        return STARAN_REFUSED_SHIFT;
     if (i[0] == 0 ? i[7] > 79 : i[7] != 0)
-        return STARAN_LOGIC;
+        return STARAN_REFUSED_LOGIC;
     return STARAN_DONE;
 }
 
@@ -52,10 +52,10 @@ static void give(uint32_t *answer, uint32_t number, uint32_t place, uint32_t ste
 
 static void judge(size_t memory, size_t registers, const uint8_t *list, size_t length, size_t items, size_t out, uint32_t answer[5])
 {
-    uint32_t number = memory != MEMORY                           ? STARAN_MEMORY_LENGTH
-                      : registers != REGISTERS                   ? STARAN_REGISTERS_LENGTH
-                      : length % 8 != 0 || length > 32768        ? STARAN_LIST_LENGTH
-                      : items % ITEM != 0 || items > 32768       ? STARAN_ITEMS_LENGTH
+    uint32_t number = memory != MEMORY                           ? STARAN_REFUSED_MEMORY_LENGTH
+                      : registers != REGISTERS                   ? STARAN_REFUSED_REGISTERS_LENGTH
+                      : length % 8 != 0 || length > 32768        ? STARAN_REFUSED_LIST_LENGTH
+                      : items % ITEM != 0 || items > 32768       ? STARAN_REFUSED_ITEMS_LENGTH
                                                                  : STARAN_DONE;
     uint32_t taken = 0, given = 0;
     if (number != STARAN_DONE) {
@@ -73,9 +73,9 @@ static void judge(size_t memory, size_t registers, const uint8_t *list, size_t l
         given += (uint32_t)gives(i);
     }
     if (items < (size_t)ITEM * taken)
-        give(answer, STARAN_ITEMS_TOO_FEW, short_at(takes, list, items), 0, 0, 0);
+        give(answer, STARAN_REFUSED_ITEMS_TOO_FEW, short_at(takes, list, items), 0, 0, 0);
     else if (out < (size_t)ITEM * given)
-        give(answer, STARAN_OUT_TOO_SHORT, short_at(gives, list, out), 0, 0, 0);
+        give(answer, STARAN_REFUSED_OUT_TOO_SHORT, short_at(gives, list, out), 0, 0, 0);
     else
         give(answer, STARAN_DONE, 0, (uint32_t)(length / 8), taken, given);
 }
@@ -160,11 +160,11 @@ void staran_run(uint8_t *memory, size_t memory_length, uint8_t *registers, size_
         run_list(memory, registers, registers + 32, registers + 64, list, list_length / 8, items, out);
 }
 
-void staran_step(uint8_t *memory, size_t memory_length, staran_registers *registers, const uint8_t *items, size_t items_length, uint8_t *out,
-                 size_t out_length, const uint8_t *instruction, size_t instruction_length, uint32_t answer[5])
+void staran_step(uint8_t *memory, size_t memory_length, staran_registers *registers, const uint8_t *instruction, size_t instruction_length,
+                 const uint8_t *items, size_t items_length, uint8_t *out, size_t out_length, uint32_t answer[5])
 {
     if (memory_length == MEMORY && instruction_length != 8)
-        give(answer, STARAN_LIST_LENGTH, 0, 0, 0, 0);
+        give(answer, STARAN_REFUSED_LIST_LENGTH, 0, 0, 0, 0);
     else
         judge(memory_length, REGISTERS, instruction, instruction_length, items_length, out_length, answer);
     if (answer[0] == STARAN_DONE)

@@ -8,4 +8,5 @@ pub mod Puts
 pub mod Tests
 pub mod FlipLaws
 pub mod Search
+pub mod Rows
 pub mod Counts

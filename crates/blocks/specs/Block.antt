@@ -6,6 +6,13 @@ use lib.Dec.{eqb, leb, ltb}
 use lib.ListN.{length, take, drop, replicate}
 use Rattle.blocks.specs.Sums.{at, s1, s2}
 
+-- "512 bytes", of which "496 payload bytes".
+abbrev pub blockBytes : ℕ
+blockBytes = 512
+
+abbrev pub payloadBytes : ℕ
+payloadBytes = 496
+
 -- "Two bytes low first": the bytes of a number, and the number that bytes i and i + 1 are.
 abbrev pub two : ℕ → List ℕ
 two x = x % 256 ∷ x / 256 ∷ []
@@ -26,7 +33,7 @@ header kind place count used = two kind ++ two place ++ two count ++ two used ++
 -- "496 payload bytes", of which those not used are 0: with the header, the 508 bytes that are summed.
 unfoldable pub body : ℕ → ℕ → ℕ → List ℕ → List ℕ
 body kind place count payload =
-    header kind place count (length payload) ++ payload ++ replicate (496 - length payload) 0
+    header kind place count (length payload) ++ payload ++ replicate (payloadBytes - length payload) 0
 
 -- "s1 and s2, two bytes each, low first."
 unfoldable pub summed : List ℕ → List ℕ
@@ -49,7 +56,7 @@ sumsRight b = eqb (twoAt b 508) (s1 b) && eqb (twoAt b 510) (s2 b)
 -- "All blocks but the last use 496; the last uses at least 1, or 0 if it is alone."
 unfoldable pub usedRight : ℕ → ℕ → ℕ → Bool
 usedRight place count used =
-    cond (ltb (place + 1) count) (eqb used 496) (leb used 496 && (eqb count 1 || ltb 0 used))
+    cond (ltb (place + 1) count) (eqb used payloadBytes) (leb used payloadBytes && (eqb count 1 || ltb 0 used))
 
 -- Every byte of a list is 0.
 unfoldable pub allZero : List ℕ → Bool

@@ -1,4 +1,5 @@
-// One block of 512 bytes on disk: its two sums, the judging of a block that is read, the making of one that is written. Document 01, Blocks on disk.
+// One block of 512 bytes on disk: its two sums, the judging of a block that is read, the making of one that is written.
+// Document 01, Blocks on disk.
 //
 // These are inner functions: the length of a block and its place are the caller's to judge.
 use bits::copies::copy;
@@ -6,7 +7,12 @@ ghost use mathlib.Core.Path.{_≡_};
 ghost use Prim.Native.Nat.{_+_, _%_, _/_, _<_, _≤_};
 ghost use lib.ListN.{length, take, drop, replicate};
 ghost use Rattle.blocks.specs.Sums.{s1, s2};
-ghost use Rattle.blocks.specs.Block.{twoAt, block, sumsRight, usedRight, allZero, zerosRight, fault};
+ghost use Rattle.blocks.specs.Block.{blockBytes, payloadBytes, twoAt, block, sumsRight, usedRight, allZero, zerosRight, fault};
+
+// The bytes of a block, and those of them that are its payload.
+pub const BLOCK_BYTES: usize = 512;
+
+pub const PAYLOAD_BYTES: usize = 496;
 
 struct TwoSums {
     s1: usize,
@@ -27,9 +33,10 @@ pub fn two_at(s: &[u8], at: usize) -> usize
     wide(s[at]) + 256 * wide(s[at + 1])
 }
 
-// The sums of a block's first 508 bytes. A byte is added to the second sum once for each later turn and its own, which weighs it with 508 - i; neither sum is near 2^64, so each has one remainder, at the end.
+// The sums of a block's first 508 bytes. A byte is added to the second sum once for each later turn and its own, which weighs
+// it with 508 - i; neither sum is near 2^64, so each has one remainder, at the end.
 fn sums(block: &[u8]) -> TwoSums
-    requires { ⌜ length (now block) ≡ 512 ⌝ }
+    requires { ⌜ length (now block) ≡ blockBytes ⌝ }
     ensures { λ r. ⌜ (r .s1 ≡ s1 (now (block .entry))) × (r .s2 ≡ s2 (now (block .entry))) ⌝ }
 {
     let mut a: usize = 0;
@@ -47,7 +54,7 @@ fn sums(block: &[u8]) -> TwoSums
 }
 
 fn sums_right(block: &[u8]) -> bool
-    requires { ⌜ length (now block) ≡ 512 ⌝ }
+    requires { ⌜ length (now block) ≡ blockBytes ⌝ }
     ensures { λ r. ⌜ r ≡ sumsRight (now (block .entry)) ⌝ }
 {
     let s = sums(block);
@@ -61,9 +68,9 @@ fn used_right(place: usize, count: usize, used: usize) -> bool
     ensures { λ r. ⌜ r ≡ usedRight place count used ⌝ }
 {
     if place + 1 < count {
-        return used == 496;
+        return used == PAYLOAD_BYTES;
     }
-    if 496 < used {
+    if PAYLOAD_BYTES < used {
         return false;
     }
     if count == 1 {
@@ -86,7 +93,7 @@ fn all_zero(s: &[u8]) -> bool
 }
 
 fn zeros_right(block: &[u8], used: usize) -> bool
-    requires { ⌜ (length (now block) ≡ 512) × (used ≡ twoAt (now block) 6) × (used ≤ 496) ⌝ }
+    requires { ⌜ (length (now block) ≡ blockBytes) × (used ≡ twoAt (now block) 6) × (used ≤ payloadBytes) ⌝ }
     ensures { λ r. ⌜ r ≡ zerosRight (now (block .entry)) ⌝ }
 {
     if all_zero(&block[8..12]) {
@@ -95,9 +102,10 @@ fn zeros_right(block: &[u8], used: usize) -> bool
     false
 }
 
-// What is wrong with a block that stands at `place` among `count`, where `kind` is asked: 21 to 24, or 0 if it is good at its place.
+// What is wrong with a block that stands at `place` among `count`, where `kind` is asked: 21 to 24, or 0 if it is good at its
+// place.
 pub fn fault(block: &[u8], kind: usize, place: usize, count: usize) -> u8
-    requires { ⌜ (length (now block) ≡ 512) × (place < count) ⌝ }
+    requires { ⌜ (length (now block) ≡ blockBytes) × (place < count) ⌝ }
     ensures { λ r. ⌜ r ≡ fault (now (block .entry)) kind place count ⌝ }
 {
     if !sums_right(block) {
@@ -147,7 +155,8 @@ fn high(x: usize) -> u8
 
 // Makes a block of a payload that already stands in it, `used` bytes from byte 12 on: header, zeros and sums.
 pub fn seal(kind: usize, place: usize, count: usize, used: usize, out: &mut [u8])
-    requires { ⌜ (kind < 65536) × (place < 65536) × (count < 65536) × (used ≤ 496) × (length (now out) ≡ 512) ⌝ }
+    requires { ⌜ (kind < 65536) × (place < 65536) × (count < 65536) × (used ≤ payloadBytes)
+        × (length (now out) ≡ blockBytes) ⌝ }
     ensures { λ _. ⌜ now (out .exit) ≡ block kind place count (take used (drop 12 (now (out .entry)))) ⌝ }
 {
     let head = [
@@ -168,5 +177,5 @@ pub fn seal(kind: usize, place: usize, count: usize, used: usize, out: &mut [u8]
     clear(&mut out[12 + used..508]);
     let s = sums(out);
     let tail = [low(s.s1), high(s.s1), low(s.s2), high(s.s2)];
-    copy(&tail, &mut out[508..512]);
+    copy(&tail, &mut out[508..BLOCK_BYTES]);
 }

@@ -13,7 +13,7 @@ use Rattle.bits.proofs.Digits.{digitsOf-ext}
 use Rattle.bits.proofs.Tests.{all, all-at}
 use Rattle.registers.specs.Logic.{functionBit, newX, newY}
 use Rattle.registers.proofs.LogicLaws.{newY-bit}
-use Rattle.builders.specs.Fields.{clear, setY, bitRound, bitRounds, sumByte, differenceByte, carryByte, moveByte, sumList, differenceList, Clear}
+use Rattle.builders.specs.Sums.{clear, setY, bitRound, bitRounds, sumByte, differenceByte, carryByte, moveByte, sumList, differenceList, Clear}
 use Rattle.builders.specs.Word.{Word, sourceBit, afterBit, actedWord, folded, ranWord}
 use Rattle.builders.proofs.Folds.{folded-rounds}
 use Rattle.builders.proofs.Carries.{carry-step}

@@ -7,10 +7,11 @@ use native.Mathlib.Omega.{arith}
 use lib.Dec.{eqb}
 use lib.ListN.{length, drop}
 use borrow.Author.Tests.{eqb-true}
-use Rattle.judge.proofs.RowLaws.{numbered-high}
+use Rattle.bits.proofs.Rows.{number-high}
 use Rattle.builders.specs.declared.Built.{Built}
 use Rattle.builders.specs.Lists.{encoded}
-use Rattle.builders.specs.Fields.{sumList, differenceList, listLength, fieldRows, fieldsFault, Left, builtWith, sumBuilt, differenceBuilt}
+use Rattle.builders.specs.Sums.{sumList, differenceList, listLength, fieldRows, fieldsFault, sumBuilt, differenceBuilt}
+use Rattle.builders.specs.Building.{BuiltLeft, builtWith}
 use Rattle.builders.proofs.ListLaws.{sum-length, difference-length}
 use Rattle.builders.proofs.Refusals.{sound}
 
@@ -21,7 +22,7 @@ pub record Bounded (a : Built) : Type 0 where
 
 fault-le : (lead a b s n have : ℕ) → fieldsFault lead a b s n have ≤ 33
 unfolding fieldsFault
-fault-le lead a b s n have = numbered-high 29 (fieldRows lead a b s n have)
+fault-le lead a b s n have = number-high 33 (fieldRows lead a b s n have) refl
 
 -- with one instruction before the first bit's, or two
 built-bounds : (lead a b s n : ℕ) (bytes buffer : List ℕ) → lead ≤ 2 → length bytes ≡ listLength lead n
@@ -32,7 +33,7 @@ built-bounds lead a b s n bytes buffer two size = go (eqb f 0) refl
     f = fieldsFault lead a b s n (length buffer)
 
     go : (t : Bool) → eqb f 0 ≡ t
-        → Bounded (cond {A = Left} t (record { answer = record { number = 0; count = length bytes }; list = bytes ++ drop (length bytes) buffer })
+        → Bounded (cond {A = BuiltLeft} t (record { answer = record { number = 0; count = length bytes }; list = bytes ++ drop (length bytes) buffer })
         (record { answer = record { number = f; count = 0 }; list = buffer }) .answer)
     go true e =
         let w = sound lead a b s n (length buffer) f refl (eqb-true f 0 e) .0 .width in

@@ -6,7 +6,7 @@ use Prim.Native.Nat.{ℕ, _*_}
 use native.Mathlib.Omega.{arith}
 use lib.ListN.{take, drop}
 use Rattle.builders.specs.Lists.{encoded, rounds}
-use Rattle.builders.specs.Fields.{sumList, Fields, fieldsFault, sumBuilt, differenceBuilt}
+use Rattle.builders.specs.Sums.{sumList, Fields, fieldsFault, sumBuilt, differenceBuilt}
 
 -- "A sum with A 0, B 1, S 2, n 1 has six instructions; the fourth is `02 03 01 00 02 00 00 00`."
 pub one-bit : Fields 0 1 2 1

@@ -2,8 +2,10 @@
 pub mod ListLaws
 pub mod PutLaws
 pub mod Refusals
+pub mod TwoLaws
 pub mod Bounds
 pub mod Folds
+pub mod Takes
 pub mod Carries
 pub mod Adder
 pub mod Examples

@@ -1,14 +1,17 @@
--- Laws of lists of instructions as bytes: their length, one behind the other, and what is read back. Assumes nothing.
-use mathlib.Core.Path.{_≡_, refl, ap, ap₂, _∙_}
-use mathlib.Core.List.{List, [], _∷_, _++_}
-use Prim.Native.Nat.{ℕ, zero, suc, _+_, _*_}
+-- Laws of lists of instructions and of items as bytes: their length, one behind the other, and what is read back. Assumes nothing.
+use mathlib.Core.Path.{_≡_, refl, sym, ap, ap₂, _∙_}
+use mathlib.Core.List.{List, [], _∷_, _++_, append-assoc}
+use Prim.Native.Nat.{ℕ, zero, suc, _+_, _*_, _<_}
+use native.Mathlib.Decide.{ℕ-discrete}
 use native.Mathlib.Omega.{arith}
-use lib.ListN.{length, length-append, getD}
-use lib.Seq.{getD-append-add}
+use lib.ListN.{length, length-append, getD, take}
+use lib.Seq.{getD-append-add, take-at, drop-at}
+use Rattle.bits.specs.Bits.{byteOf, item}
+use Rattle.bits.proofs.Items.{length-listed}
 use Rattle.judge.specs.declared.Instruction.{Instruction}
 use Rattle.judge.specs.Judge.{instructionAt}
-use Rattle.builders.specs.Lists.{instruction, bytesOf, encoded, rounds, decoded}
-use Rattle.builders.specs.Fields.{bitRound, bitRounds, sumByte, differenceByte, sumList, differenceList, listLength}
+use Rattle.builders.specs.Lists.{instruction, bytesOf, encoded, rounds, decoded, itemsOf, itemAt}
+use Rattle.builders.specs.Sums.{bitRound, bitRounds, sumByte, differenceByte, sumList, differenceList, listLength}
 
 pub length-encoded : (l : List Instruction) → length (encoded l) ≡ 8 * length l
 unfolding encoded
@@ -50,8 +53,8 @@ decoded-encoded (i ∷ l) r = decoded-more i (encoded l ++ r) (length l) ∙ ap 
 
 -- ---- the lengths
 
--- every round has m instructions
-pub length-rounds : (g : ℕ → List Instruction) (m n : ℕ) → ((k : ℕ) → length (g k) ≡ m) → length (rounds g n) ≡ m * n
+-- every round has m elements
+pub length-rounds : {A : Type 0} (g : ℕ → List A) (m n : ℕ) → ((k : ℕ) → length (g k) ≡ m) → length (rounds g n) ≡ m * n
 unfolding rounds
 length-rounds g m zero h = omega arith
 length-rounds g m (suc n) h = length-append (rounds g n) (g n) ∙ omega (arith, length-rounds g m n h, h n)
@@ -66,3 +69,21 @@ sum-length a b s n = length-encoded (sumList a b s n) ∙ omega (arith, length-b
 -- and 8(2+5n)
 pub difference-length : (a b s n : ℕ) → length (encoded (differenceList a b s n)) ≡ listLength 2 n
 difference-length a b s n = length-encoded (differenceList a b s n) ∙ omega (arith, length-bits differenceByte a b s n)
+
+-- ---- items
+
+pub length-items : (g : ℕ → ℕ → ℕ) (n : ℕ) → length (itemsOf g n) ≡ 32 * n
+length-items g n = length-rounds (λ k. item (g k)) 32 n (λ k. length-listed (byteOf (g k)) 32)
+
+-- item k is read back, whatever stands behind the items
+pub items-at : (g : ℕ → ℕ → ℕ) (n k : ℕ) (r : List ℕ) → k < n → itemAt (itemsOf g n ++ r) k ≡ item (g k)
+unfolding rounds
+items-at g zero k r h = absurd (omega arith)
+items-at g (suc n) k r h = ap (λ (l : List ℕ). itemAt l k) (append-assoc (itemsOf g n) (item (g n)) r) ∙ go (ℕ-discrete k n) (items-at g n k (item (g n) ++ r))
+  where
+    go : Dec (k ≡ n) → (k < n → itemAt (itemsOf g n ++ (item (g n) ++ r)) k ≡ item (g k)) → itemAt (itemsOf g n ++ (item (g n) ++ r)) k ≡ item (g k)
+    go (yes e) ih =
+        ap (take 32) (drop-at (itemsOf g n) (item (g n) ++ r) (32 * k) (length-items g n ∙ ap (λ (z : ℕ). 32 * z) (sym e)))
+        ∙ take-at (item (g n)) r 32 (length-listed (byteOf (g n)) 32)
+        ∙ ap (λ (z : ℕ). item (g z)) (sym e)
+    go (no u) ih = ih (omega arith)

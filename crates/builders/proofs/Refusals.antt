@@ -11,17 +11,17 @@ use lib.ListN.{length, drop}
 use borrow.Author.Tests.{eqb-true, eq-eqb, ne-eqb, ltb-false, lt-ltb, le-ltb}
 use Rattle.bits.specs.Steps.{putAt}
 use Rattle.bits.proofs.Puts.{put-front}
-use Rattle.judge.proofs.RowLaws.{FirstRow, none-numbered, numbered-none, numbered-first, first-numbered, or-none}
-use Rattle.builders.specs.Fields.{beyond, crosses, Clear, Fields, listLength, fieldRows, fieldsFault, Left, builtWith}
+use Rattle.bits.specs.Rows.{FirstRow}
+use Rattle.bits.proofs.Rows.{none-number, number-none, first-number, number-first, row-off}
+use Rattle.judge.proofs.RowLaws.{or-none}
+use Rattle.builders.specs.Sums.{beyond, crosses, Clear, Fields, listLength, fieldRows, fieldsFault}
+use Rattle.builders.specs.Building.{BuiltLeft, builtWith}
 
--- ---- the table: number 30 + j is given exactly if row j holds and none before it
+-- ---- the table: number n is given exactly if row n is the first that holds
 
-pub refused : (lead a b s n have j : ℕ) → j < 4 → (fieldsFault lead a b s n have ≡ 30 + j) ↔ FirstRow (fieldRows lead a b s n have) j
+pub fault-row : (lead a b s n have m : ℕ) → (m ≡ 0 → ⊥) → (fieldsFault lead a b s n have ≡ m) ↔ FirstRow (fieldRows lead a b s n have) m
 unfolding fieldsFault
-refused lead a b s n have j h = (
-  first-numbered 29 j (fieldRows lead a b s n have) h,
-  numbered-first 30 j (fieldRows lead a b s n have),
-)
+fault-row lead a b s n have m u = (number-first (fieldRows lead a b s n have) m u, first-number (fieldRows lead a b s n have) m)
 
 -- ---- no number: the fields are sound and there is room
 
@@ -62,11 +62,11 @@ module _ (lead a b s n have : ℕ) where
   pub sound : (number : ℕ) → number ≡ fieldsFault lead a b s n have → number ≡ 0 → Fields a b s n × (listLength lead n ≤ have)
   unfolding fieldsFault
   sound number e z =
-      let r = none-numbered 29 (fieldRows lead a b s n have) (sym e ∙ z) in
-      let w = or-none (ltb n 1) (ltb 64 n) (r .0) in
-      let f = or-none (beyond a n || beyond b n) (beyond s n) (r .1 .0) in
+      let off = row-off (fieldRows lead a b s n have) (number-none (fieldRows lead a b s n have) refl (sym e ∙ z)) in
+      let w = or-none (ltb n 1) (ltb 64 n) (off 30) in
+      let f = or-none (beyond a n || beyond b n) (beyond s n) (off 31) in
       let g = or-none (beyond a n) (beyond b n) (f .0) in
-      let c = or-none (crosses s a n) (crosses s b n) (r .1 .1 .0) in (
+      let c = or-none (crosses s a n) (crosses s b n) (off 32) in (
         record {
           some = ltb-false n 1 (w .0);
           width = ltb-false 64 n (w .1);
@@ -76,13 +76,13 @@ module _ (lead a b s n have : ℕ) where
           clearA = clear-of s a n (c .0);
           clearB = clear-of s b n (c .1);
         },
-        ltb-false have (listLength lead n) (r .1 .1 .1 .0),
+        ltb-false have (listLength lead n) (off 33),
       )
 
   pub no-fault : Fields a b s n → listLength lead n ≤ have → fieldsFault lead a b s n have ≡ 0
   unfolding fieldsFault
   no-fault f h =
-      numbered-none 30 (fieldRows lead a b s n have) (
+      none-number (fieldRows lead a b s n have) (
         or-false _ _ (le-ltb n 1 (f .some)) (le-ltb 64 n (f .width)),
         (
           or-false _ _ (or-false _ _ (le-ltb 256 (a + n) (f .fitsA)) (le-ltb 256 (b + n) (f .fitsB))) (le-ltb 256 (s + n) (f .fitsS)),
@@ -100,20 +100,20 @@ pub built-number : (fault : ℕ) (bytes buffer : List ℕ) → builtWith fault b
 built-number fault bytes buffer = go (eqb fault 0) refl
   where
     go : (t : Bool) → eqb fault 0 ≡ t
-        → cond {A = Left} t (record { answer = record { number = 0; count = length bytes }; list = bytes ++ drop (length bytes) buffer })
+        → cond {A = BuiltLeft} t (record { answer = record { number = 0; count = length bytes }; list = bytes ++ drop (length bytes) buffer })
         (record { answer = record { number = fault; count = 0 }; list = buffer }) .answer .number ≡ fault
     go true e = sym (eqb-true fault 0 e)
     go false e = refl
 
 module _ (lead a b s n : ℕ) (bytes buffer : List ℕ) (number : ℕ) (e : number ≡ fieldsFault lead a b s n (length buffer)) where
   pub built-refused : (number ≡ 0 → ⊥)
-      → _≡_ {A = Left} (record { answer = record { number = number; count = 0 }; list = buffer }) (builtWith (fieldsFault lead a b s n (length buffer)) bytes buffer)
+      → _≡_ {A = BuiltLeft} (record { answer = record { number = number; count = 0 }; list = buffer }) (builtWith (fieldsFault lead a b s n (length buffer)) bytes buffer)
   built-refused h =
       ap (λ (x : ℕ). record { answer = record { number = x; count = 0 }; list = buffer }) e
       ∙ sym (simp (ne-eqb (fieldsFault lead a b s n (length buffer)) 0 (λ z. h (e ∙ z))))
 
   pub built-done : (count : ℕ) (l : List ℕ) → number ≡ 0 → length bytes ≡ listLength lead n → count ≡ listLength lead n → l ≡ putAt 0 bytes buffer
-      → _≡_ {A = Left} (record { answer = record { number = 0; count = count }; list = l }) (builtWith (fieldsFault lead a b s n (length buffer)) bytes buffer)
+      → _≡_ {A = BuiltLeft} (record { answer = record { number = 0; count = count }; list = l }) (builtWith (fieldsFault lead a b s n (length buffer)) bytes buffer)
   built-done count l z h c p =
       ap₂ (λ (x : ℕ) (y : List ℕ). record { answer = record { number = 0; count = x }; list = y }) (c ∙ sym h) (p ∙ put-front bytes buffer)
       ∙ sym (simp (eq-eqb (fieldsFault lead a b s n (length buffer)) 0 (sym e ∙ z)))
@@ -124,9 +124,10 @@ module _ (lead a b s n : ℕ) (bytes buffer : List ℕ) where
   abbrev fault : ℕ
   fault = fieldsFault lead a b s n (length buffer)
 
-  pub built-row : (j : ℕ) → j < 4 → (builtWith fault bytes buffer .answer .number ≡ 30 + j) ↔ FirstRow (fieldRows lead a b s n (length buffer)) j
-  built-row j h =
-      subst (λ (x : ℕ). (x ≡ 30 + j) ↔ FirstRow (fieldRows lead a b s n (length buffer)) j) (sym (built-number fault bytes buffer)) (refused lead a b s n (length buffer) j h)
+  pub built-row : (m : ℕ) → (m ≡ 0 → ⊥) → (builtWith fault bytes buffer .answer .number ≡ m) ↔ FirstRow (fieldRows lead a b s n (length buffer)) m
+  built-row m u =
+      subst (λ (x : ℕ). (x ≡ m) ↔ FirstRow (fieldRows lead a b s n (length buffer)) m) (sym (built-number fault bytes buffer))
+      (fault-row lead a b s n (length buffer) m u)
 
   pub built-0 : (builtWith fault bytes buffer .answer .number ≡ 0) ↔ Fields a b s n × (listLength lead n ≤ length buffer)
   built-0 = (

@@ -1,4 +1,5 @@
 -- Lists of instructions, their builders, and the one-word machine: what the contracts of this crate and of those above it cite.
 pub mod Lists
-pub mod Fields
+pub mod Building
+pub mod Sums
 pub mod Word

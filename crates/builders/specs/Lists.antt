@@ -1,6 +1,8 @@
--- Lists of instructions as bytes, and the instructions that lists on fields are made of. Document 01, Instructions.
+-- Lists of instructions and of items as bytes, and the instructions that lists on fields are made of. Document 01, Instructions.
 use mathlib.Core.List.{List, [], _∷_, _++_}
-use Prim.Native.Nat.{ℕ, zero, suc}
+use Prim.Native.Nat.{ℕ, zero, suc, _*_}
+use lib.ListN.{take, drop}
+use Rattle.bits.specs.Bits.{item}
 use Rattle.judge.specs.declared.Instruction.{Instruction}
 use Rattle.judge.specs.Judge.{instructionAt}
 
@@ -31,8 +33,8 @@ unfoldable pub encoded : List Instruction → List ℕ
 encoded [] = []
 encoded (i ∷ l) = bytesOf i ++ encoded l
 
--- What a list does for bit 0, then for bit 1, and so on to bit n - 1.
-unfoldable pub rounds : (ℕ → List Instruction) → ℕ → List Instruction
+-- What a list does for bit 0, then for bit 1, and so on to bit n - 1; or the bytes of items 0 to n - 1.
+unfoldable pub rounds : {A : Type 0} → (ℕ → List A) → ℕ → List A
 rounds g zero = []
 rounds g (suc n) = rounds g n ++ g n
 
@@ -40,3 +42,13 @@ rounds g (suc n) = rounds g n ++ g n
 unfoldable pub decoded : List ℕ → ℕ → List Instruction
 decoded l zero = []
 decoded l (suc n) = decoded l n ++ (instructionAt l n ∷ [])
+
+-- ---- items
+
+-- Items 0 to n - 1 one behind the other, where item k has g k p at line p.
+abbrev pub itemsOf : (ℕ → ℕ → ℕ) → ℕ → List ℕ
+itemsOf g = rounds (λ k. item (g k))
+
+-- Item k of a buffer.
+abbrev pub itemAt : List ℕ → ℕ → List ℕ
+itemAt l k = take 32 (drop (32 * k) l)

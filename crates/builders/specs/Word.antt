@@ -1,7 +1,7 @@
 -- The one-word machine: word P of the array with line P's bits of M, X and Y. Where every access has mode 0 and nothing is flipped or shifted, line P of a run is a run of this machine (crate fields, proofs/LineLaws.antt).
 use mathlib.Core.Bool.{cond, _&&_, _||_}
 use mathlib.Core.List.{List, [], _∷_}
-use Prim.Native.Nat.{ℕ, zero, suc}
+use Prim.Native.Nat.{ℕ, zero, suc, _+_}
 use lib.Dec.{eqb}
 use Rattle.registers.specs.Logic.{newX, newY}
 use Rattle.judge.specs.declared.Instruction.{Instruction}
@@ -28,11 +28,11 @@ heldBit (suc (suc (suc n))) b m x y = y
 unfoldable pub sourceBit : Instruction → (ℕ → ℕ) → Word → ℕ
 sourceBit i o v = cond (takes i) (o (v .taken)) (heldBit (i .source) (v .bits (i .addr)) (v .m) (v .x) (v .y))
 
--- What instruction i, whose source bit is f, makes of the word: logic, set M, a store of bit `addr`, a masked store; other kinds leave it.
-unfoldable pub afterBit : Instruction → ℕ → Word → Word
-afterBit i f v =
+-- What instruction i, with mask bit k and source bit f, makes of the word: logic, set M, a store of bit `addr`, a masked store; other kinds leave it.
+unfoldable pub afterBit : Instruction → ℕ → ℕ → Word → Word
+afterBit i k f v =
     record {
-      bits = λ b. cond ((eqb (i .kind) 2 || (eqb (i .kind) 3 && eqb (v .m) 1)) && eqb b (i .addr)) f (v .bits b);
+      bits = λ b. cond ((eqb (i .kind) 2 || (eqb (i .kind) 3 && eqb k 1)) && eqb b (i .addr)) f (v .bits b);
       m = cond (eqb (i .kind) 1) f (v .m);
       x = cond (eqb (i .kind) 0) (newX (i .logic) (v .x) (v .y) f) (v .x);
       y = cond (eqb (i .kind) 0) (newY (i .logic) (v .y) f) (v .y);
@@ -40,7 +40,7 @@ afterBit i f v =
     }
 
 unfoldable pub actedWord : Instruction → (ℕ → ℕ) → Word → Word
-actedWord i o v = afterBit i (sourceBit i o v) v
+actedWord i o v = afterBit i (v .m) (sourceBit i o v) v
 
 -- A list, for any machine that has a step.
 unfoldable pub folded : {S : Type 0} → (Instruction → S → S) → List Instruction → S → S
@@ -49,6 +49,16 @@ folded f (i ∷ l) s = folded f l (f i s)
 
 abbrev pub ranWord : List Instruction → (ℕ → ℕ) → Word → Word
 ranWord l o v = folded (λ i. actedWord i o) l v
+
+-- How many instructions of a list take an item.
+unfoldable pub takenBy : List Instruction → ℕ
+takenBy [] = 0
+takenBy (i ∷ l) = cond (takes i) 1 0 + takenBy l
+
+-- A list on its items, for any machine whose step is handed the next one: o k, where k were taken before.
+unfoldable pub foldedOn : {S O : Type 0} → (Instruction → O → S → S) → (ℕ → O) → List Instruction → ℕ → S → S
+foldedOn f o [] k s = s
+foldedOn f o (i ∷ l) k s = foldedOn f o l (k + cond (takes i) 1 0) (f i (o k) s)
 
 -- Each instruction of a list has P.
 pub data Each (P : Instruction → Type 0) : List Instruction → Type 0 where

@@ -5,12 +5,19 @@ mod writing;
 use bits::choices::number_or;
 ghost use mathlib.Core.Path.{_≡_};
 ghost use Prim.Native.Nat.{_<_};
-ghost use Rattle.builders.specs.Fields.{beyond, crosses, listLength, fieldsFault, sumBuilt, differenceBuilt};
+ghost use Rattle.builders.specs.Sums.{beyond, crosses, listLength, fieldsFault, sumBuilt, differenceBuilt};
 
 // What a builder gives back: 0 and the count of the bytes written, or the number of a refusal and 0.
 pub struct Built {
     pub number: u8,
     pub count: usize,
+}
+
+// What a builder of a list with its items gives back: 0 and the counts of the bytes written to each, or the number of a refusal and zeros.
+pub struct BuiltTwo {
+    pub number: u8,
+    pub list: usize,
+    pub items: usize,
 }
 
 // Does a field that starts at `a` end beyond bit 255? Added as 64-bit numbers, so that nothing wraps round.

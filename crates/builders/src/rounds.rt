@@ -5,7 +5,7 @@ ghost use Prim.Native.Nat.{_+_, _*_, _≤_};
 ghost use lib.ListN.{length};
 ghost use Rattle.bits.specs.Steps.{putAt};
 ghost use Rattle.builders.specs.Lists.{encoded};
-ghost use Rattle.builders.specs.Fields.{bitRound, bitRounds, sumList, differenceList, listLength, Fields};
+ghost use Rattle.builders.specs.Sums.{bitRound, bitRounds, sumList, differenceList, listLength, Fields};
 
 // Sources.
 const X: u8 = 2;

@@ -1,30 +1,48 @@
 -- What each way through a reader and a writer answers, and what it leaves. Assumes nothing.
-use mathlib.Core.Path.{_≡_, refl, sym, ap, _∙_}
+use mathlib.Core.Path.{_≡_, refl, sym, ap, ap₂, _∙_}
 use mathlib.Core.Bool.{Bool, true, false, cond, not}
 use mathlib.Core.List.{List}
 use Prim.Native.Nat.{ℕ, _*_, _<_, _≤_}
 use native.Mathlib.Omega.{arith}
 use lib.Dec.{eqb, ltb}
 use borrow.Author.Tests.{ne-eqb, eq-eqb, eqb-false, lt-ltb, le-ltb}
-use Rattle.contents.specs.declared.Answer.{Answer}
-use Rattle.contents.specs.File.{done, refused, kindRight, judge, blockCount}
-use Rattle.contents.specs.Content.{readAnswer, writeAnswer, changed}
+use Rattle.contents.specs.declared.Moved.{Moved}
+use Rattle.contents.specs.File.{done, refused, kindRight, fileJudged, blockCount}
+use Rattle.contents.specs.Content.{readAnswer, writeAnswer, changed, ContentLeft}
 
 -- ---- a target after an answer
 
-pub changed-not : (a : Answer) (new old : List ℕ) → (a .number ≡ 0 → ⊥) → old ≡ changed a new old
+pub changed-not : (a : Moved) (new old : List ℕ) → (a .number ≡ 0 → ⊥) → old ≡ changed a new old
 changed-not a new old u = sym (ap (λ (t : Bool). cond t new old) (ne-eqb (a .number) 0 u))
 
-pub changed-done : (a : Answer) (new old : List ℕ) → a .number ≡ 0 → new ≡ changed a new old
+pub changed-done : (a : Moved) (new old : List ℕ) → a .number ≡ 0 → new ≡ changed a new old
 changed-done a new old z = sym (ap (λ (t : Bool). cond t new old) (eq-eqb (a .number) 0 z))
 
 -- a refusal's number is not 0
-pub refused-not : (a : Answer) (n p : ℕ) → a ≡ refused n p → (n ≡ 0 → ⊥) → a .number ≡ 0 → ⊥
-refused-not a n p e u z = u (sym (ap (λ (x : Answer). x .number) e) ∙ z)
+pub refused-not : (a : Moved) (n p : ℕ) → a ≡ refused n p → (n ≡ 0 → ⊥) → a .number ≡ 0 → ⊥
+refused-not a n p e u z = u (sym (ap (λ (x : Moved). x .number) e) ∙ z)
+
+-- ---- what is left, where the answer r is a: on a refusal the buffer as it was, else the new content
+
+abbrev leaving : Moved → List ℕ → ContentLeft
+leaving x l = record { answer = x; buffer = l }
+
+module _ (r a : Moved) (new old : List ℕ) (e : r ≡ a) where
+  pub left-old : (r .number ≡ 0 → ⊥) → leaving r old ≡ leaving a (changed a new old)
+  left-old u = ap₂ leaving e (changed-not r new old u ∙ ap (λ (x : Moved). changed x new old) e)
+
+  pub left-new : (t : List ℕ) → t ≡ new → r .number ≡ 0 → leaving r t ≡ leaving a (changed a new old)
+  left-new t h z = ap₂ leaving e (h ∙ changed-done r new old z ∙ ap (λ (x : Moved). changed x new old) e)
+
+-- and what that says of the answer and of the buffer
+pub left-parts : (r a : Moved) (new old t : List ℕ) → leaving r t ≡ leaving a (changed a new old) → (r ≡ a) × (t ≡ changed r new old)
+left-parts r a new old t h =
+    let e = ap (λ (l : ContentLeft). l .answer) h in
+    (e, ap (λ (l : ContentLeft). l .buffer) h ∙ ap (λ (x : Moved). changed x new old) (sym e))
 
 -- ---- a reader
 
-module _ (kind : ℕ) (bytes : List ℕ) (fits : Bool) (a : Answer) (e : a ≡ judge kind bytes) where
+module _ (kind : ℕ) (bytes : List ℕ) (fits : Bool) (a : Moved) (e : a ≡ fileJudged kind bytes) where
   pub read-refused : (a .number ≡ 0 → ⊥) → a ≡ readAnswer kind bytes fits
   unfolding readAnswer
   read-refused u = rw (sym e) (sym (ap (λ (t : Bool). cond (not t) a (cond (not fits) (refused 26 0) a)) (ne-eqb (a .number) 0 u)))
@@ -38,15 +56,15 @@ module _ (kind : ℕ) (bytes : List ℕ) (fits : Bool) (a : Answer) (e : a ≡ j
   read-done z f = rw (sym e) (sym (ap (λ (t : Bool). cond (not t) a (cond (not fits) (refused 26 0) a)) (eq-eqb (a .number) 0 z) ∙ ap (λ (t : Bool). cond (not t) (refused 26 0) a) f))
 
 -- a file that is not refused stands when judged, and its targets fit
-pub read-stands : (kind : ℕ) (bytes : List ℕ) (fits : Bool) → readAnswer kind bytes fits .number ≡ 0 → (judge kind bytes .number ≡ 0) × (fits ≡ true)
+pub read-stands : (kind : ℕ) (bytes : List ℕ) (fits : Bool) → readAnswer kind bytes fits .number ≡ 0 → (fileJudged kind bytes .number ≡ 0) × (fits ≡ true)
 unfolding readAnswer
-read-stands kind bytes fits z = go (eqb (judge kind bytes .number) 0) fits refl refl z
+read-stands kind bytes fits z = go (eqb (fileJudged kind bytes .number) 0) fits refl refl z
   where
-    go : (t f : Bool) → eqb (judge kind bytes .number) 0 ≡ t → fits ≡ f
-        → (cond (not t) (judge kind bytes) (cond (not f) (refused 26 0) (judge kind bytes))) .number ≡ 0 → (judge kind bytes .number ≡ 0) × (fits ≡ true)
+    go : (t f : Bool) → eqb (fileJudged kind bytes .number) 0 ≡ t → fits ≡ f
+        → (cond (not t) (fileJudged kind bytes) (cond (not f) (refused 26 0) (fileJudged kind bytes))) .number ≡ 0 → (fileJudged kind bytes .number ≡ 0) × (fits ≡ true)
     go true true et ef z = (z, ef)
     go true false et ef z = absurd (omega arith)
-    go false f et ef z = absurd (eqb-false (judge kind bytes .number) 0 et z)
+    go false f et ef z = absurd (eqb-false (fileJudged kind bytes .number) 0 et z)
 
 -- ---- a writer
 

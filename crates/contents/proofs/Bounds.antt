@@ -8,15 +8,15 @@ use lib.Dec.{eqb, leb, ltb}
 use lib.ListN.{length}
 use borrow.Author.Tests.{leb-true}
 use Rattle.blocks.proofs.BlockLaws.{and-right}
-use Rattle.blocks.proofs.Table.{fault-le}
-use Rattle.contents.specs.declared.Answer.{Answer}
+use Rattle.blocks.proofs.Numbers.{fault-le}
+use Rattle.contents.specs.declared.Moved.{Moved}
 use Rattle.contents.specs.File.{blockAt, contentOf, lengthRight, sizeFits}
 use Rattle.contents.specs.Content.{readAnswer, writeAnswer, contentFits}
 use Rattle.contents.proofs.FileLaws.{size-le}
 use Rattle.contents.proofs.Outcomes.{Read, wrong-kind, wrong-length, wrong-block, wrong-size, no-target, all-read, read, Written, no-kind, no-size, no-room, all-written, written}
 
 -- 27 is the last number, 67 the most blocks, 34,304 their bytes
-pub record Bounded (a : Answer) : Type 0 where
+pub record Bounded (a : Moved) : Type 0 where
   pub number : a .number ≤ 27
   pub place : a .place ≤ 67
   pub bytes : a .bytes ≤ 34304
@@ -28,7 +28,7 @@ length-le n e = leb-true n 34304 (and-right (ltb 0 n && eqb (n % 512) 0) (leb n 
 pub read-bounds : (kind : ℕ) (bytes : List ℕ) (fits : Bool) → Bounded (readAnswer kind bytes fits)
 read-bounds kind bytes fits = go (readAnswer kind bytes fits) (read kind bytes fits)
   where
-    go : (a : Answer) → Read kind bytes fits a → Bounded a
+    go : (a : Moved) → Read kind bytes fits a → Bounded a
     go a (wrong-kind k) = record { number = omega arith; place = omega arith; bytes = omega arith }
     go a (wrong-length k l) = record { number = omega arith; place = omega arith; bytes = omega arith }
     go a (wrong-block k l i h g u) =
@@ -46,7 +46,7 @@ read-bounds kind bytes fits = go (readAnswer kind bytes fits) (read kind bytes f
 pub write-place : (kind : ℕ) (fits : Bool) (size room : ℕ) → writeAnswer kind fits size room .place ≡ 0
 write-place kind fits size room = go (writeAnswer kind fits size room) (written kind fits size room)
   where
-    go : (a : Answer) → Written kind fits size room a → a .place ≡ 0
+    go : (a : Moved) → Written kind fits size room a → a .place ≡ 0
     go a (no-kind k) = refl
     go a (no-size k f) = refl
     go a (no-room k f h) = refl
@@ -56,7 +56,7 @@ write-place kind fits size room = go (writeAnswer kind fits size room) (written 
 pub write-bounds : (kind : ℕ) (fits : Bool) (size room : ℕ) → (fits ≡ true → size ≤ 32768) → Bounded (writeAnswer kind fits size room)
 write-bounds kind fits size room small = go (writeAnswer kind fits size room) (written kind fits size room)
   where
-    go : (a : Answer) → Written kind fits size room a → Bounded a
+    go : (a : Moved) → Written kind fits size room a → Bounded a
     go a (no-kind k) = record { number = omega arith; place = omega arith; bytes = omega arith }
     go a (no-size k f) = record { number = omega arith; place = omega arith; bytes = omega arith }
     go a (no-room k f h) = record { number = omega arith; place = omega arith; bytes = omega arith }

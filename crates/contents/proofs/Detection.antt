@@ -12,10 +12,10 @@ use Rattle.blocks.specs.Block.{sumsRight, fault}
 use Rattle.blocks.specs.Swap.{swapped}
 use Rattle.blocks.proofs.BlockLaws.{fault-good}
 use Rattle.blocks.proofs.Detection.{altered-21, neighbours-21}
-use Rattle.contents.specs.File.{refused, blockAt, Verdict, good, bad, verdict, next, judged, judge, lengthRight}
+use Rattle.contents.specs.File.{refused, blockAt, Verdict, good, bad, verdict, next, blocksJudged, fileJudged, lengthRight}
 use Rattle.contents.specs.Content.{readAnswer}
 use Rattle.contents.proofs.AnswerLaws.{read-refused}
-use Rattle.contents.proofs.FileLaws.{block-len, block-bytes, judged-each, judged-stays, judge-bad, whole, Stands}
+use Rattle.contents.proofs.FileLaws.{block-len, block-bytes, blocks-each, blocks-stays, file-bad, whole, Stands}
 
 module _ (bytes : List ℕ) (i m v : ℕ) where
   -- the block of the byte, and those before
@@ -30,41 +30,41 @@ module _ (bytes : List ℕ) (i m v : ℕ) where
       ∙ take-set-le 512 (drop (512 * j) bytes) (512 * i + m - 512 * j) v (omega arith)
 
 -- if all are good, so are the first
-judged-first : (kind : ℕ) (bytes : List ℕ) (count n i : ℕ) → i ≤ n → judged kind bytes count n ≡ good → judged kind bytes count i ≡ good
-judged-first kind bytes count n i h g = go (judged kind bytes count i) refl
+blocks-first : (kind : ℕ) (bytes : List ℕ) (count n i : ℕ) → i ≤ n → blocksJudged kind bytes count n ≡ good → blocksJudged kind bytes count i ≡ good
+blocks-first kind bytes count n i h g = go (blocksJudged kind bytes count i) refl
   where
-    go : (v : Verdict) → judged kind bytes count i ≡ v → judged kind bytes count i ≡ good
+    go : (v : Verdict) → blocksJudged kind bytes count i ≡ v → blocksJudged kind bytes count i ≡ good
     go good e = e
     go (bad c p) e =
-        let s = judged-stays kind bytes count i c p n h e in
+        let s = blocks-stays kind bytes count i c p n h e in
         absurd (let z : _≡_ {A = ℕ} 0 1 = cc in omega arith)
 
-judged-ext : (kind : ℕ) (a b : List ℕ) (count n : ℕ) → ((j : ℕ) → j < n → blockAt a j ≡ blockAt b j) → judged kind a count n ≡ judged kind b count n
-unfolding judged
-judged-ext kind a b count zero e = refl
-judged-ext kind a b count (suc n) e =
-    ap₂ (λ (v : Verdict) (l : List ℕ). next v (verdict (fault l kind n count) n)) (judged-ext kind a b count n (λ j h. e j (omega arith))) (e n (omega arith))
+blocks-ext : (kind : ℕ) (a b : List ℕ) (count n : ℕ) → ((j : ℕ) → j < n → blockAt a j ≡ blockAt b j) → blocksJudged kind a count n ≡ blocksJudged kind b count n
+unfolding blocksJudged
+blocks-ext kind a b count zero e = refl
+blocks-ext kind a b count (suc n) e =
+    ap₂ (λ (v : Verdict) (l : List ℕ). next v (verdict (fault l kind n count) n)) (blocks-ext kind a b count n (λ j h. e j (omega arith))) (e n (omega arith))
 
 module _ (kind : ℕ) (bytes : List ℕ) (s : Stands kind bytes) (small : (k : ℕ) → at bytes k < 256) where
   -- another file of the length, the same up to block i, which has wrong sums
   wrong-block : (c : List ℕ) (i : ℕ) → length c ≡ length bytes → 512 * i + 512 ≤ length bytes
-      → ((j : ℕ) → j < i → blockAt c j ≡ blockAt bytes j) → fault (blockAt c i) kind i (length bytes / 512) ≡ 21 → judge kind c ≡ refused 21 i
+      → ((j : ℕ) → j < i → blockAt c j ≡ blockAt bytes j) → fault (blockAt c i) kind i (length bytes / 512) ≡ 21 → fileJudged kind c ≡ refused 21 i
   wrong-block c i lc hi same bad21 =
       let n = length bytes / 512 in
-      sym (judge-bad kind c (s .kinds) (ap lengthRight lc ∙ s .lengths) i 21 (omega arith)
-      (ap (λ (k : ℕ). judged kind c (k / 512) i) lc ∙ judged-ext kind c bytes n i same ∙ judged-first kind bytes n n i (omega arith) (s .blocks))
+      sym (file-bad kind c (s .kinds) (ap lengthRight lc ∙ s .lengths) i 21 (omega arith)
+      (ap (λ (k : ℕ). blocksJudged kind c (k / 512) i) lc ∙ blocks-ext kind c bytes n i same ∙ blocks-first kind bytes n n i (omega arith) (s .blocks))
       (ap (λ (k : ℕ). fault (blockAt c i) kind i (k / 512)) lc ∙ bad21)
       (λ q. omega arith))
 
   sums-ok : (i : ℕ) → 512 * i + 512 ≤ length bytes → sumsRight (blockAt bytes i) ≡ true
   sums-ok i h =
       let n = length bytes / 512 in
-      fault-good (blockAt bytes i) kind i n (judged-each kind bytes n n i (omega arith) (s .blocks)) .sums
+      fault-good (blockAt bytes i) kind i n (blocks-each kind bytes n n i (omega arith) (s .blocks)) .sums
 
   at-block : (i m : ℕ) → m < 512 → at (blockAt bytes i) m ≡ at bytes (512 * i + m)
   at-block i m h = getD-take 512 (drop (512 * i) bytes) m 0 h ∙ getD-drop (512 * i) bytes m 0
 
-  altered-at : (i m v : ℕ) → m < 512 → 512 * i + 512 ≤ length bytes → v < 256 → (v ≡ at bytes (512 * i + m) → ⊥) → judge kind (set bytes (512 * i + m) v) ≡ refused 21 i
+  altered-at : (i m v : ℕ) → m < 512 → 512 * i + 512 ≤ length bytes → v < 256 → (v ≡ at bytes (512 * i + m) → ⊥) → fileJudged kind (set bytes (512 * i + m) v) ≡ refused 21 i
   altered-at i m v hm hi hv u =
       wrong-block (set bytes (512 * i + m) v) i (length-set bytes (512 * i + m) v) hi (λ j h. block-before bytes i m v j h)
       (ap (λ (l : List ℕ). fault l kind i (length bytes / 512)) (block-here bytes i m v hm)
@@ -72,7 +72,7 @@ module _ (kind : ℕ) (bytes : List ℕ) (s : Stands kind bytes) (small : (k : �
 
   -- neighbours within a block
   swapped-at : (i m : ℕ) → m + 1 < 512 → 512 * i + 512 ≤ length bytes → (at bytes (512 * i + m) ≡ at bytes (512 * i + (m + 1)) → ⊥)
-      → judge kind (swapped bytes (512 * i + m) (512 * i + (m + 1))) ≡ refused 21 i
+      → fileJudged kind (swapped bytes (512 * i + m) (512 * i + (m + 1))) ≡ refused 21 i
   unfolding swapped
   swapped-at i m hm hi u =
       let x = at bytes (512 * i + m) in
@@ -88,7 +88,7 @@ module _ (kind : ℕ) (bytes : List ℕ) (s : Stands kind bytes) (small : (k : �
 
   -- the last byte of a block and the first of the next
   crossed-at : (i : ℕ) → 512 * i + 512 < length bytes → (at bytes (512 * i + 511) ≡ at bytes (512 * i + 512) → ⊥)
-      → judge kind (swapped bytes (512 * i + 511) (512 * i + 512)) ≡ refused 21 i
+      → fileJudged kind (swapped bytes (512 * i + 511) (512 * i + 512)) ≡ refused 21 i
   unfolding swapped
   crossed-at i hi u =
       let x = at bytes (512 * i + 511) in
@@ -103,15 +103,15 @@ module _ (kind : ℕ) (bytes : List ℕ) (s : Stands kind bytes) (small : (k : �
       (λ q. u (sym (at-block i 511 (omega arith)) ∙ sym q)))
 
   -- any byte of a good file
-  pub altered-file : (k v : ℕ) → k < length bytes → v < 256 → (v ≡ at bytes k → ⊥) → judge kind (set bytes k v) ≡ refused 21 (k / 512)
+  pub altered-file : (k v : ℕ) → k < length bytes → v < 256 → (v ≡ at bytes k → ⊥) → fileJudged kind (set bytes k v) ≡ refused 21 (k / 512)
   altered-file k v hk hv u =
       let e : 512 * (k / 512) + k % 512 ≡ k = omega arith in
       let w = whole (length bytes) (s .lengths) in
-      sym (ap (λ (x : ℕ). judge kind (set bytes x v)) e)
+      sym (ap (λ (x : ℕ). fileJudged kind (set bytes x v)) e)
       ∙ altered-at (k / 512) (k % 512) v (omega arith) (omega arith) hv (λ q. u (q ∙ ap (at bytes) e))
 
   -- any two unequal neighbours of a good file
-  pub swapped-file : (k : ℕ) → k + 1 < length bytes → (at bytes k ≡ at bytes (k + 1) → ⊥) → judge kind (swapped bytes k (k + 1)) ≡ refused 21 (k / 512)
+  pub swapped-file : (k : ℕ) → k + 1 < length bytes → (at bytes k ≡ at bytes (k + 1) → ⊥) → fileJudged kind (swapped bytes k (k + 1)) ≡ refused 21 (k / 512)
   swapped-file k hk u = go (decLt (k % 512) 511)
     where
       i : ℕ
@@ -120,16 +120,16 @@ module _ (kind : ℕ) (bytes : List ℕ) (s : Stands kind bytes) (small : (k : �
       w : length bytes % 512 ≡ 0
       w = whole (length bytes) (s .lengths)
 
-      go : Dec (k % 512 < 511) → judge kind (swapped bytes k (k + 1)) ≡ refused 21 i
+      go : Dec (k % 512 < 511) → fileJudged kind (swapped bytes k (k + 1)) ≡ refused 21 i
       go (yes l) =
           let e : k ≡ 512 * i + k % 512 = omega arith in
           let f : k + 1 ≡ 512 * i + (k % 512 + 1) = omega arith in
-          ap₂ (λ (x y : ℕ). judge kind (swapped bytes x y)) e f
+          ap₂ (λ (x y : ℕ). fileJudged kind (swapped bytes x y)) e f
           ∙ swapped-at i (k % 512) (omega arith) (omega (arith, w)) (λ q. u (ap (at bytes) e ∙ q ∙ sym (ap (at bytes) f)))
       go (no n) =
           let e : k ≡ 512 * i + 511 = omega arith in
           let f : k + 1 ≡ 512 * i + 512 = omega arith in
-          ap₂ (λ (x y : ℕ). judge kind (swapped bytes x y)) e f
+          ap₂ (λ (x y : ℕ). fileJudged kind (swapped bytes x y)) e f
           ∙ crossed-at i (omega (arith, w)) (λ q. u (ap (at bytes) e ∙ q ∙ sym (ap (at bytes) f)))
 
   -- so every reader refuses it, whatever its targets

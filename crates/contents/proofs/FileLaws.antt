@@ -13,7 +13,7 @@ use borrow.Author.Tests.{ne-eqb, eqb-true, eqb-false, leb-true, ltb-true}
 use Rattle.blocks.specs.Sums.{at}
 use Rattle.blocks.specs.Block.{twoAt, fault, payloadOf}
 use Rattle.blocks.proofs.BlockLaws.{and-left, and-right}
-use Rattle.contents.specs.File.{done, refused, blockAt, gathered, contentOf, Verdict, good, bad, verdict, next, judged, kindRight, lengthRight, sizeFits, settled, judge}
+use Rattle.contents.specs.File.{done, refused, blockAt, gathered, contentOf, Verdict, good, bad, verdict, next, blocksJudged, kindRight, lengthRight, sizeFits, settled, fileJudged}
 
 -- ---- blocks of a file, and their content
 
@@ -44,35 +44,35 @@ gathered-more bytes n h u =
     ∙ ap (λ (k : ℕ). length (gathered bytes n) + k) (payload-len (blockAt bytes n) (block-len bytes n h) u)
 
 module _ (kind : ℕ) (bytes : List ℕ) (count : ℕ) where
-  pub judged-good : (n : ℕ) → judged kind bytes count n ≡ good → fault (blockAt bytes n) kind n count ≡ 0 → judged kind bytes count (n + 1) ≡ good
-  unfolding judged
-  judged-good n g e = rw (add-one n) (ap₂ (λ (v : Verdict) (x : ℕ). next v (verdict x n)) g e)
+  pub blocks-good : (n : ℕ) → blocksJudged kind bytes count n ≡ good → fault (blockAt bytes n) kind n count ≡ 0 → blocksJudged kind bytes count (n + 1) ≡ good
+  unfolding blocksJudged
+  blocks-good n g e = rw (add-one n) (ap₂ (λ (v : Verdict) (x : ℕ). next v (verdict x n)) g e)
 
-  pub judged-bad : (n c : ℕ) → judged kind bytes count n ≡ good → fault (blockAt bytes n) kind n count ≡ c → (c ≡ 0 → ⊥) → judged kind bytes count (n + 1) ≡ bad c n
-  unfolding judged
-  judged-bad n c g e u =
+  pub blocks-bad : (n c : ℕ) → blocksJudged kind bytes count n ≡ good → fault (blockAt bytes n) kind n count ≡ c → (c ≡ 0 → ⊥) → blocksJudged kind bytes count (n + 1) ≡ bad c n
+  unfolding blocksJudged
+  blocks-bad n c g e u =
       rw (add-one n)
       (ap₂ (λ (v : Verdict) (x : ℕ). next v (verdict x n)) g e
       ∙ ap (λ (t : Bool). cond t good (bad c n)) (ne-eqb c 0 u))
 
-  pub judged-stays : (n c p m : ℕ) → n ≤ m → judged kind bytes count n ≡ bad c p → judged kind bytes count m ≡ bad c p
-  unfolding judged
-  judged-stays n c p zero h e =
+  pub blocks-stays : (n c p m : ℕ) → n ≤ m → blocksJudged kind bytes count n ≡ bad c p → blocksJudged kind bytes count m ≡ bad c p
+  unfolding blocksJudged
+  blocks-stays n c p zero h e =
       let z : zero ≡ n = omega arith in
-      ap (judged kind bytes count) z ∙ e
-  judged-stays n c p (suc m) h e = go (decLt m n) (λ l. judged-stays n c p m l e)
+      ap (blocksJudged kind bytes count) z ∙ e
+  blocks-stays n c p (suc m) h e = go (decLt m n) (λ l. blocks-stays n c p m l e)
     where
-      go : Dec (m < n) → (n ≤ m → judged kind bytes count m ≡ bad c p) → judged kind bytes count (suc m) ≡ bad c p
+      go : Dec (m < n) → (n ≤ m → blocksJudged kind bytes count m ≡ bad c p) → blocksJudged kind bytes count (suc m) ≡ bad c p
       go (yes l) ih =
           let z : suc m ≡ n = omega arith in
-          ap (judged kind bytes count) z ∙ e
+          ap (blocksJudged kind bytes count) z ∙ e
       go (no u) ih = ap (λ (v : Verdict). next v (verdict (fault (blockAt bytes m) kind m count) m)) (ih (omega arith))
 
   -- if all are good, each is
-  pub judged-each : (n i : ℕ) → i < n → judged kind bytes count n ≡ good → fault (blockAt bytes i) kind i count ≡ 0
-  unfolding judged
-  judged-each zero i h g = absurd (omega arith)
-  judged-each (suc n) i h g = go (judged kind bytes count n) refl g (decLt i n) (λ l q. judged-each n i l q)
+  pub blocks-each : (n i : ℕ) → i < n → blocksJudged kind bytes count n ≡ good → fault (blockAt bytes i) kind i count ≡ 0
+  unfolding blocksJudged
+  blocks-each zero i h g = absurd (omega arith)
+  blocks-each (suc n) i h g = go (blocksJudged kind bytes count n) refl g (decLt i n) (λ l q. blocks-each n i l q)
     where
       here : (c : ℕ) → verdict c n ≡ good → c ≡ 0
       here c e = elim (ℕ-discrete c 0) [ yes q ↦ q | no u ↦ absurd (no-bad c (sym (ap (λ (t : Bool). cond t good (bad c n)) (ne-eqb c 0 u)) ∙ e)) ]
@@ -80,8 +80,8 @@ module _ (kind : ℕ) (bytes : List ℕ) (count : ℕ) where
           no-bad : (c : ℕ) → bad c n ≡ good → ⊥
           no-bad c q = let z : _≡_ {A = ℕ} 0 1 = cc in omega arith
 
-      go : (v : Verdict) → judged kind bytes count n ≡ v → next v (verdict (fault (blockAt bytes n) kind n count) n) ≡ good → Dec (i < n)
-          → (i < n → judged kind bytes count n ≡ good → fault (blockAt bytes i) kind i count ≡ 0) → fault (blockAt bytes i) kind i count ≡ 0
+      go : (v : Verdict) → blocksJudged kind bytes count n ≡ v → next v (verdict (fault (blockAt bytes n) kind n count) n) ≡ good → Dec (i < n)
+          → (i < n → blocksJudged kind bytes count n ≡ good → fault (blockAt bytes i) kind i count ≡ 0) → fault (blockAt bytes i) kind i count ≡ 0
       go good q e (yes l) ih = ih l q
       go good q e (no u) ih =
           let z : i ≡ n = omega arith in
@@ -89,29 +89,29 @@ module _ (kind : ℕ) (bytes : List ℕ) (count : ℕ) where
       go (bad c p) q e d ih = absurd (let z : _≡_ {A = ℕ} 0 1 = cc in omega arith)
 
 module _ (kind : ℕ) (bytes : List ℕ) where
-  pub judge-22 : kindRight kind ≡ false → refused 22 0 ≡ judge kind bytes
-  unfolding judge
-  judge-22 k = simp k
+  pub file-22 : kindRight kind ≡ false → refused 22 0 ≡ fileJudged kind bytes
+  unfolding fileJudged
+  file-22 k = simp k
 
-  pub judge-20 : kindRight kind ≡ true → lengthRight (length bytes) ≡ false → refused 20 0 ≡ judge kind bytes
-  unfolding judge
-  judge-20 k l = simp (k, l)
+  pub file-20 : kindRight kind ≡ true → lengthRight (length bytes) ≡ false → refused 20 0 ≡ fileJudged kind bytes
+  unfolding fileJudged
+  file-20 k l = simp (k, l)
 
   module _ (k : kindRight kind ≡ true) (l : lengthRight (length bytes) ≡ true) where
-    pub judge-bad : (i c : ℕ) → i < length bytes / 512 → judged kind bytes (length bytes / 512) i ≡ good
-        → fault (blockAt bytes i) kind i (length bytes / 512) ≡ c → (c ≡ 0 → ⊥) → refused c i ≡ judge kind bytes
-    unfolding judge
-    judge-bad i c h g e u =
+    pub file-bad : (i c : ℕ) → i < length bytes / 512 → blocksJudged kind bytes (length bytes / 512) i ≡ good
+        → fault (blockAt bytes i) kind i (length bytes / 512) ≡ c → (c ≡ 0 → ⊥) → refused c i ≡ fileJudged kind bytes
+    unfolding fileJudged
+    file-bad i c h g e u =
         let n = length bytes / 512 in
-        sym (ap₂ (λ (s t : Bool). cond (not s) (refused 22 0) (cond (not t) (refused 20 0) (settled kind (length (contentOf bytes)) (judged kind bytes n n)))) k l
-        ∙ ap (settled kind (length (contentOf bytes))) (judged-stays kind bytes n (i + 1) c i n (omega arith) (judged-bad kind bytes n i c g e u)))
+        sym (ap₂ (λ (s t : Bool). cond (not s) (refused 22 0) (cond (not t) (refused 20 0) (settled kind (length (contentOf bytes)) (blocksJudged kind bytes n n)))) k l
+        ∙ ap (settled kind (length (contentOf bytes))) (blocks-stays kind bytes n (i + 1) c i n (omega arith) (blocks-bad kind bytes n i c g e u)))
 
-    pub judge-good : (size : ℕ) → judged kind bytes (length bytes / 512) (length bytes / 512) ≡ good → size ≡ length (contentOf bytes)
-        → judge kind bytes ≡ cond (sizeFits kind size) (done size) (refused 25 0)
-    unfolding judge
-    judge-good size g e =
+    pub file-good : (size : ℕ) → blocksJudged kind bytes (length bytes / 512) (length bytes / 512) ≡ good → size ≡ length (contentOf bytes)
+        → fileJudged kind bytes ≡ cond (sizeFits kind size) (done size) (refused 25 0)
+    unfolding fileJudged
+    file-good size g e =
         let n = length bytes / 512 in
-        ap₂ (λ (s t : Bool). cond (not s) (refused 22 0) (cond (not t) (refused 20 0) (settled kind (length (contentOf bytes)) (judged kind bytes n n)))) k l
+        ap₂ (λ (s t : Bool). cond (not s) (refused 22 0) (cond (not t) (refused 20 0) (settled kind (length (contentOf bytes)) (blocksJudged kind bytes n n)))) k l
         ∙ ap₂ (settled kind) (sym e) g
 
 -- ---- the content of the first blocks
@@ -147,16 +147,16 @@ gathered-front bytes i (suc n) h = go (decLt n i) (λ l. gathered-front bytes i 
 
 -- ---- a file that is not refused
 -- a bad block's number is not 0
-pub judged-number : (kind : ℕ) (bytes : List ℕ) (count n c p : ℕ) → judged kind bytes count n ≡ bad c p → c ≡ 0 → ⊥
-unfolding judged
-judged-number kind bytes count zero c p e z = let q : _≡_ {A = ℕ} 0 1 = cc in omega arith
-judged-number kind bytes count (suc n) c p e z = go (judged kind bytes count n) (judged-number kind bytes count n) refl e
+pub blocks-number : (kind : ℕ) (bytes : List ℕ) (count n c p : ℕ) → blocksJudged kind bytes count n ≡ bad c p → c ≡ 0 → ⊥
+unfolding blocksJudged
+blocks-number kind bytes count zero c p e z = let q : _≡_ {A = ℕ} 0 1 = cc in omega arith
+blocks-number kind bytes count (suc n) c p e z = go (blocksJudged kind bytes count n) (blocks-number kind bytes count n) refl e
   where
     one : (x : ℕ) (t : Bool) → eqb x 0 ≡ t → cond t good (bad x n) ≡ bad c p → ⊥
     one x true q f = let r : _≡_ {A = ℕ} 0 1 = cc in omega arith
     one x false q f = eqb-false x 0 q (cc)
 
-    go : (v : Verdict) → ((c p : ℕ) → judged kind bytes count n ≡ bad c p → c ≡ 0 → ⊥) → judged kind bytes count n ≡ v
+    go : (v : Verdict) → ((c p : ℕ) → blocksJudged kind bytes count n ≡ bad c p → c ≡ 0 → ⊥) → blocksJudged kind bytes count n ≡ v
         → next v (verdict (fault (blockAt bytes n) kind n count) n) ≡ bad c p → ⊥
     go good ih q f = one (fault (blockAt bytes n) kind n count) (eqb (fault (blockAt bytes n) kind n count) 0) refl f
     go (bad x y) ih q f = ih x y q (cc)
@@ -164,13 +164,13 @@ judged-number kind bytes count (suc n) c p e z = go (judged kind bytes count n) 
 pub record Stands (kind : ℕ) (bytes : List ℕ) : Type 0 where
   pub kinds : kindRight kind ≡ true
   pub lengths : lengthRight (length bytes) ≡ true
-  pub blocks : judged kind bytes (length bytes / 512) (length bytes / 512) ≡ good
+  pub blocks : blocksJudged kind bytes (length bytes / 512) (length bytes / 512) ≡ good
   pub sizes : sizeFits kind (length (contentOf bytes)) ≡ true
-  pub answer : judge kind bytes ≡ done (length (contentOf bytes))
+  pub answer : fileJudged kind bytes ≡ done (length (contentOf bytes))
 
-pub judge-stands : (kind : ℕ) (bytes : List ℕ) → judge kind bytes .number ≡ 0 → Stands kind bytes
-unfolding judge
-judge-stands kind bytes e = one (kindRight kind) (lengthRight (length bytes)) (judged kind bytes n n) (sizeFits kind size) refl refl refl refl e
+pub file-stands : (kind : ℕ) (bytes : List ℕ) → fileJudged kind bytes .number ≡ 0 → Stands kind bytes
+unfolding fileJudged
+file-stands kind bytes e = one (kindRight kind) (lengthRight (length bytes)) (blocksJudged kind bytes n n) (sizeFits kind size) refl refl refl refl e
   where
     n : ℕ
     n = length bytes / 512
@@ -178,12 +178,12 @@ judge-stands kind bytes e = one (kindRight kind) (lengthRight (length bytes)) (j
     size : ℕ
     size = length (contentOf bytes)
 
-    one : (k l : Bool) (v : Verdict) (s : Bool) → kindRight kind ≡ k → lengthRight (length bytes) ≡ l → judged kind bytes n n ≡ v → sizeFits kind size ≡ s
+    one : (k l : Bool) (v : Verdict) (s : Bool) → kindRight kind ≡ k → lengthRight (length bytes) ≡ l → blocksJudged kind bytes n n ≡ v → sizeFits kind size ≡ s
         → (cond (not k) (refused 22 0) (cond (not l) (refused 20 0) (settled kind size v))) .number ≡ 0 → Stands kind bytes
     one true true good true ek el ev es e =
-        record { kinds = ek; lengths = el; blocks = ev; sizes = es; answer = judge-good kind bytes ek el size ev refl ∙ ap (λ (t : Bool). cond t (done size) (refused 25 0)) es }
+        record { kinds = ek; lengths = el; blocks = ev; sizes = es; answer = file-good kind bytes ek el size ev refl ∙ ap (λ (t : Bool). cond t (done size) (refused 25 0)) es }
     one true true good false ek el ev es e = absurd (omega (arith, rw es at e))
-    one true true (bad c p) s ek el ev es e = absurd (judged-number kind bytes n n c p ev e)
+    one true true (bad c p) s ek el ev es e = absurd (blocks-number kind bytes n n c p ev e)
     one true false v s ek el ev es e = absurd (omega arith)
     one false l v s ek el ev es e = absurd (omega arith)
 

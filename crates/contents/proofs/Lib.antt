@@ -3,7 +3,7 @@ pub mod FileLaws
 pub mod WriteLaws
 pub mod AnswerLaws
 pub mod Outcomes
-pub mod Table
+pub mod Numbers
 pub mod Bounds
 pub mod RoundTrip
 pub mod OneForm

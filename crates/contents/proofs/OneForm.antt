@@ -13,7 +13,7 @@ use Rattle.blocks.proofs.BlockLaws.{Good, fault-good, used-le, used-full, used-
 use Rattle.blocks.proofs.OneForm.{good-block}
 use Rattle.contents.specs.File.{blockAt, gathered, contentOf, blockCount, firstBlocks, blocksOf}
 use Rattle.contents.specs.Payloads.{payloadAt}
-use Rattle.contents.proofs.FileLaws.{block-len, block-bytes, payload-len, judged-each, gathered-more, gathered-front, whole, filled, Stands}
+use Rattle.contents.proofs.FileLaws.{block-len, block-bytes, payload-len, blocks-each, gathered-more, gathered-front, whole, filled, Stands}
 
 module _ (kind : ℕ) (bytes : List ℕ) (s : Stands kind bytes) where
   abbrev n : ℕ
@@ -32,7 +32,7 @@ module _ (kind : ℕ) (bytes : List ℕ) (s : Stands kind bytes) where
   inside i h = omega (arith, size-is)
 
   good-at : (i : ℕ) → i < n → Good (blockAt bytes i) kind i n
-  good-at i h = fault-good (blockAt bytes i) kind i n (judged-each kind bytes n n i h (s .blocks))
+  good-at i h = fault-good (blockAt bytes i) kind i n (blocks-each kind bytes n n i h (s .blocks))
 
   used-small : (i : ℕ) → i < n → used i ≤ 496
   used-small i h = used-le i n (used i) (good-at i h .used)

@@ -13,8 +13,8 @@ use borrow.Author.Tests.{ne-eqb, eq-eqb, le-leb, lt-ltb, le-ltb}
 use Rattle.blocks.specs.Block.{block, usedRight, fault, payloadOf}
 use Rattle.blocks.proofs.WriteLaws.{length-block}
 use Rattle.blocks.proofs.OneForm.{block-payload, block-good}
-use Rattle.contents.specs.File.{done, refused, blockAt, gathered, contentOf, good, judged, kindRight, lengthRight, sizeFits, judge, blockCount, firstBlocks, blocksOf}
-use Rattle.contents.proofs.FileLaws.{judged-good, judge-good, size-le}
+use Rattle.contents.specs.File.{done, refused, blockAt, gathered, contentOf, good, blocksJudged, kindRight, lengthRight, sizeFits, fileJudged, blockCount, firstBlocks, blocksOf}
+use Rattle.contents.proofs.FileLaws.{blocks-good, file-good, size-le}
 use Rattle.contents.proofs.WriteLaws.{length-blocks, payload-le}
 
 -- ---- the blocks of a content
@@ -87,12 +87,12 @@ module _ (kind : ℕ) (content : List ℕ) where
           ∙ ap₂ (λ (s t : Bool). s && t) (le-leb l 496 (omega (arith, pay-len i)))
           (ap (λ (t : Bool). t || ltb 0 l) (eq-eqb cnt 1 (omega arith)))
 
-  all-good : (n : ℕ) → n ≤ cnt → judged kind all cnt n ≡ good
-  unfolding judged
+  all-good : (n : ℕ) → n ≤ cnt → blocksJudged kind all cnt n ≡ good
+  unfolding blocksJudged
   all-good zero h = refl
   all-good (suc n) h =
-      sym (ap (judged kind all cnt) (add-one n))
-      ∙ judged-good kind all cnt n (all-good n (omega arith))
+      sym (ap (blocksJudged kind all cnt) (add-one n))
+      ∙ blocks-good kind all cnt n (all-good n (omega arith))
       (ap (λ (b : List ℕ). fault b kind n cnt) (all-block n (omega arith)) ∙ block-good kind n cnt (pay n) (payload-le content n) (pay-used n (omega arith)))
 
   all-gathered : (n : ℕ) → n ≤ cnt → gathered all n ≡ take (496 * n) content
@@ -116,7 +116,7 @@ module _ (kind : ℕ) (content : List ℕ) where
         ap₂ (λ (x y : Bool). x && y) (ap₂ _&&_ (lt-ltb 0 n (omega arith)) (eq-eqb (n % 512) 0 (omega arith))) (le-leb n 34304 (omega (arith, size-le kind (length content) s)))
 
     -- every file that is written stands, with the content that was written
-    pub trip : judge kind all ≡ done (length content)
+    pub trip : fileJudged kind all ≡ done (length content)
     trip =
-        judge-good kind all k all-right (length content) (ap (λ (n : ℕ). judged kind all n n) all-count ∙ all-good cnt (omega arith)) (ap length (sym all-content))
+        file-good kind all k all-right (length content) (ap (λ (n : ℕ). blocksJudged kind all n n) all-count ∙ all-good cnt (omega arith)) (ap length (sym all-content))
         ∙ ap (λ (t : Bool). cond t (done (length content)) (refused 25 0)) s

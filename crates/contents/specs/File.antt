@@ -4,21 +4,41 @@ use mathlib.Core.List.{List, [], _++_}
 use Prim.Native.Nat.{ℕ, zero, suc, _+_, _*_, _/_, _%_, max}
 use lib.Dec.{eqb, leb, ltb}
 use lib.ListN.{length, take, drop}
-use Rattle.blocks.specs.Block.{block, fault, payloadOf}
-use Rattle.contents.specs.declared.Answer.{Answer}
+use Rattle.blocks.specs.Block.{blockBytes, payloadBytes, block, fault, payloadOf}
+use Rattle.contents.specs.declared.Moved.{Moved}
+
+-- The kinds.
+abbrev pub pictureKind : ℕ
+pictureKind = 1
+
+abbrev pub listKind : ℕ
+listKind = 2
+
+abbrev pub itemsKind : ℕ
+itemsKind = 3
+
+-- The bytes of a picture, the most bytes of a list or of items, and the most of a file, which is 67 blocks.
+abbrev pub pictureBytes : ℕ
+pictureBytes = 8288
+
+abbrev pub mostContent : ℕ
+mostContent = 32768
+
+abbrev pub mostFile : ℕ
+mostFile = 34304
 
 -- "Success gives 0, place 0 and the number of bytes put out; a refusal gives 0 bytes."
-abbrev pub done : ℕ → Answer
+abbrev pub done : ℕ → Moved
 done n = record { number = 0; place = 0; bytes = n }
 
-abbrev pub refused : ℕ → ℕ → Answer
+abbrev pub refused : ℕ → ℕ → Moved
 refused n p = record { number = n; place = p; bytes = 0 }
 
 -- ---- a file that is read
 
 -- Block i of a file.
 abbrev pub blockAt : List ℕ → ℕ → List ℕ
-blockAt bytes i = take 512 (drop (512 * i) bytes)
+blockAt bytes i = take blockBytes (drop (blockBytes * i) bytes)
 
 -- The content of the first n blocks, one payload after the other, and that of all blocks of a file.
 unfoldable pub gathered : List ℕ → ℕ → List ℕ
@@ -26,7 +46,7 @@ gathered bytes zero = []
 gathered bytes (suc n) = gathered bytes n ++ payloadOf (blockAt bytes n)
 
 abbrev pub contentOf : List ℕ → List ℕ
-contentOf bytes = gathered bytes (length bytes / 512)
+contentOf bytes = gathered bytes (length bytes / blockBytes)
 
 -- Blocks in turn: all good so far, or the first that is not, with its number and its place.
 pub data Verdict : Type 0 where
@@ -43,49 +63,49 @@ next good v = v
 next (bad n p) v = bad n p
 
 -- The verdict on the first n of count blocks.
-unfoldable pub judged : ℕ → List ℕ → ℕ → ℕ → Verdict
-judged kind bytes count zero = good
-judged kind bytes count (suc n) =
-    next (judged kind bytes count n) (verdict (fault (blockAt bytes n) kind n count) n)
+unfoldable pub blocksJudged : ℕ → List ℕ → ℕ → ℕ → Verdict
+blocksJudged kind bytes count zero = good
+blocksJudged kind bytes count (suc n) =
+    next (blocksJudged kind bytes count n) (verdict (fault (blockAt bytes n) kind n count) n)
 
 -- "A kind asked for that is not 1 to 3 is 22."
 unfoldable pub kindRight : ℕ → Bool
-kindRight kind = ltb 0 kind && leb kind 3
+kindRight kind = ltb 0 kind && leb kind itemsKind
 
 -- "20 length 0, not a multiple of 512, or over 34,304."
 unfoldable pub lengthRight : ℕ → Bool
-lengthRight n = ltb 0 n && eqb (n % 512) 0 && leb n 34304
+lengthRight n = ltb 0 n && eqb (n % blockBytes) 0 && leb n mostFile
 
 -- "25 size unfit for the kind (8,288; a list or items as in 3 and 4)": a multiple of 8 or of 32, not over 32,768.
 unfoldable pub sizeFits : ℕ → ℕ → Bool
 sizeFits kind size =
-    cond (eqb kind 1) (eqb size 8288)
-    (cond (eqb kind 2) (eqb (size % 8) 0 && leb size 32768)
-    (eqb (size % 32) 0 && leb size 32768))
+    cond (eqb kind pictureKind) (eqb size pictureBytes)
+    (cond (eqb kind listKind) (eqb (size % 8) 0 && leb size mostContent)
+    (eqb (size % 32) 0 && leb size mostContent))
 
 -- The answer for a content of so many bytes and the verdict on its blocks: 25 only where every block is good.
-abbrev pub settled : ℕ → ℕ → Verdict → Answer
+abbrev pub settled : ℕ → ℕ → Verdict → Moved
 settled kind size good = cond (sizeFits kind size) (done size) (refused 25 0)
 settled kind size (bad n p) = refused n p
 
 -- The file judged by itself: 22 for the kind asked, "before all else"; 20; "then per block" 21 to 24; then 25; else the size of the content. "Place is the block for 21 to 24, else 0."
-unfoldable pub judge : ℕ → List ℕ → Answer
-judge kind bytes =
+unfoldable pub fileJudged : ℕ → List ℕ → Moved
+fileJudged kind bytes =
     cond (not (kindRight kind)) (refused 22 0)
     (cond (not (lengthRight (length bytes))) (refused 20 0)
-    (settled kind (length (contentOf bytes)) (judged kind bytes (length bytes / 512) (length bytes / 512))))
+    (settled kind (length (contentOf bytes)) (blocksJudged kind bytes (length bytes / blockBytes) (length bytes / blockBytes))))
 
 -- ---- a file that is written
 
 -- How many blocks a content of so many bytes takes: an empty one takes a block that uses 0.
 abbrev pub blockCount : ℕ → ℕ
-blockCount size = max 1 ((size + 495) / 496)
+blockCount size = max 1 ((size + 495) / payloadBytes)
 
 -- The first n of count blocks of a content, and all of them.
 unfoldable pub firstBlocks : ℕ → List ℕ → ℕ → ℕ → List ℕ
 firstBlocks kind content count zero = []
 firstBlocks kind content count (suc n) =
-    firstBlocks kind content count n ++ block kind n count (take 496 (drop (496 * n) content))
+    firstBlocks kind content count n ++ block kind n count (take payloadBytes (drop (payloadBytes * n) content))
 
 unfoldable pub blocksOf : ℕ → List ℕ → List ℕ
 blocksOf kind content = firstBlocks kind content (blockCount (length content)) (blockCount (length content))

@@ -2,4 +2,4 @@
 pub mod File
 pub mod Content
 pub mod Payloads
-pub mod Table
+pub mod Numbers

@@ -3,11 +3,12 @@ use mathlib.Core.List.{List}
 use Prim.Native.Nat.{ℕ, _+_, _*_, _/_, _%_}
 use lib.ListN.{length, getD}
 use Rattle.bits.specs.Bits.{listed}
+use Rattle.blocks.specs.Block.{blockBytes, payloadBytes}
 use Rattle.bits.specs.Steps.{written}
 
 -- The place of number q of a content. "All blocks but the last use 496", and a payload stands behind 12 bytes of its block.
 abbrev pub payloadAt : ℕ → ℕ
-payloadAt q = 512 * (q / 496) + (12 + q % 496)
+payloadAt q = blockBytes * (q / payloadBytes) + (12 + q % payloadBytes)
 
 -- The n bytes from number q on that stand in the payloads of a file.
 abbrev pub payloads : List ℕ → ℕ → ℕ → List ℕ

@@ -1,6 +1,7 @@
 -- Laws of the definitions in specs/, for the proofs of this crate and of those above it.
 pub mod LineLaws
 pub mod Whole
+pub mod ItemLaws
 pub mod Runs
 pub mod Sums
 pub mod SumRuns

@@ -1,8 +1,8 @@
--- The projection: for each instruction with mode 0, no flip and no shift, line P of what it makes of a state is what it makes of the one-word machine that line P is; and so for a list. Assumes nothing.
-use mathlib.Core.Path.{_≡_, refl, sym, ap, ap₂, subst, _∙_}
+-- The projection: for each instruction with mode 0, line P of what it makes of a state is what the one-word machine makes of line P with the source bit of the line that its pass brings there; with no flip and no shift that is line P itself, and so for a list. Assumes nothing.
+use mathlib.Core.Path.{_≡_, refl, sym, ap, ap₂, subst, subst₂, _∙_}
 use mathlib.Core.Bool.{Bool, true, false, cond, _&&_, _||_}
 use mathlib.Core.List.{List, [], _∷_}
-use Prim.Native.Nat.{ℕ, zero, suc, _+_, _<_}
+use Prim.Native.Nat.{ℕ, zero, suc, _+_, _/_, _%_, _<_}
 use native.Mathlib.Nat.{add-zero}
 use native.Mathlib.Numerals.{add-one}
 use native.Mathlib.Decide.{ℕ-discrete}
@@ -18,22 +18,22 @@ use Rattle.memory.specs.Table.{table, lineBit, lineWord}
 use Rattle.memory.specs.Memory.{cell, stored, every, maskOf}
 use Rattle.memory.proofs.AccessLaws.{read-line}
 use Rattle.memory.proofs.TableDemand.{store-updates-table}
+use Rattle.network.specs.Shifts.{permitted}
 use Rattle.network.specs.Pass.{source, passed}
-use Rattle.network.specs.Answer.{passedItem}
-use Rattle.network.proofs.PassLaws.{unshifted-none, passed-bit}
-use Rattle.network.proofs.TableRules.{none-permitted}
-use Rattle.network.proofs.AnswerLaws.{passedItem-is}
+use Rattle.network.proofs.PassLaws.{unshifted-none, source-lt}
+use Rattle.network.proofs.TableRules.{none-permitted, shift}
+use Rattle.network.proofs.AnswerLaws.{bitOf-passedItem}
 use Rattle.registers.specs.Logic.{newX, newY, logicOf}
 use Rattle.registers.specs.Rows.{withM}
 use Rattle.registers.proofs.LogicLaws.{logic-X, logic-Y}
 use Rattle.judge.specs.declared.Instruction.{Instruction}
 use Rattle.judge.specs.Judge.{instructionAt, takes}
-use Rattle.module.specs.Act.{State, partAt, held, heldItem, sourceItem, passedBy, regsAfter, memAfter, acted}
+use Rattle.module.specs.Act.{State, modeOf, partAt, held, heldItem, sourceItem, passedBy, regsAfter, memAfter, acted}
 use Rattle.module.specs.Run.{ranBy}
 use Rattle.builders.specs.Lists.{decoded}
 use Rattle.builders.specs.Word.{Word, heldBit, sourceBit, afterBit, actedWord, folded, ranWord, Each, none, more}
 use Rattle.builders.proofs.Folds.{folded-append}
-use Rattle.fields.specs.Line.{At, wordOf, outsideAt, Local}
+use Rattle.fields.specs.Line.{At, wordOf, outsideAt, cameFrom, Sliced, Local}
 
 -- ---- mode 0 is a bit slice: line p meets bit g of word p
 
@@ -77,64 +77,62 @@ module _ (mem : List ℕ) (g : ℕ) (mask f : ℕ → ℕ) (hg : g < 256) (bits 
           store-updates-table mem 0 g mask f (omega arith) hg bits .others p b hp hb (λ k hk ew eb. q (eb ∙ slice-bit g k hg))
           ∙ sym (ap (λ (t : Bool). cond (eqb (mask p) 1 && t) (f p) (table (cell mem) p b)) (ne-eqb b g q) ∙ old (eqb (mask p) 1) (f p) (table (cell mem) p b))
 
--- ---- one instruction
+-- ---- one instruction: what it brings to a line
+
+held-at : (p n g : ℕ) (s : State) (v : Word) → p < 256 → g < 256 → At p s v → bitOf (held n 0 g (s .mem) (s .regs)) p ≡ heldBit n (v .bits g) (v .m) (v .x) (v .y)
+held-at p zero g s v hp hg a = bitOf-pack (readBit (cell (s .mem)) 0 g) (λ k. bitOf-bit (s .mem) _) 32 p hp ∙ read-slice (s .mem) g p hg hp ∙ a .word g hg
+held-at p (suc zero) g s v hp hg a = a .bitM
+held-at p (suc (suc zero)) g s v hp hg a = a .bitX
+held-at p (suc (suc (suc n))) g s v hp hg a = a .bitY
+
+-- line p of the source item is the source bit of the word that line p is
+source-at : (p : ℕ) (i : Instruction) (items : List ℕ) (s : State) (v : Word) → p < 256 → Sliced i → At p s v
+    → bitOf (sourceItem i (s .mem) items (s .regs) (s .taken)) p ≡ sourceBit i (outsideAt p items) v
+unfolding sourceItem heldItem sourceBit
+source-at p i items s v hp sl a = go (takes i)
+  where
+    go : (t : Bool) → bitOf (cond t (partAt items (s .taken)) (held (i .source) (i .mode) (i .addr) (s .mem) (s .regs))) p
+        ≡ cond t (outsideAt p items (v .taken)) (heldBit (i .source) (v .bits (i .addr)) (v .m) (v .x) (v .y))
+    go true = ap (outsideAt p items) (a .count)
+    go false =
+        ap (λ (z : ℕ). bitOf (held (i .source) z (i .addr) (s .mem) (s .regs)) p) (sl .mode0)
+        ∙ held-at p (i .source) (i .addr) s v hp (sl .inside) a
+
+pub from-lt : (i : Instruction) (p : ℕ) → Sliced i → p < 256 → cameFrom i p < 256
+from-lt i p sl hp =
+    source-lt 8 (i .flip) (i .code / 16) (i .code % 16) p (shift (i .code) (sl .byte6) (sl .shifts) .within) (sl .flips) hp
+
+-- line p of the passed item is that of the word from which its bit came
+pub passed-from : (p : ℕ) (i : Instruction) (items : List ℕ) (s : State) (w : Word) → p < 256 → Sliced i → At (cameFrom i p) s w
+    → bitOf (passedBy i (s .mem) items (s .regs) (s .taken)) p ≡ sourceBit i (outsideAt (cameFrom i p) items) w
+unfolding passedBy passed
+passed-from p i items s w hp sl a =
+    bitOf-passedItem (sourceItem i (s .mem) items (s .regs) (s .taken)) (i .flip) (i .code) p (sl .shifts) hp
+    ∙ source-at (cameFrom i p) i items s w (from-lt i p sl hp) sl a
+
+-- ---- and what it makes of the line
 
 module _ (p : ℕ) (hp : p < 256) where
-  -- with no flip and no shift, a line gets its own bit
-  pass-none : (l : List ℕ) → bitOf (passedItem l 0 0) p ≡ bitOf l p
-  unfolding passed source
-  pass-none l =
-      ap (λ (x : List ℕ). bitOf x p) (passedItem-is l 0 0 none-permitted)
-      ∙ bitOf-pack (passed l 0 0 0) (λ k. passed-bit l 0 0 0 k) 32 p hp
-      ∙ ap (bitOf l) (xor-zero-r _ ∙ unshifted-none 0 p)
-
-  held-at : (n g : ℕ) (s : State) (v : Word) → g < 256 → At p s v → bitOf (held n 0 g (s .mem) (s .regs)) p ≡ heldBit n (v .bits g) (v .m) (v .x) (v .y)
-  held-at zero g s v hg a = bitOf-pack (readBit (cell (s .mem)) 0 g) (λ k. bitOf-bit (s .mem) _) 32 p hp ∙ read-slice (s .mem) g p hg hp ∙ a .word g hg
-  held-at (suc zero) g s v hg a = a .bitM
-  held-at (suc (suc zero)) g s v hg a = a .bitX
-  held-at (suc (suc (suc n))) g s v hg a = a .bitY
-
-  -- the source bit
-  module _ (i : Instruction) (items : List ℕ) (s : State) (v : Word) (lc : Local i) (a : At p s v) where
-    source-at : bitOf (sourceItem i (s .mem) items (s .regs) (s .taken)) p ≡ sourceBit i (outsideAt p items) v
-    unfolding sourceItem heldItem sourceBit
-    source-at = go (takes i)
-      where
-        go : (t : Bool) → bitOf (cond t (partAt items (s .taken)) (held (i .source) (i .mode) (i .addr) (s .mem) (s .regs))) p
-            ≡ cond t (outsideAt p items (v .taken)) (heldBit (i .source) (v .bits (i .addr)) (v .m) (v .x) (v .y))
-        go true = ap (outsideAt p items) (a .count)
-        go false =
-            ap (λ (z : ℕ). bitOf (held (i .source) z (i .addr) (s .mem) (s .regs)) p) (lc .mode0)
-            ∙ held-at (i .source) (i .addr) s v (lc .inside) a
-
-    passed-at : bitOf (passedBy i (s .mem) items (s .regs) (s .taken)) p ≡ sourceBit i (outsideAt p items) v
-    unfolding passedBy
-    passed-at =
-        ap₂ (λ (x y : ℕ). bitOf (passedItem (sourceItem i (s .mem) items (s .regs) (s .taken)) x y) p) (lc .flip0) (lc .code0)
-        ∙ pass-none (sourceItem i (s .mem) items (s .regs) (s .taken))
-        ∙ source-at
-
   -- what the passed item f does
-  module _ (i : Instruction) (f : List ℕ) (s : State) (v : Word) (lc : Local i) (a : At p s v) where
-    word-at : (b : ℕ) → b < 256 → table (cell (memAfter i (s .mem) (s .regs .m) f)) p b
-        ≡ cond ((eqb (i .kind) 2 || (eqb (i .kind) 3 && eqb (v .m) 1)) && eqb b (i .addr)) (bitOf f p) (v .bits b)
+  module _ (i : Instruction) (f : List ℕ) (s : State) (v : Word) (sl : Sliced i) (a : At p s v) where
+    word-at : (b : ℕ) → b < 256 → table (cell (memAfter i (modeOf i (s .regs)) (s .mem) (s .regs .m) f)) p b
+        ≡ cond ((eqb (i .kind) 2 || (eqb (i .kind) 3 && eqb (maskOf (s .regs .m) (i .flip) p) 1)) && eqb b (i .addr)) (bitOf f p) (v .bits b)
     unfolding memAfter
     word-at b hb = go (eqb (i .kind) 2) (eqb (i .kind) 3)
       where
         slice : (mask : ℕ → ℕ) → table (cell (stored (s .mem) (i .mode) (i .addr) mask (bitOf f))) p b
             ≡ cond (eqb (mask p) 1 && eqb b (i .addr)) (bitOf f p) (v .bits b)
         slice mask =
-            ap (λ (z : ℕ). table (cell (stored (s .mem) z (i .addr) mask (bitOf f))) p b) (lc .mode0)
-            ∙ store-slice (s .mem) (i .addr) mask (bitOf f) (lc .inside) (bitOf-bit f) p b hp hb
+            ap (λ (z : ℕ). table (cell (stored (s .mem) z (i .addr) mask (bitOf f))) p b) (sl .mode0)
+            ∙ store-slice (s .mem) (i .addr) mask (bitOf f) (sl .inside) (bitOf-bit f) p b hp hb
             ∙ ap (cond (eqb (mask p) 1 && eqb b (i .addr)) (bitOf f p)) (a .word b hb)
 
-        mask : maskOf (s .regs .m) (i .flip) p ≡ v .m
-        mask = ap (λ (z : ℕ). maskOf (s .regs .m) z p) (lc .flip0) ∙ ap (bitOf (s .regs .m)) (xor-zero-r p) ∙ a .bitM
-
-        go : (two three : Bool) → table (cell (cond two (stored (s .mem) (i .mode) (i .addr) every (bitOf f)) (cond three (stored (s .mem) (i .mode) (i .addr) (maskOf (s .regs .m) (i .flip)) (bitOf f)) (s .mem)))) p b
-            ≡ cond ((two || (three && eqb (v .m) 1)) && eqb b (i .addr)) (bitOf f p) (v .bits b)
+        go : (two three : Bool)
+            → table (cell (cond two (stored (s .mem) (i .mode) (i .addr) every (bitOf f))
+            (cond three (stored (s .mem) (i .mode) (i .addr) (maskOf (s .regs .m) (i .flip)) (bitOf f)) (s .mem)))) p b
+            ≡ cond ((two || (three && eqb (maskOf (s .regs .m) (i .flip) p) 1)) && eqb b (i .addr)) (bitOf f p) (v .bits b)
         go true three = slice every
-        go false true = slice (maskOf (s .regs .m) (i .flip)) ∙ ap (λ (z : ℕ). cond (eqb z 1 && eqb b (i .addr)) (bitOf f p) (v .bits b)) mask
+        go false true = slice (maskOf (s .regs .m) (i .flip))
         go false false = a .word b hb
 
     regs-at : (zeroth first : Bool) → (zeroth ≡ true → first ≡ false)
@@ -157,20 +155,43 @@ module _ (p : ℕ) (hp : p < 256) where
     count-at true = add-one (s .taken) ∙ ap suc (a .count)
     count-at false = add-zero (s .taken) ∙ a .count
 
-  -- the law, for every instruction
-  pub acted-at : (i : Instruction) (items : List ℕ) (s : State) (v : Word) → Local i → At p s v → At p (acted i items s) (actedWord i (outsideAt p items) v)
-  unfolding acted actedWord afterBit regsAfter
-  acted-at i items s v lc a =
+  -- the law, for every instruction with mode 0: line p gets the source bit of the line from which its bit comes, by the mask bit that the mask rule gives
+  pub acted-from : (i : Instruction) (items : List ℕ) (s : State) (v w : Word) → Sliced i → At p s v → At (cameFrom i p) s w
+      → At p (acted i items s) (afterBit i (maskOf (s .regs .m) (i .flip) p) (sourceBit i (outsideAt (cameFrom i p) items) w) v)
+  unfolding acted afterBit regsAfter
+  acted-from i items s v w sl a b =
       let f = passedBy i (s .mem) items (s .regs) (s .taken) in
-      let r = regs-at i f s v lc a (eqb (i .kind) 0) (eqb (i .kind) 1) (one-kind i f s v lc a) in
-      subst (λ (z : ℕ). At p (acted i items s) (afterBit i z v)) (passed-at i items s v lc a)
+      let r = regs-at i f s v sl a (eqb (i .kind) 0) (eqb (i .kind) 1) (one-kind i f s v sl a) in
+      subst (λ (z : ℕ). At p (acted i items s) (afterBit i (maskOf (s .regs .m) (i .flip) p) z v)) (passed-from p i items s w hp sl b)
       (record {
-        word = word-at i f s v lc a;
+        word = word-at i f s v sl a;
         bitM = r .0;
         bitX = r .1;
         bitY = r .2;
-        count = count-at i f s v lc a (takes i);
+        count = count-at i f s v sl a (takes i);
       })
+
+  -- with no flip and no shift that is line p itself, and its own M bit
+  stays : (i : Instruction) → Local i → cameFrom i p ≡ p
+  unfolding source
+  stays i lc =
+      ap₂ (λ (f c : ℕ). source f (c / 16) (c % 16) p) (lc .flip0) (lc .code0) ∙ xor-zero-r _ ∙ unshifted-none 0 p
+
+  sliced-of : (i : Instruction) → Local i → Sliced i
+  sliced-of i lc =
+      let f = lc .flip0 in
+      let c = lc .code0 in
+      record { mode0 = lc .mode0; inside = lc .inside; flips = omega arith; byte6 = omega arith; shifts = ap permitted c ∙ none-permitted }
+
+  own-mask : (i : Instruction) (s : State) (v : Word) → Local i → At p s v → maskOf (s .regs .m) (i .flip) p ≡ v .m
+  own-mask i s v lc a = ap (λ (z : ℕ). maskOf (s .regs .m) z p) (lc .flip0) ∙ ap (bitOf (s .regs .m)) (xor-zero-r p) ∙ a .bitM
+
+  -- so each instruction that keeps to its line
+  pub acted-at : (i : Instruction) (items : List ℕ) (s : State) (v : Word) → Local i → At p s v → At p (acted i items s) (actedWord i (outsideAt p items) v)
+  unfolding actedWord
+  acted-at i items s v lc a =
+      subst₂ (λ (k q : ℕ). At p (acted i items s) (afterBit i k (sourceBit i (outsideAt q items) v) v)) (own-mask i s v lc a) (stays i lc)
+      (acted-from i items s v v (sliced-of i lc) a (subst (λ (q : ℕ). At q s v) (sym (stays i lc)) a))
 
   -- and for a list
   pub ran-at : (l : List Instruction) (items : List ℕ) (s : State) (v : Word) → Each Local l → At p s v

@@ -1,35 +1,45 @@
--- The run of a list of plain instructions: the judge accepts it, and what it leaves is the fold of its instructions. Assumes nothing.
+-- The run of a list of quiet instructions, which may take items, and of plain ones, which take none: the judge accepts it, and what it leaves is the fold of its instructions. Assumes nothing.
 use mathlib.Core.Path.{_≡_, refl, sym, ap, ap₂, subst, _∙_}
-use mathlib.Core.Bool.{Bool, false, cond, not, _||_, true≢false}
+use mathlib.Core.Bool.{Bool, true, false, cond, not, _||_, true≢false}
 use mathlib.Core.List.{List, [], _∷_, append-nil}
-use Prim.Native.Nat.{ℕ, zero, suc, _+_, _/_, _%_, _<_, _≤_}
+use Prim.Native.Nat.{ℕ, zero, suc, _+_, _*_, _/_, _%_, _<_, _≤_}
+use native.Mathlib.Decide.{ℕ-discrete}
 use native.Mathlib.Omega.{arith}
 use borrow.Author.Tests.{eq-eqb, le-ltb}
-use lib.Dec.{eqb}
 use lib.ListN.{length}
 use Rattle.bits.specs.Search.{count}
 use Rattle.registers.specs.Rows.{registersOf, bytesOf}
 use Rattle.judge.specs.declared.Instruction.{Instruction}
-use Rattle.judge.specs.Judge.{instructionAt, takes, gives, unfit, instructionRows, judged}
-use Rattle.judge.specs.Table.{NoRow}
-use Rattle.judge.proofs.Table.{all-done}
+use Rattle.judge.specs.declared.Lengths.{Lengths}
+use Rattle.judge.specs.declared.Answer.{Answer}
+use Rattle.judge.specs.Judge.{instructionAt, takes, gives, unfit, faultOf, judged}
+use Rattle.judge.proofs.Accepted.{run-of}
 use Rattle.module.specs.Act.{State, passedBy, acted}
-use Rattle.module.specs.Run.{begun, ran}
+use Rattle.module.specs.Run.{Lent, Left, runLengths, begun}
 use Rattle.module.proofs.ActLaws.{no-out}
 use Rattle.module.proofs.RunLaws.{ran-done}
 use Rattle.builders.specs.Lists.{encoded, decoded}
 use Rattle.builders.proofs.ListLaws.{length-encoded, decoded-encoded}
-use Rattle.builders.specs.Word.{folded, Each, none, more}
+use Rattle.builders.specs.Word.{folded, takenBy, Each, none, more}
+use Rattle.builders.proofs.Takes.{taken-decoded}
 use Rattle.fields.specs.Line.{Local}
-use Rattle.builders.proofs.Folds.{each-at}
+use Rattle.fields.specs.Value.{runOf}
+use Rattle.builders.proofs.Folds.{each-at, each-map}
 use Rattle.fields.proofs.LineLaws.{ran-folded}
 
--- An instruction that keeps to its line, takes and gives nothing, and that no row refuses.
+-- An instruction that gives nothing and that no row refuses.
+pub record Quiet (i : Instruction) : Type 0 where
+  pub gives-none : gives i ≡ false
+  pub formed : faultOf i ≡ 0
+
+-- One that also keeps to its line and takes nothing.
 pub record Plain (i : Instruction) : Type 0 where
   pub local : Local i
   pub takes-none : takes i ≡ false
   pub gives-none : gives i ≡ false
-  pub formed : NoRow (instructionRows i)
+  pub formed : faultOf i ≡ 0
+
+-- ---- counts
 
 count-none : (f : ℕ → Bool) (n : ℕ) → ((k : ℕ) → k < n → f k ≡ false) → count f n ≡ 0
 unfolding count
@@ -37,15 +47,39 @@ count-none f zero h = refl
 count-none f (suc n) h =
     ap₂ (λ (x : ℕ) (t : Bool). x + cond t 1 0) (count-none f n (λ k l. h k (omega arith))) (h n (omega arith))
 
+-- what holds at k is counted beyond those before it
+count-beyond : (f : ℕ → Bool) (k n : ℕ) → k < n → f k ≡ true → count f k + 1 ≤ count f n
+unfolding count
+count-beyond f k zero h t = absurd (omega arith)
+count-beyond f k (suc n) h t = go (ℕ-discrete k n) (λ l. count-beyond f k n l t)
+  where
+    go : Dec (k ≡ n) → (k < n → count f k + 1 ≤ count f n) → count f k + 1 ≤ count f n + cond (f n) 1 0
+    go (yes e) ih =
+        let q : cond {A = ℕ} (f n) 1 0 ≡ 1 = ap (λ (b : Bool). cond {A = ℕ} b 1 0) (ap f (sym e) ∙ t) in
+        omega (arith, ap (count f) e)
+    go (no u) ih = let r = ih (omega arith) in omega arith
+
+-- ---- a quiet list
+
+-- what a run that gives nothing leaves, from the state at its end
+abbrev pub leftBy : Lent (List ℕ) → State → ℕ → ℕ → Left (List ℕ) Answer
+leftBy lent s steps taken =
+    record {
+      memory = s .mem;
+      registers = bytesOf (s .regs);
+      out = lent .out;
+      answer = record { number = 0; place = 0; steps = steps; taken = taken; given = 0 };
+    }
+
 -- nothing is put out
-folded-out : (l : List Instruction) (items : List ℕ) (s : State) → Each Plain l → folded (λ i. acted i items) l s .out ≡ s .out
+folded-out : (l : List Instruction) (items : List ℕ) (s : State) → Each Quiet l → folded (λ i. acted i items) l s .out ≡ s .out
 unfolding folded acted
 folded-out [] items s none = refl
 folded-out (i ∷ l) items s (more h e) =
     folded-out l items (acted i items s) e
     ∙ sym (no-out i (s .out) (s .given) (passedBy i (s .mem) items (s .regs) (s .taken)) (s .regs .y) (h .gives-none))
 
-module _ (l : List Instruction) (plain : Each Plain l) (few : length l ≤ 4096) where
+module _ (l : List Instruction) (quiet : Each Quiet l) (few : length l ≤ 4096) where
   eighth : length (encoded l) / 8 ≡ length l
   eighth = omega (arith, length-encoded l)
 
@@ -55,39 +89,55 @@ module _ (l : List Instruction) (plain : Each Plain l) (few : length l ≤ 4096)
       ∙ ap (λ (z : List ℕ). decoded z (length l)) (sym (append-nil (encoded l)))
       ∙ decoded-encoded l []
 
-  plain-at : (j : ℕ) → j < length (encoded l) / 8 → Plain (instructionAt (encoded l) j)
-  plain-at = each-at (encoded l) (length (encoded l) / 8) (subst (Each Plain) (sym back) plain)
+  quiet-at : (j : ℕ) → j < length (encoded l) / 8 → Quiet (instructionAt (encoded l) j)
+  quiet-at = each-at (encoded l) (length (encoded l) / 8) (subst (Each Quiet) (sym back) quiet)
+
+  taken-all : count (λ k. takes (instructionAt (encoded l) k)) (length (encoded l) / 8) ≡ takenBy l
+  taken-all = sym (taken-decoded (encoded l) (length (encoded l) / 8)) ∙ ap takenBy back
 
   fits : (unit n : ℕ) → n % unit ≡ 0 → n ≤ 32768 → unfit unit n ≡ false
   fits unit n e h = ap₂ (λ (x y : Bool). not x || y) (eq-eqb (n % unit) 0 e) (le-ltb 32768 n h)
 
-  -- number 0, as many steps as instructions, and nothing taken or given
-  pub judged-plain : (mem regs items out : ℕ) → mem ≡ 8192 → regs ≡ 96 → unfit 32 items ≡ false
-      → judged mem regs (encoded l) items out ≡ record { number = 0; place = 0; steps = length l; taken = 0; given = 0 }
-  judged-plain mem regs items out hm hr hi =
-      all-done mem regs (encoded l) items out (
-        (ap (λ (n : ℕ). not (eqb n 8192)) hm, (ap (λ (n : ℕ). not (eqb n 96)) hr, (fits 8 (length (encoded l)) (omega (arith, length-encoded l)) (omega (arith, length-encoded l)), (hi, tt)))),
-        λ j h. plain-at j h .formed,
-        λ j h t. absurd (true≢false (sym t ∙ plain-at j h .takes-none)),
-        λ j h t. absurd (true≢false (sym t ∙ plain-at j h .gives-none)),
-      )
-      ∙ (λ t. record { number = 0; place = 0; steps = eighth t; taken = no-items t; given = no-room t })
+  -- number 0, as many steps as instructions, as many taken as take one, and nothing given
+  pub judged-quiet : (lengths : Lengths) → lengths .memory ≡ 8192 → lengths .registers ≡ 96 → unfit 32 (lengths .items) ≡ false → 32 * takenBy l ≤ lengths .items
+      → judged lengths (encoded l) ≡ record { number = 0; place = 0; steps = length l; taken = takenBy l; given = 0 }
+  judged-quiet lengths hm hr hi enough =
+      run-of lengths (encoded l) hm hr (fits 8 (length (encoded l)) (omega (arith, length-encoded l)) (omega (arith, length-encoded l))) hi
+      (λ j h. quiet-at j h .formed)
+      (λ j h t. let c = count-beyond (λ k. takes (instructionAt (encoded l) k)) j (length (encoded l) / 8) h t in omega (arith, taken-all))
+      (λ j h t. absurd (true≢false (sym t ∙ quiet-at j h .gives-none)))
+      ∙ (λ t. record { number = 0; place = 0; steps = eighth t; taken = taken-all t; given = no-room t })
     where
-      no-items : count (λ k. takes (instructionAt (encoded l) k)) (length (encoded l) / 8) ≡ 0
-      no-items = count-none (λ k. takes (instructionAt (encoded l) k)) (length (encoded l) / 8) (λ k h. plain-at k h .takes-none)
-
       no-room : count (λ k. gives (instructionAt (encoded l) k)) (length (encoded l) / 8) ≡ 0
-      no-room = count-none (λ k. gives (instructionAt (encoded l) k)) (length (encoded l) / 8) (λ k h. plain-at k h .gives-none)
+      no-room = count-none (λ k. gives (instructionAt (encoded l) k)) (length (encoded l) / 8) (λ k h. quiet-at k h .gives-none)
 
-  pub ran-plain : (mem regs items out : List ℕ) → length mem ≡ 8192 → length regs ≡ 96 → unfit 32 (length items) ≡ false
-      → ran mem regs (encoded l) items out
-      ≡ (let s = folded (λ i. acted i items) l (begun mem out (registersOf regs)) in
-      record { mem = s .mem; regs = bytesOf (s .regs); out = out; answer = record { number = 0; place = 0; steps = length l; taken = 0; given = 0 } })
-  ran-plain mem regs items out hm hr hi =
-      sym (ran-done mem regs (encoded l) items out (record { number = 0; place = 0; steps = length l; taken = 0; given = 0 })
-      (sym (judged-plain (length mem) (length regs) (length items) (length out) hm hr hi)) refl (registersOf regs)
-      (folded (λ i. acted i items) l (begun mem out (registersOf regs))) (bytesOf (folded (λ i. acted i items) l (begun mem out (registersOf regs)) .regs)) refl
-      (sym (ran-folded (encoded l) items (begun mem out (registersOf regs)) (length (encoded l) / 8) ∙ ap (λ (z : List Instruction). folded (λ i. acted i items) z (begun mem out (registersOf regs))) back))
+  -- ItemLaws says what each instruction of the fold takes
+  pub ran-quiet : (lent : Lent (List ℕ)) → length (lent .memory) ≡ 8192 → length (lent .registers) ≡ 96 → unfit 32 (length (lent .items)) ≡ false
+      → 32 * takenBy l ≤ length (lent .items)
+      → runOf (encoded l) lent ≡ leftBy lent (folded (λ i. acted i (lent .items)) l (begun lent (registersOf (lent .registers)))) (length l) (takenBy l)
+  ran-quiet lent hm hr hi enough =
+      let start = begun lent (registersOf (lent .registers)) in
+      let s = folded (λ i. acted i (lent .items)) l start in
+      let a : Answer = record { number = 0; place = 0; steps = length l; taken = takenBy l; given = 0 } in
+      let given : Lent (List ℕ) = record { memory = lent .memory; registers = lent .registers; list = encoded l; items = lent .items; out = lent .out } in
+      sym (ran-done given a (sym (judged-quiet (runLengths given) hm hr hi enough)) refl (registersOf (lent .registers)) s (bytesOf (s .regs)) refl
+      (sym (ran-folded (encoded l) (lent .items) start (length (encoded l) / 8) ∙ ap (λ (z : List Instruction). folded (λ i. acted i (lent .items)) z start) back))
       refl)
-      ∙ ap (λ (z : List ℕ). record { mem = folded (λ i. acted i items) l (begun mem out (registersOf regs)) .mem; regs = bytesOf (folded (λ i. acted i items) l (begun mem out (registersOf regs)) .regs); out = z; answer = record { number = 0; place = 0; steps = length l; taken = 0; given = 0 } })
-      (folded-out l items (begun mem out (registersOf regs)) plain)
+      ∙ ap (λ (z : List ℕ). record { memory = s .mem; registers = bytesOf (s .regs); out = z; answer = a }) (folded-out l (lent .items) start quiet)
+
+-- ---- a plain list
+
+taken-plain : {l : List Instruction} → Each Plain l → takenBy l ≡ 0
+unfolding takenBy
+taken-plain none = refl
+taken-plain (more {i} h e) = ap₂ (λ (t : Bool) (n : ℕ). cond t 1 0 + n) (h .takes-none) (taken-plain e)
+
+module _ (l : List Instruction) (plain : Each Plain l) (few : length l ≤ 4096) where
+  -- nothing is taken either
+  pub ran-plain : (lent : Lent (List ℕ)) → length (lent .memory) ≡ 8192 → length (lent .registers) ≡ 96 → unfit 32 (length (lent .items)) ≡ false
+      → runOf (encoded l) lent ≡ leftBy lent (folded (λ i. acted i (lent .items)) l (begun lent (registersOf (lent .registers)))) (length l) 0
+  ran-plain lent hm hr hi =
+      let s = folded (λ i. acted i (lent .items)) l (begun lent (registersOf (lent .registers))) in
+      let none = taken-plain plain in
+      ran-quiet l (each-map (λ i h. record { gives-none = h .gives-none; formed = h .formed }) plain) few lent hm hr hi (omega arith)
+      ∙ ap (leftBy lent s (length l)) none

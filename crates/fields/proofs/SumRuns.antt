@@ -10,14 +10,15 @@ use lib.ListN.{length}
 use Rattle.bits.proofs.Digits.{digitsOf-lt, digitsOf-ext}
 use Rattle.bits.proofs.Items.{bitOf-bit}
 use Rattle.judge.specs.Judge.{unfit}
-use Rattle.module.specs.Run.{ran}
+use Rattle.module.specs.Run.{Lent}
 use Rattle.builders.specs.declared.Built.{Built}
 use Rattle.builders.specs.Lists.{encoded}
-use Rattle.builders.specs.Fields.{sumByte, differenceByte, sumList, differenceList, Fields, Apart, listLength, fieldsFault, sumBuilt, differenceBuilt, builtWith}
+use Rattle.builders.specs.Sums.{sumByte, differenceByte, sumList, differenceList, Fields, Apart, listLength, fieldsFault, sumBuilt, differenceBuilt}
+use Rattle.builders.specs.Building.{builtWith}
 use Rattle.builders.proofs.ListLaws.{length-bits, sum-length, difference-length}
 use Rattle.builders.proofs.Refusals.{no-fault}
 use Rattle.fields.specs.Line.{outsideAt}
-use Rattle.fields.specs.Value.{wordBit, value, listOf, Bytes, Put, sumRun, differenceRun, TakenOff}
+use Rattle.fields.specs.Value.{wordBit, value, listOf, Bytes, Put, runOf, lentOn, sumRun, differenceRun, TakenOff}
 use Rattle.builders.proofs.Carries.{turned, no-borrow, put-back}
 use Rattle.builders.proofs.Adder.{sum-word, difference-word}
 use Rattle.fields.proofs.Sums.{sum-plain, difference-plain, list-built, put-plain, put-unique}
@@ -59,29 +60,29 @@ module _ (a b s n : ℕ) (fields : Fields a b s n) (buffer : List ℕ) where
 
 -- ---- the run puts A plus B into S; or A minus B, as A plus what B lacks to 2 ^ n
 
-module _ (a b s n : ℕ) (fields : Fields a b s n) (buffer mem regs items out : List ℕ)
-    (memory : Bytes mem 8192) (registers : Bytes regs 96) (supplied : unfit 32 (length items) ≡ false) where
+module _ (a b s n : ℕ) (fields : Fields a b s n) (buffer : List ℕ) (lent : Lent (List ℕ))
+    (memory : Bytes (lent .memory) 8192) (registers : Bytes (lent .registers) 96) (supplied : unfit 32 (length (lent .items)) ≡ false) where
   pub sum-put : listLength 1 n ≤ length buffer
-      → Put (1 + 5 * n) s n (λ w. value mem w a n + value mem w b n) mem regs out (sumRun a b s n buffer mem regs items out)
+      → Put (1 + 5 * n) s n (λ w. value (lent .memory) w a n + value (lent .memory) w b n) lent (sumRun a b s n buffer lent)
   sum-put room =
       let k : length (sumList a b s n) ≡ 1 + 5 * n = omega (arith, length-bits sumByte a b s n) in
-      subst₂ (λ (k : ℕ) (l : List ℕ). Put k s n (λ w. value mem w a n + value mem w b n) mem regs out (ran mem regs l items out))
+      subst₂ (λ (k : ℕ) (l : List ℕ). Put k s n (λ w. value (lent .memory) w a n + value (lent .memory) w b n) lent (runOf l lent))
       k (sym (sum-listed a b s n fields buffer room))
       (put-plain (λ z. z) a b s n 0 (sumList a b s n) (sum-plain a b s n fields) (let w = fields .width in omega arith) (fields .fitsS)
-      mem regs items out memory registers supplied (λ w. value mem w a n + value mem w b n)
-      (λ w h. sum-word a b s n (fields .clearA) (fields .clearB) (outsideAt w items) _ (λ i. bitOf-bit mem _))
+      lent memory registers supplied (λ w. value (lent .memory) w a n + value (lent .memory) w b n)
+      (λ w h. sum-word a b s n (fields .clearA) (fields .clearB) (outsideAt w (lent .items)) _ (λ i. bitOf-bit (lent .memory) _))
       (λ w h. omega arith))
 
   pub difference-put : listLength 2 n ≤ length buffer
-      → Put (2 + 5 * n) s n (λ w. value mem w a n + (2 ^ n - value mem w b n)) mem regs out (differenceRun a b s n buffer mem regs items out)
+      → Put (2 + 5 * n) s n (λ w. value (lent .memory) w a n + (2 ^ n - value (lent .memory) w b n)) lent (differenceRun a b s n buffer lent)
   difference-put room =
       let k : length (differenceList a b s n) ≡ 2 + 5 * n = omega (arith, length-bits differenceByte a b s n) in
-      subst₂ (λ (k : ℕ) (l : List ℕ). Put k s n (λ w. value mem w a n + (2 ^ n - value mem w b n)) mem regs out (ran mem regs l items out))
+      subst₂ (λ (k : ℕ) (l : List ℕ). Put k s n (λ w. value (lent .memory) w a n + (2 ^ n - value (lent .memory) w b n)) lent (runOf l lent))
       k (sym (difference-listed a b s n fields buffer room))
       (put-plain (λ z. 1 - z) a b s n 1 (differenceList a b s n) (difference-plain a b s n fields) (let w = fields .width in omega arith) (fields .fitsS)
-      mem regs items out memory registers supplied (λ w. value mem w a n + (2 ^ n - value mem w b n))
-      (λ w h. difference-word a b s n (fields .clearA) (fields .clearB) (outsideAt w items) _ (λ i. bitOf-bit mem _))
-      (λ w h. let e = turned (λ j. wordBit mem w (b + j)) (λ j. bitOf-bit mem _) n in omega arith))
+      lent memory registers supplied (λ w. value (lent .memory) w a n + (2 ^ n - value (lent .memory) w b n))
+      (λ w h. difference-word a b s n (fields .clearA) (fields .clearB) (outsideAt w (lent .items)) _ (λ i. bitOf-bit (lent .memory) _))
+      (λ w h. let e = turned (λ j. wordBit (lent .memory) w (b + j)) (λ j. bitOf-bit (lent .memory) _) n in omega arith))
 
 -- ---- two runs
 
@@ -98,33 +99,33 @@ apart-out : (b s n j : ℕ) → Apart s b n → j < n → s ≤ b + j → b + j 
 apart-out b s n j (inl h) l p q = omega arith
 apart-out b s n j (inr h) l p q = omega arith
 
-module _ (a b s n : ℕ) (fields : Fields a b s n) (buffer buffer′ mem regs items out : List ℕ)
-    (memory : Bytes mem 8192) (registers : Bytes regs 96) (supplied : unfit 32 (length items) ≡ false) (room : listLength 1 n ≤ length buffer) where
-  pub exchange : listLength 1 n ≤ length buffer′ → sumRun a b s n buffer mem regs items out ≡ sumRun b a s n buffer′ mem regs items out
+module _ (a b s n : ℕ) (fields : Fields a b s n) (buffer buffer′ : List ℕ) (lent : Lent (List ℕ))
+    (memory : Bytes (lent .memory) 8192) (registers : Bytes (lent .registers) 96) (supplied : unfit 32 (length (lent .items)) ≡ false) (room : listLength 1 n ≤ length buffer) where
+  pub exchange : listLength 1 n ≤ length buffer′ → sumRun a b s n buffer lent ≡ sumRun b a s n buffer′ lent
   exchange room′ =
-      put-unique (1 + 5 * n) s n (λ w. value mem w a n + value mem w b n) (λ w. value mem w b n + value mem w a n) mem regs out
-      (sumRun a b s n buffer mem regs items out) (sumRun b a s n buffer′ mem regs items out) (fields .fitsS)
-      (λ w h. add-comm (value mem w a n) (value mem w b n))
-      (sum-put a b s n fields buffer mem regs items out memory registers supplied room)
-      (sum-put b a s n (exchanged fields) buffer′ mem regs items out memory registers supplied room′)
+      put-unique (1 + 5 * n) s n (λ w. value (lent .memory) w a n + value (lent .memory) w b n) (λ w. value (lent .memory) w b n + value (lent .memory) w a n) lent
+      (sumRun a b s n buffer lent) (sumRun b a s n buffer′ lent) (fields .fitsS)
+      (λ w h. add-comm (value (lent .memory) w a n) (value (lent .memory) w b n))
+      (sum-put a b s n fields buffer lent memory registers supplied room)
+      (sum-put b a s n (exchanged fields) buffer′ lent memory registers supplied room′)
 
   value-lt : (x : List ℕ) (w start : ℕ) → value x w start n < 2 ^ n
   value-lt x w start = digitsOf-lt (λ j. wordBit x w (start + j)) (λ j. bitOf-bit x _) n
 
   pub taking-off : Apart s b n → listLength 2 n ≤ length buffer′
-      → (let r = sumRun a b s n buffer mem regs items out in TakenOff a b s n mem regs r (differenceRun s b s n buffer′ (r .mem) (r .regs) items (r .out)))
+      → (let r = sumRun a b s n buffer lent in TakenOff a b s n lent r (differenceRun s b s n buffer′ (lentOn lent r)))
   taking-off apart room′ =
-      let r = sumRun a b s n buffer mem regs items out in
-      let h = sum-put a b s n fields buffer mem regs items out memory registers supplied room in
-      let d = difference-put s b s n (off-itself fields) buffer′ (r .mem) (r .regs) items (r .out) (h .memory) (h .registers) supplied room′ in
+      let r = sumRun a b s n buffer lent in
+      let h = sum-put a b s n fields buffer lent memory registers supplied room in
+      let d = difference-put s b s n (off-itself fields) buffer′ (lentOn lent r) (h .memory) (h .registers) supplied room′ in
       record {
         done = d .done;
         field = λ w l. d .field w l
             ∙ ap₂ (λ (x y : ℕ). (x + (2 ^ n - y)) % 2 ^ n) (h .field w l)
             (digitsOf-ext _ _ n (λ j q. h .others w (b + j) l (let f = fields .fitsB in omega arith) (apart-out b s n j apart q)))
-            ∙ put-back n (value mem w a n) (value mem w b n) (value-lt mem w a) (value-lt mem w b);
+            ∙ put-back n (value (lent .memory) w a n) (value (lent .memory) w b n) (value-lt (lent .memory) w a) (value-lt (lent .memory) w b);
         noBorrow = λ w l.
-            let e = no-borrow n (value (r .mem) w s n) (value (r .mem) w b n) (value-lt (r .mem) w s) (value-lt (r .mem) w b) in
+            let e = no-borrow n (value (r .memory) w s n) (value (r .memory) w b n) (value-lt (r .memory) w s) (value-lt (r .memory) w b) in
             (λ q. e .0 (sym (d .carry w l) ∙ q), λ q. d .carry w l ∙ e .1 q);
         zeroX = d .zeroX;
         keepsM = d .keepsM ∙ h .keepsM;

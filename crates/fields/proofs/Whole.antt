@@ -25,8 +25,8 @@ use Rattle.registers.specs.Logic.{logicOf}
 use Rattle.registers.specs.Rows.{registersOf, bytesOf, withM}
 use Rattle.registers.proofs.LogicLaws.{newX-bit, newY-bit}
 use Rattle.judge.specs.declared.Instruction.{Instruction}
-use Rattle.module.specs.Act.{State, sourceItem, passedBy, regsAfter, memAfter, acted}
-use Rattle.module.specs.Run.{begun}
+use Rattle.module.specs.Act.{State, modeOf, sourceItem, passedBy, regsAfter, memAfter, acted}
+use Rattle.module.specs.Run.{Lent, begun}
 use Rattle.builders.specs.Word.{folded}
 use Rattle.fields.specs.Value.{Bytes}
 
@@ -69,21 +69,22 @@ pub record Good (s : State) : Type 0 where
   pub x-ok : Bytes (s .regs .x) 32
   pub y-ok : Bytes (s .regs .y) 32
 
-pub begun-good : (mem regs out : List ℕ) → Bytes mem 8192 → Bytes regs 96 → Good (begun mem out (registersOf regs))
-begun-good mem regs out a b =
-    record { mem-ok = a; m-ok = part-bytes regs 96 0 32 (omega arith) b; x-ok = part-bytes regs 96 32 32 (omega arith) b; y-ok = part-bytes regs 96 64 32 (omega arith) b }
+pub begun-good : (lent : Lent (List ℕ)) → Bytes (lent .memory) 8192 → Bytes (lent .registers) 96 → Good (begun lent (registersOf (lent .registers)))
+begun-good lent a b =
+    let part = part-bytes (lent .registers) 96 in
+    record { mem-ok = a; m-ok = part 0 32 (omega arith) b; x-ok = part 32 32 (omega arith) b; y-ok = part 64 32 (omega arith) b }
 
 pub registers-ok : (s : State) → Good s → Bytes (bytesOf (s .regs)) 96
 registers-ok s g = append-bytes (s .regs .m) (s .regs .x ++ s .regs .y) 32 64 (g .m-ok) (append-bytes (s .regs .x) (s .regs .y) 32 32 (g .x-ok) (g .y-ok))
 
-memory-good : (i : Instruction) (mem m f : List ℕ) → Bytes mem 8192 → Bytes (memAfter i mem m f) 8192
+memory-good : (i : Instruction) (mode : ℕ) (mem m f : List ℕ) → Bytes mem 8192 → Bytes (memAfter i mode mem m f) 8192
 unfolding memAfter stored
-memory-good i mem m f a = go (eqb (i .kind) 2) (eqb (i .kind) 3)
+memory-good i mode mem m f a = go (eqb (i .kind) 2) (eqb (i .kind) 3)
   where
-    kept : (mask : ℕ → ℕ) → Bytes (stored mem (i .mode) (i .addr) mask (bitOf f)) 8192
-    kept mask = pack-bytes _ (λ k. stored-bit mem (i .mode) (i .addr) mask (bitOf f) (bitOf-bit f) (k / 256) (k % 256)) 8192
+    kept : (mask : ℕ → ℕ) → Bytes (stored mem mode (i .addr) mask (bitOf f)) 8192
+    kept mask = pack-bytes _ (λ k. stored-bit mem mode (i .addr) mask (bitOf f) (bitOf-bit f) (k / 256) (k % 256)) 8192
 
-    go : (two three : Bool) → Bytes (cond two (stored mem (i .mode) (i .addr) every (bitOf f)) (cond three (stored mem (i .mode) (i .addr) (maskOf m (i .flip)) (bitOf f)) mem)) 8192
+    go : (two three : Bool) → Bytes (cond two (stored mem mode (i .addr) every (bitOf f)) (cond three (stored mem mode (i .addr) (maskOf m (i .flip)) (bitOf f)) mem)) 8192
     go true three = kept every
     go false true = kept (maskOf m (i .flip))
     go false false = a
@@ -116,7 +117,7 @@ unfolding acted
 acted-good i items s g =
     let f = passedBy i (s .mem) items (s .regs) (s .taken) in
     let r = registers-good i f s (passed-good i (s .mem) items (s .regs) (s .taken)) g in
-    record { mem-ok = memory-good i (s .mem) (s .regs .m) f (g .mem-ok); m-ok = r .0; x-ok = r .1; y-ok = r .2 }
+    record { mem-ok = memory-good i (modeOf i (s .regs)) (s .mem) (s .regs .m) f (g .mem-ok); m-ok = r .0; x-ok = r .1; y-ok = r .2 }
 
 pub folded-good : (l : List Instruction) (items : List ℕ) (s : State) → Good s → Good (folded (λ i. acted i items) l s)
 unfolding folded

@@ -1,10 +1,13 @@
--- The array seen at one line: line p of a state as a one-word machine, and the instructions that keep to their line.
+-- The array seen at one line: line p of a state as a one-word machine, the line that an instruction's pass brings there, and the instructions that keep to their line.
 use mathlib.Core.Path.{_≡_}
+use mathlib.Core.Bool.{true}
 use mathlib.Core.List.{List}
-use Prim.Native.Nat.{ℕ, _<_}
+use Prim.Native.Nat.{ℕ, _/_, _%_, _<_}
 use Rattle.bits.specs.Bits.{bitOf}
 use Rattle.memory.specs.Table.{table}
 use Rattle.memory.specs.Memory.{cell}
+use Rattle.network.specs.Shifts.{permitted}
+use Rattle.network.specs.Pass.{source}
 use Rattle.judge.specs.declared.Instruction.{Instruction}
 use Rattle.module.specs.Act.{State, partAt}
 use Rattle.builders.specs.Word.{Word}
@@ -24,6 +27,18 @@ wordOf p s =
 
 abbrev pub outsideAt : ℕ → List ℕ → ℕ → ℕ
 outsideAt p items t = bitOf (partAt items t) p
+
+-- The line that instruction i's pass brings to line p. Document 01, Network: flip F and then a shift of 2^m modulo 2^p, where byte 6 is 16p + m.
+abbrev pub cameFrom : Instruction → ℕ → ℕ
+cameFrom i p = source (i .flip) (i .code / 16) (i .code % 16) p
+
+-- An instruction with mode 0, so that line p of its access is bit `addr` of word p; a flip and a shift move lines as they may.
+pub record Sliced (i : Instruction) : Type 0 where
+  pub mode0 : i .mode ≡ 0
+  pub inside : i .addr < 256
+  pub flips : i .flip < 256
+  pub byte6 : i .code < 256
+  pub shifts : permitted (i .code) ≡ true
 
 -- An instruction that keeps to its line: mode 0, no flip and no shift.
 pub record Local (i : Instruction) : Type 0 where

@@ -8,8 +8,10 @@ use Rattle.bits.specs.Bits.{bitOf, digitsOf}
 use Rattle.memory.specs.Table.{table}
 use Rattle.memory.specs.Memory.{cell}
 use Rattle.registers.specs.Rows.{registersOf}
-use Rattle.module.specs.Run.{Left, ran}
-use Rattle.builders.specs.Fields.{sumBuilt, differenceBuilt, Left as Buffer}
+use Rattle.judge.specs.declared.Answer.{Answer}
+use Rattle.module.specs.Run.{Lent, Left, ran}
+use Rattle.builders.specs.Sums.{sumBuilt, differenceBuilt}
+use Rattle.builders.specs.Building.{BuiltLeft}
 
 -- Bit b of word w of the lent memory.
 abbrev pub wordBit : List ℕ → ℕ → ℕ → ℕ
@@ -20,7 +22,7 @@ abbrev pub value : List ℕ → ℕ → ℕ → ℕ → ℕ
 value mem w start n = digitsOf (λ j. wordBit mem w (start + j)) n
 
 -- The list that a builder wrote: as many of the first bytes of its buffer as it counted.
-abbrev pub listOf : Buffer → List ℕ
+abbrev pub listOf : BuiltLeft → List ℕ
 listOf l = take (l .answer .count) (l .list)
 
 -- A list of n bytes.
@@ -28,36 +30,44 @@ pub record Bytes (l : List ℕ) (n : ℕ) : Type 0 where
   pub size : length l ≡ n
   pub low : (i : ℕ) → getD l i 0 < 256
 
--- What a run r leaves that was done in so many steps and put the number t w into field S of each word w, where mem, regs and out were lent.
-pub record Put (steps s n : ℕ) (t : ℕ → ℕ) (mem regs out : List ℕ) (r : Left) : Type 0 where
+-- What a run r leaves that was done in so many steps and put the number t w into field S of each word w of what was lent.
+pub record Put (steps s n : ℕ) (t : ℕ → ℕ) (lent : Lent (List ℕ)) (r : Left (List ℕ) Answer) : Type 0 where
   -- it is done, with the list's count of steps, and nothing is taken or given
   pub done : r .answer ≡ record { number = 0; place = 0; steps = steps; taken = 0; given = 0 }
   -- in each word S is that number modulo 2^n, Y is the carry out, X is zero, and M is as before
-  pub field : (w : ℕ) → w < 256 → value (r .mem) w s n ≡ t w % 2 ^ n
-  pub carry : (w : ℕ) → w < 256 → bitOf (registersOf (r .regs) .y) w ≡ t w / 2 ^ n
-  pub zeroX : registersOf (r .regs) .x ≡ replicate 32 0
-  pub keepsM : registersOf (r .regs) .m ≡ registersOf regs .m
+  pub field : (w : ℕ) → w < 256 → value (r .memory) w s n ≡ t w % 2 ^ n
+  pub carry : (w : ℕ) → w < 256 → bitOf (registersOf (r .registers) .y) w ≡ t w / 2 ^ n
+  pub zeroX : registersOf (r .registers) .x ≡ replicate 32 0
+  pub keepsM : registersOf (r .registers) .m ≡ registersOf (lent .registers) .m
   -- and every other bit of the memory is as before
-  pub others : (w b : ℕ) → w < 256 → b < 256 → (s ≤ b → b < s + n → ⊥) → wordBit (r .mem) w b ≡ wordBit mem w b
+  pub others : (w b : ℕ) → w < 256 → b < 256 → (s ≤ b → b < s + n → ⊥) → wordBit (r .memory) w b ≡ wordBit (lent .memory) w b
   -- the buffers are of the same lengths, and nothing is put out
-  pub memory : Bytes (r .mem) 8192
-  pub registers : Bytes (r .regs) 96
-  pub quiet : r .out ≡ out
+  pub memory : Bytes (r .memory) 8192
+  pub registers : Bytes (r .registers) 96
+  pub quiet : r .out ≡ lent .out
+
+-- A run of a list on what is lent, in the place of whatever list was lent with it.
+abbrev pub runOf : List ℕ → Lent (List ℕ) → Left (List ℕ) Answer
+runOf list l = ran (record { memory = l .memory; registers = l .registers; list = list; items = l .items; out = l .out })
+
+-- What a run has left, lent to the next with the same items.
+abbrev pub lentOn : Lent (List ℕ) → Left (List ℕ) Answer → Lent (List ℕ)
+lentOn l r = record { memory = r .memory; registers = r .registers; list = l .list; items = l .items; out = r .out }
 
 -- A run of the sum list, or of the difference list, that a builder wrote into a buffer.
-abbrev pub sumRun : ℕ → ℕ → ℕ → ℕ → List ℕ → List ℕ → List ℕ → List ℕ → List ℕ → Left
-sumRun a b s n buffer mem regs items out = ran mem regs (listOf (sumBuilt a b s n buffer)) items out
+abbrev pub sumRun : ℕ → ℕ → ℕ → ℕ → List ℕ → Lent (List ℕ) → Left (List ℕ) Answer
+sumRun a b s n buffer = runOf (listOf (sumBuilt a b s n buffer))
 
-abbrev pub differenceRun : ℕ → ℕ → ℕ → ℕ → List ℕ → List ℕ → List ℕ → List ℕ → List ℕ → Left
-differenceRun a b s n buffer mem regs items out = ran mem regs (listOf (differenceBuilt a b s n buffer)) items out
+abbrev pub differenceRun : ℕ → ℕ → ℕ → ℕ → List ℕ → Lent (List ℕ) → Left (List ℕ) Answer
+differenceRun a b s n buffer = runOf (listOf (differenceBuilt a b s n buffer))
 
--- What a run r′ leaves that took B off S into S, where a run r had put A plus B there and mem and regs were lent before both.
-pub record TakenOff (a b s n : ℕ) (mem regs : List ℕ) (r r′ : Left) : Type 0 where
+-- What a run r′ leaves that took B off S into S, where a run r had put A plus B there in what was lent before both.
+pub record TakenOff (a b s n : ℕ) (lent : Lent (List ℕ)) (r r′ : Left (List ℕ) Answer) : Type 0 where
   pub done : r′ .answer ≡ record { number = 0; place = 0; steps = 2 + 5 * n; taken = 0; given = 0 }
   -- in each word S is the old A, and Y is 1 exactly where no borrow was needed
-  pub field : (w : ℕ) → w < 256 → value (r′ .mem) w s n ≡ value mem w a n
-  pub noBorrow : (w : ℕ) → w < 256 → (bitOf (registersOf (r′ .regs) .y) w ≡ 1) ↔ (value (r .mem) w b n ≤ value (r .mem) w s n)
-  pub zeroX : registersOf (r′ .regs) .x ≡ replicate 32 0
-  pub keepsM : registersOf (r′ .regs) .m ≡ registersOf regs .m
-  pub others : (w i : ℕ) → w < 256 → i < 256 → (s ≤ i → i < s + n → ⊥) → wordBit (r′ .mem) w i ≡ wordBit mem w i
+  pub field : (w : ℕ) → w < 256 → value (r′ .memory) w s n ≡ value (lent .memory) w a n
+  pub noBorrow : (w : ℕ) → w < 256 → (bitOf (registersOf (r′ .registers) .y) w ≡ 1) ↔ (value (r .memory) w b n ≤ value (r .memory) w s n)
+  pub zeroX : registersOf (r′ .registers) .x ≡ replicate 32 0
+  pub keepsM : registersOf (r′ .registers) .m ≡ registersOf (lent .registers) .m
+  pub others : (w i : ℕ) → w < 256 → i < 256 → (s ≤ i → i < s + n → ⊥) → wordBit (r′ .memory) w i ≡ wordBit (lent .memory) w i
   pub quiet : r′ .out ≡ r .out

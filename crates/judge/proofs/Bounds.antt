@@ -1,17 +1,19 @@
 -- How large the numbers in an answer can be, for whoever hands them on in fewer bits. Assumes nothing.
-use mathlib.Core.Path.{_≡_}
-use mathlib.Core.Bool.{Bool, true, false, cond, not, _&&_}
+use mathlib.Core.Path.{_≡_, refl}
+use mathlib.Core.Bool.{true}
 use mathlib.Core.List.{List}
 use Prim.Native.Nat.{ℕ, _/_, _≤_}
 use native.Mathlib.Omega.{arith}
-use lib.Dec.{eqb}
 use lib.ListN.{length}
+use Rattle.bits.specs.Rows.{Row, NoRow}
+use Rattle.bits.proofs.Rows.{upTo, first-number, number-high}
 use Rattle.bits.proofs.Search.{count-le}
+use Rattle.judge.specs.declared.Lengths.{Lengths}
 use Rattle.judge.specs.declared.Answer.{Answer}
-use Rattle.judge.specs.Judge.{instructionAt, takes, gives, lengthFault, refusal, done, judged, judgedStep}
-use Rattle.judge.proofs.RowLaws.{fit-size}
-use Rattle.judge.proofs.Verdicts.{Verdict, wrong-length, wrong-instruction, no-item, no-room, accepted, verdict}
-use Rattle.judge.proofs.Table.{sized, length-high, fault-high}
+use Rattle.judge.specs.Judge.{instructionAt, takes, gives, runRows, stepRows, refusal, done, judged, judgedStep}
+use Rattle.judge.specs.Numbers.{Refused, by-lent, by-instruction, by-item, by-room}
+use Rattle.judge.proofs.Numbers.{Outcome, refused, accepted, outcome, first-fault, fault-high}
+use Rattle.judge.proofs.Accepted.{run-fit, step-fit}
 
 -- 13 is the last number, and 4,096 instructions are 32,768 bytes
 pub record Bounded (a : Answer) : Type 0 where
@@ -34,24 +36,24 @@ done-bounds list h =
       given = omega (arith, count-le (λ k. gives (instructionAt list k)) (length list / 8));
     }
 
-module _ (mem regs : ℕ) (list : List ℕ) (items out : ℕ) where
-  list-le : lengthFault mem regs (length list) items ≡ 0 → length list ≤ 32768
-  list-le e = fit-size 8 (length list) (sized mem regs list items out e .1 .1 .0)
+refused-bounds : (rows : List Row) (l : Lengths) (list : List ℕ) → upTo 13 rows ≡ true → (NoRow rows → length list ≤ 32768)
+    → (n k : ℕ) → Refused rows l list n k → Bounded (refusal n k)
+refused-bounds rows l list high size n k (by-lent m f) =
+    refusal-bounds m 0 (let e = first-number rows m f in let h = number-high 13 rows high in omega arith) (omega arith)
+refused-bounds rows l list high size n k (by-instruction m p r h o f) =
+    let e = first-fault (instructionAt list p) m f in
+    refusal-bounds m p (omega (arith, fault-high (instructionAt list p))) (omega (arith, size r))
+refused-bounds rows l list high size n k (by-item p r f h o t) = refusal-bounds 12 p (omega arith) (omega (arith, size r))
+refused-bounds rows l list high size n k (by-room p r f s h o t) = refusal-bounds 13 p (omega arith) (omega (arith, size r))
 
-  pub judged-bounds : Bounded (judged mem regs list items out)
-  judged-bounds = go (judged mem regs list items out) (verdict mem regs list items out)
-    where
-      go : (a : Answer) → Verdict mem regs list items out a → Bounded a
-      go a (wrong-length h) = refusal-bounds _ 0 (omega (arith, length-high mem regs list items out)) (omega arith)
-      go a (wrong-instruction f k l o t) = refusal-bounds _ k (omega (arith, fault-high (instructionAt list k))) (omega (arith, list-le f))
-      go a (no-item f g k l o t) = refusal-bounds 12 k (omega arith) (omega (arith, list-le f))
-      go a (no-room f g s k l o t) = refusal-bounds 13 k (omega arith) (omega (arith, list-le f))
-      go a (accepted f g s r) = done-bounds list (list-le f)
+bounds : (rows : List Row) (l : Lengths) (list : List ℕ) → upTo 13 rows ≡ true → (NoRow rows → length list ≤ 32768)
+    → (a : Answer) → Outcome rows l list a → Bounded a
+bounds rows l list high size a (refused n k u why) = refused-bounds rows l list high size n k why
+bounds rows l list high size a (accepted why) = done-bounds list (size (why .lent))
 
-pub step-bounds : (mem : ℕ) (instruction : List ℕ) (items out : ℕ) → Bounded (judgedStep mem instruction items out)
-unfolding judgedStep
-step-bounds mem instruction items out = go (eqb mem 8192 && not (eqb (length instruction) 8))
-  where
-    go : (t : Bool) → Bounded (cond t (refusal 3 0) (judged mem 96 instruction items out))
-    go true = refusal-bounds 3 0 (omega arith) (omega arith)
-    go false = judged-bounds mem 96 instruction items out
+pub judged-bounds : (l : Lengths) (list : List ℕ) → Bounded (judged l list)
+judged-bounds l list = bounds (runRows l list) l list refl (run-fit l list) (judged l list) (outcome (runRows l list) l list refl)
+
+pub step-bounds : (l : Lengths) (instruction : List ℕ) → Bounded (judgedStep l instruction)
+step-bounds l instruction =
+    bounds (stepRows l instruction) l instruction refl (step-fit l instruction) (judgedStep l instruction) (outcome (stepRows l instruction) l instruction refl)

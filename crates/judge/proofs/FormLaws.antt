@@ -1,28 +1,18 @@
 -- The rows of an instruction as the quick test takes them: together, and by kind. Assumes nothing.
 use mathlib.Core.Path.{_≡_, refl, sym, ap, _∙_}
 use mathlib.Core.Bool.{Bool, true, false, cond, not, _&&_, _||_}
-use mathlib.Core.List.{List, [], _∷_}
 use Prim.Native.Nat.{ℕ, zero, suc, _/_, _<_, _≤_}
 use native.Mathlib.Omega.{arith}
 use lib.Dec.{eqb, ltb, eqb·suc-zero}
-use borrow.Author.Tests.{eq-eqb, ne-eqb, lt-ltb, le-ltb}
+use borrow.Author.Tests.{eqb-true, eq-eqb, ne-eqb, lt-ltb, le-ltb}
+use Rattle.bits.proofs.Rows.{number-test}
 use Rattle.network.specs.Shifts.{permitted}
 use Rattle.network.proofs.TableRules.{none-permitted}
 use Rattle.judge.specs.declared.Instruction.{Instruction}
-use Rattle.judge.specs.Judge.{stores, wrongKind, wrongSource, lacksTag, wrongTag, idleAccess, wrongPass, wrongLogic, numbered, instructionRows, faultOf}
+use Rattle.judge.specs.Judge.{stores, wrongKind, wrongSource, lacksTag, wrongTag, idleAccess, wrongPass, wrongLogic, instructionRows, faultOf}
 use Rattle.judge.specs.Steps.{idle, fits}
 
 -- ---- the rows together
-
--- no row holds, as a test
-abbrev no-row : List Bool → Bool
-no-row [] = true
-no-row (row ∷ rows) = not row && no-row rows
-
-numbered-test : (n : ℕ) (rows : List Bool) → eqb (numbered (suc n) rows) 0 ≡ no-row rows
-numbered-test n [] = refl
-numbered-test n (true ∷ rows) = eqb·suc-zero n
-numbered-test n (false ∷ rows) = numbered-test (suc n) rows
 
 lost : (f g : Bool) → false ≡ (f && (g && false))
 lost true true = refl
@@ -41,8 +31,12 @@ order true true true true true f g = refl
 formed-is : (i : Instruction) → eqb (faultOf i) 0 ≡ (not (wrongPass i) && (not (wrongLogic i) && fits i))
 unfolding faultOf fits
 formed-is i =
-    numbered-test 4 (instructionRows i)
+    number-test (instructionRows i) refl
     ∙ order (not (wrongKind i)) (not (wrongSource i)) (not (lacksTag i)) (not (wrongTag i)) (not (idleAccess i)) (not (wrongPass i)) (not (wrongLogic i))
+
+-- an instruction that passes rows 10 and 11, and fits, has no number
+pub formed-by : (i : Instruction) → wrongPass i ≡ false → wrongLogic i ≡ false → fits i ≡ true → faultOf i ≡ 0
+formed-by i p l f = eqb-true (faultOf i) 0 (formed-is i ∙ simp (p, l, f))
 
 -- what is answered, as the test comes to it
 module _ (i : Instruction) where

@@ -1,8 +1,7 @@
 -- Laws of the definitions in specs/, for the proofs of this crate and of those above it.
 pub mod RowLaws
 pub mod FormLaws
-pub mod Verdicts
-pub mod Table
+pub mod Numbers
 pub mod Accepted
 pub mod Shortage
 pub mod Bounds

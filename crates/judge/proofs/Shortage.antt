@@ -14,8 +14,8 @@ use Rattle.judge.specs.declared.Instruction.{Instruction}
 use Rattle.judge.specs.declared.Tally.{Tally}
 use Rattle.judge.specs.Judge.{instructionAt, takes, gives, lacks, faulty, done}
 use Rattle.judge.specs.Steps.{tallyOf}
-use Rattle.judge.specs.Table.{Served}
-use Rattle.judge.proofs.Table.{has-it, it-has}
+use Rattle.judge.specs.Numbers.{Served}
+use Rattle.judge.proofs.Numbers.{has-it, it-has}
 use Rattle.judge.proofs.Accepted.{count-fits}
 
 -- a number below n at which the test holds is counted beyond those before it

@@ -1,12 +1,14 @@
 -- Instructions, and the number that a run gives back, with its place and its counts. Document 01, Instructions and Numbers given back.
 use mathlib.Core.Bool.{Bool, true, false, cond, not, _&&_, _||_}
 use mathlib.Core.List.{List, [], _∷_}
-use Prim.Native.Nat.{ℕ, suc, _+_, _*_, _/_, _%_}
+use Prim.Native.Nat.{ℕ, _+_, _*_, _/_, _%_}
 use lib.Dec.{eqb, ltb}
 use lib.ListN.{length, getD}
+use Rattle.bits.specs.Rows.{Row, row, numberOf}
 use Rattle.bits.specs.Search.{first, count}
 use Rattle.network.specs.Shifts.{permitted}
 use Rattle.judge.specs.declared.Instruction.{Instruction}
+use Rattle.judge.specs.declared.Lengths.{Lengths}
 use Rattle.judge.specs.declared.Answer.{Answer}
 
 -- ---- instructions
@@ -91,34 +93,60 @@ abbrev pub uses : Bool → Instruction → Bool
 uses true = gives
 uses false = takes
 
--- ---- the order
+-- ---- the tables, in their order
 
--- The number of the first row that holds, where rows are numbered from n on: 0 where none does.
-abbrev pub numbered : ℕ → List Bool → ℕ
-numbered n [] = 0
-numbered n (row ∷ rows) = cond row n (numbered (suc n) rows)
+-- "1 to 4": what a run is lent.
+abbrev pub runRows : Lengths → List ℕ → List Row
+runRows l list =
+    row 1 (wrongMemory (l .memory))
+    ∷ row 2 (wrongRegisters (l .registers))
+    ∷ row 3 (unfit 8 (length list))
+    ∷ row 4 (unfit 32 (l .items))
+    ∷ []
 
--- "1 to 4": from the lengths of memory, registers, list and items.
-abbrev pub lengthRows : ℕ → ℕ → ℕ → ℕ → List Bool
-lengthRows mem regs list items = wrongMemory mem ∷ wrongRegisters regs ∷ unfit 8 list ∷ unfit 32 items ∷ []
-
-unfoldable pub lengthFault : ℕ → ℕ → ℕ → ℕ → ℕ
-lengthFault mem regs list items = numbered 1 (lengthRows mem regs list items)
+-- What a step is lent. Document 01, Memory: "Its instruction is exactly 8 bytes, else 3"; its registers are a record, so there is no 2.
+abbrev pub stepRows : Lengths → List ℕ → List Row
+stepRows l instruction =
+    row 1 (wrongMemory (l .memory))
+    ∷ row 3 (not (eqb (length instruction) 8))
+    ∷ row 4 (unfit 32 (l .items))
+    ∷ []
 
 -- "Then each instruction in turn, 5 to 11."
-abbrev pub instructionRows : Instruction → List Bool
-instructionRows i = wrongKind i ∷ wrongSource i ∷ lacksTag i ∷ wrongTag i ∷ idleAccess i ∷ wrongPass i ∷ wrongLogic i ∷ []
+abbrev pub instructionRows : Instruction → List Row
+instructionRows i =
+    row 5 (wrongKind i)
+    ∷ row 6 (wrongSource i)
+    ∷ row 7 (lacksTag i)
+    ∷ row 8 (wrongTag i)
+    ∷ row 9 (idleAccess i)
+    ∷ row 10 (wrongPass i)
+    ∷ row 11 (wrongLogic i)
+    ∷ []
 
 unfoldable pub faultOf : Instruction → ℕ
-faultOf i = numbered 5 (instructionRows i)
+faultOf i = numberOf (instructionRows i)
 
 -- Instruction k has one of the numbers 5 to 11.
 abbrev pub faulty : List ℕ → ℕ → Bool
 faulty list k = not (eqb (faultOf (instructionAt list k)) 0)
 
+-- ---- the three judgements: each is an answer, with number 0 where it refuses nothing
+
 -- "A refusal has the last three 0."
 abbrev pub refusal : ℕ → ℕ → Answer
 refusal n p = record { number = n; place = p; steps = 0; taken = 0; given = 0 }
+
+-- Of what is lent: "1 to 4 (place 0)".
+abbrev pub judgedLent : List Row → Answer
+judgedLent rows = refusal (numberOf rows) 0
+
+-- Of the list by itself: "each instruction in turn, 5 to 11. Place is the instruction's number." (Numbers from 0: docs/DECISIONS.md.)
+unfoldable pub judgedAlone : List ℕ → Answer
+judgedAlone list =
+    let n = length list / 8 in
+    let bad = first (faulty list) 0 n in
+    cond (ltb bad n) (refusal (faultOf (instructionAt list bad)) bad) (refusal 0 0)
 
 -- "Done is 0, place 0; steps is the count of instructions, taken of source 4, given of kinds 4 and 5."
 abbrev pub done : List ℕ → Answer
@@ -131,25 +159,31 @@ done list =
       given = count (λ k. gives (instructionAt list k)) (length list / 8);
     }
 
--- "Then each instruction in turn, 5 to 11; then 12; then 13. Place is the instruction's number; for 12 and 13 the first that lacks its item or room." (Numbers from 0: docs/DECISIONS.md.)
-unfoldable pub judgedList : List ℕ → ℕ → ℕ → Answer
-judgedList list items out =
+-- Of what it needs: "then 12; then 13. For 12 and 13 the first that lacks its item or room."
+unfoldable pub judgedNeeds : Lengths → List ℕ → Answer
+judgedNeeds l list =
     let n = length list / 8 in
-    let bad = first (faulty list) 0 n in
-    let item = first (lacks takes list items) 0 n in
-    let room = first (lacks gives list out) 0 n in
-    cond (ltb bad n) (refusal (faultOf (instructionAt list bad)) bad)
-    (cond (ltb item n) (refusal 12 item)
-    (cond (ltb room n) (refusal 13 room)
-    (done list)))
+    let item = first (lacks takes list (l .items)) 0 n in
+    let room = first (lacks gives list (l .out)) 0 n in
+    cond (ltb item n) (refusal 12 item) (cond (ltb room n) (refusal 13 room) (done list))
 
--- What a run gives back, from the lengths of memory and registers, the list, and the lengths of items and out buffer. "Order: 1 to 4 (place 0)", then the list.
-unfoldable pub judged : ℕ → ℕ → List ℕ → ℕ → ℕ → Answer
-judged mem regs list items out =
-    let wrong = lengthFault mem regs (length list) items in
-    cond (not (eqb wrong 0)) (refusal wrong 0) (judgedList list items out)
+-- ---- the order
 
--- What a step gives back. Document 01, Memory: it "answers, refuses and leaves its buffers as a run of a list of that one instruction does. Its instruction is exactly 8 bytes, else 3": after 1, before 4.
-unfoldable pub judgedStep : ℕ → List ℕ → ℕ → ℕ → Answer
-judgedStep mem instruction items out =
-    cond (eqb mem 8192 && not (eqb (length instruction) 8)) (refusal 3 0) (judged mem 96 instruction items out)
+-- What one judgement says, or else the next: the first that refuses gives the answer.
+abbrev pub orElse : Answer → Answer → Answer
+orElse a b = cond (eqb (a .number) 0) b a
+
+abbrev pub judgedList : Lengths → List ℕ → Answer
+judgedList l list = orElse (judgedAlone list) (judgedNeeds l list)
+
+-- What is given back for a list, where `rows` judge what is lent.
+unfoldable pub judgedBy : List Row → Lengths → List ℕ → Answer
+judgedBy rows l list = orElse (judgedLent rows) (judgedList l list)
+
+-- What a run gives back.
+abbrev pub judged : Lengths → List ℕ → Answer
+judged l list = judgedBy (runRows l list) l list
+
+-- What a step gives back. Document 01, Memory: it "answers, refuses and leaves its buffers as a run of a list of that one instruction does".
+abbrev pub judgedStep : Lengths → List ℕ → Answer
+judgedStep l instruction = judgedBy (stepRows l instruction) l instruction

@@ -1,4 +1,4 @@
 -- Instructions and the judge: what the contracts of this crate and of those above it cite.
 pub mod Judge
-pub mod Table
+pub mod Numbers
 pub mod Steps

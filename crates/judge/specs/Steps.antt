@@ -7,8 +7,9 @@ use lib.Dec.{eqb}
 use lib.ListN.{length}
 use Rattle.bits.specs.Search.{first, count}
 use Rattle.judge.specs.declared.Instruction.{Instruction}
+use Rattle.judge.specs.declared.Lengths.{Lengths}
 use Rattle.judge.specs.declared.Tally.{Tally}
-use Rattle.judge.specs.Judge.{instructionAt, takes, gives, wrongKind, wrongSource, lacksTag, wrongTag, idleAccess, faultOf, faulty, done, judged}
+use Rattle.judge.specs.Judge.{instructionAt, takes, gives, wrongKind, wrongSource, lacksTag, wrongTag, idleAccess, faultOf, faulty}
 
 -- Bytes 2, 3 and 4 are 0, as row 9 asks where memory is not touched.
 abbrev pub idle : Instruction → Bool
@@ -28,13 +29,13 @@ tallyOf list =
       given = count (λ k. gives (instructionAt list k)) bad;
     }
 
--- What holds where the judge says done: no instruction has a number, and each finds its item and its room (proofs/Accepted.antt).
-pub record Accepted (mem regs : ℕ) (list : List ℕ) (items out : ℕ) : Type 0 where
-  pub memory : mem ≡ 8192
-  pub registers : regs ≡ 96
+-- What holds where the judge says done, of a run and of a step: no instruction has a number, and each finds its item and its room (proofs/Accepted.antt).
+pub record Accepted (l : Lengths) (list : List ℕ) : Type 0 where
+  pub memory : l .memory ≡ 8192
   pub whole : length list % 8 ≡ 0
   pub size : length list ≤ 32768
   pub formed : (k : ℕ) → k < length list / 8 → faultOf (instructionAt list k) ≡ 0
-  pub supplied : (k : ℕ) → k < length list / 8 → takes (instructionAt list k) ≡ true → 32 * count (λ j. takes (instructionAt list j)) k + 32 ≤ items
-  pub roomy : (k : ℕ) → k < length list / 8 → gives (instructionAt list k) ≡ true → 32 * count (λ j. gives (instructionAt list j)) k + 32 ≤ out
-  pub answer : judged mem regs list items out ≡ done list
+  pub supplied : (k : ℕ) → k < length list / 8 → takes (instructionAt list k) ≡ true
+      → 32 * count (λ j. takes (instructionAt list j)) k + 32 ≤ l .items
+  pub roomy : (k : ℕ) → k < length list / 8 → gives (instructionAt list k) ≡ true
+      → 32 * count (λ j. gives (instructionAt list j)) k + 32 ≤ l .out

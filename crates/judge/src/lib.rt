@@ -7,7 +7,8 @@ use bits::choices::number_or;
 ghost use mathlib.Core.Path.{_≡_};
 ghost use Prim.Native.Nat.{_+_, _*_, _<_, _≤_};
 ghost use lib.ListN.{length};
-ghost use Rattle.judge.specs.Judge.{instructionAt, unfit, lengthFault, refusal, judgedList, judged, judgedStep};
+ghost use Rattle.bits.specs.Rows.{numberOf};
+ghost use Rattle.judge.specs.Judge.{instructionAt, unfit, runRows, stepRows, refusal, orElse, judgedList, judged, judgedStep};
 
 // An instruction, its eight bytes in order.
 pub struct Instruction {
@@ -19,6 +20,14 @@ pub struct Instruction {
     pub flip: u8,
     pub code: u8,
     pub logic: u8,
+}
+
+// The lengths of what a run is lent beside its list.
+pub struct Lengths {
+    pub memory: usize,
+    pub registers: usize,
+    pub items: usize,
+    pub out: usize,
 }
 
 // What a run gives back.
@@ -63,14 +72,23 @@ fn unfit(unit: usize, size: usize) -> bool
     !(size % unit == 0) | (size > 32768)
 }
 
-// The number of the lengths, 1 to 4: 0 where they have none.
-fn length_fault(memory: usize, registers: usize, list: usize, items: usize) -> u8
-    ensures { λ r. ⌜ r ≡ lengthFault memory registers list items ⌝ }
+// The number of what a run is lent, 1 to 4: 0 where nothing is wrong.
+fn run_fault(l: Lengths, list: &[u8]) -> u8
+    ensures { λ r. ⌜ r ≡ numberOf (runRows l (now (list .entry))) ⌝ }
 {
-    let from4 = number_or(unfit(32, items), 4, 0);
-    let from3 = number_or(unfit(8, list), 3, from4);
-    let from2 = number_or(!(registers == 96), 2, from3);
-    number_or(!(memory == 8192), 1, from2)
+    let from4 = number_or(unfit(32, l.items), 4, 0);
+    let from3 = number_or(unfit(8, list.len()), 3, from4);
+    let from2 = number_or(!(l.registers == 96), 2, from3);
+    number_or(!(l.memory == 8192), 1, from2)
+}
+
+// The number of what a step is lent.
+fn step_fault(l: Lengths, instruction: &[u8]) -> u8
+    ensures { λ r. ⌜ r ≡ numberOf (stepRows l (now (instruction .entry))) ⌝ }
+{
+    let from4 = number_or(unfit(32, l.items), 4, 0);
+    let from3 = number_or(!(instruction.len() == 8), 3, from4);
+    number_or(!(l.memory == 8192), 1, from3)
 }
 
 fn refused(number: u8, place: usize) -> Answer
@@ -87,9 +105,9 @@ fn refused(number: u8, place: usize) -> Answer
 
 // Each instruction in turn, 5 to 11; then 12; then 13. A list that stands is walked once: what all of it takes and gives is there exactly if each instruction
 // finds its own, so that only a list that lacks some is searched for the instruction.
-fn judge_list(list: &[u8], items: usize, out: usize) -> Answer
+fn judge_list(l: Lengths, list: &[u8]) -> Answer
     requires { ⌜ length (now list) ≤ 32768 ⌝ }
-    ensures { λ r. ⌜ r ≡ judgedList (now (list .entry)) items out ⌝ }
+    ensures { λ r. ⌜ r ≡ judgedList l (now (list .entry)) ⌝ }
 {
     let n = list.len() / 8;
     let tally = searches::tally(list);
@@ -97,11 +115,11 @@ fn judge_list(list: &[u8], items: usize, out: usize) -> Answer
     if bad < n {
         return refused(rows::fault(decode(list, bad)), bad);
     }
-    if items < 32 * tally.taken {
-        return refused(12, searches::shortage(false, list, items));
+    if l.items < 32 * tally.taken {
+        return refused(12, searches::shortage(false, list, l.items));
     }
-    if out < 32 * tally.given {
-        return refused(13, searches::shortage(true, list, out));
+    if l.out < 32 * tally.given {
+        return refused(13, searches::shortage(true, list, l.out));
     }
     Answer {
         number: 0,
@@ -112,23 +130,27 @@ fn judge_list(list: &[u8], items: usize, out: usize) -> Answer
     }
 }
 
-// What a run gives back.
-pub fn judge(memory: usize, registers: usize, list: &[u8], items: usize, out: usize) -> Answer
-    ensures { λ r. ⌜ r ≡ judged memory registers (now (list .entry)) items out ⌝ }
+// What is lent first, whose number is `wrong`; then the list.
+fn judge_by(wrong: u8, l: Lengths, list: &[u8]) -> Answer
+    requires { ⌜ (wrong ≡ 0 → length (now list) ≤ 32768) ⌝ }
+    ensures { λ r. ⌜ r ≡ orElse (refusal wrong 0) (judgedList l (now (list .entry))) ⌝ }
 {
-    let wrong = length_fault(memory, registers, list.len(), items);
     if wrong != 0 {
         return refused(wrong, 0);
     }
-    judge_list(list, items, out)
+    judge_list(l, list)
+}
+
+// What a run gives back.
+pub fn judge(l: Lengths, list: &[u8]) -> Answer
+    ensures { λ r. ⌜ r ≡ judged l (now (list .entry)) ⌝ }
+{
+    judge_by(run_fault(l, list), l, list)
 }
 
 // What a step gives back: a run's answer for its one instruction, which is exactly 8 bytes, else 3.
-pub fn judge_step(memory: usize, instruction: &[u8], items: usize, out: usize) -> Answer
-    ensures { λ r. ⌜ r ≡ judgedStep memory (now (instruction .entry)) items out ⌝ }
+pub fn judge_step(l: Lengths, instruction: &[u8]) -> Answer
+    ensures { λ r. ⌜ r ≡ judgedStep l (now (instruction .entry)) ⌝ }
 {
-    if (memory == 8192) & !(instruction.len() == 8) {
-        return refused(3, 0);
-    }
-    judge(memory, 96, instruction, items, out)
+    judge_by(step_fault(l, instruction), l, instruction)
 }

@@ -1,6 +1,6 @@
 // Answers as 32-bit numbers: the entries' own, each small enough.
 use builders::Built;
-use contents::Answer;
+use contents::Moved;
 ghost use mathlib.Core.Path.{_≡_};
 ghost use mathlib.Core.List.{[], _∷_};
 ghost use Prim.Native.Nat.{_≤_};
@@ -29,7 +29,7 @@ pub fn put_five(a: judge::Answer, answer: &mut [u32; 5])
 }
 
 // Number, place, bytes put out.
-pub fn three(a: Answer) -> [u32; 3]
+pub fn three(a: Moved) -> [u32; 3]
     requires { ⌜ (a .place ≤ 67) × (a .bytes ≤ 34304) ⌝ }
     ensures { λ r. ⌜ r ≡ three a ⌝ }
 {

@@ -5,7 +5,7 @@ mod answers;
 
 use registers::Registers;
 ghost use mathlib.Core.Path.{_≡_};
-ghost use Rattle.library.specs.Left.{runLeft, stepLeft, passLeft, sumLeft, differenceLeft, readLeft, writeLeft, readPictureLeft, writePictureLeft};
+ghost use Rattle.library.specs.Left.{runLeft, stepLeft, passLeft, sumLeft, differenceLeft, readLeft, writeLeft, readPictureLeft, writePictureLeft, version};
 
 // A run of an instruction list.
 #[no_mangle]
@@ -17,7 +17,10 @@ pub extern "C" fn staran_run(
     out: &mut [u8],
     answer: &mut [u32; 5],
 )
-    ensures { λ _. ⌜ record { memory = now (memory .exit); registers = now (registers .exit); out = now (out .exit); answer = now (answer .exit) } ≡ runLeft (now (memory .entry)) (now (registers .entry)) (now (list .entry)) (now (items .entry)) (now (out .entry)) ⌝ }
+    ensures { λ _. ⌜
+        record { memory = now (memory .exit); registers = now (registers .exit); out = now (out .exit); answer = now (answer .exit) }
+        ≡ runLeft (record { memory = now (memory .entry); registers = now (registers .entry); list = now (list .entry); items = now (items .entry); out = now (out .entry) })
+        ⌝ }
 {
     let a = module::run(memory, registers, list, items, out);
     *answer = answers::five(a);
@@ -28,14 +31,17 @@ pub extern "C" fn staran_run(
 pub extern "C" fn staran_step(
     memory: &mut [u8],
     registers: &mut Registers,
+    instruction: &[u8],
     items: &[u8],
     out: &mut [u8],
-    instruction: &[u8],
     answer: &mut [u32; 5],
 )
-    ensures { λ _. ⌜ record { memory = now (memory .exit); registers = now (registers .exit); out = now (out .exit); answer = now (answer .exit) } ≡ stepLeft (now (memory .entry)) (now (registers .entry)) (now (items .entry)) (now (out .entry)) (now (instruction .entry)) ⌝ }
+    ensures { λ _. ⌜
+        record { memory = now (memory .exit); registers = now (registers .exit); out = now (out .exit); answer = now (answer .exit) }
+        ≡ stepLeft (record { memory = now (memory .entry); registers = now (registers .entry); list = now (instruction .entry); items = now (items .entry); out = now (out .entry) })
+        ⌝ }
 {
-    let a = module::step(memory, registers, items, out, instruction);
+    let a = module::step(memory, registers, instruction, items, out);
     answers::put_five(a, answer);
 }
 
@@ -113,9 +119,10 @@ pub extern "C" fn staran_read_content(
     target: &mut [u8],
     answer: &mut [u32; 3],
 )
-    ensures { λ _. ⌜ record { buffer = now (target .exit); answer = now (answer .exit) } ≡ readLeft kind (now (bytes .entry)) (now (target .entry)) ⌝ }
+    ensures { λ _. ⌜ record { buffer = now (target .exit); answer = now (answer .exit) }
+        ≡ readLeft kind (now (bytes .entry)) (now (target .entry)) ⌝ }
 {
-    let r = pictures::read_content(kind, bytes, target);
+    let r = contents::read_content(kind, bytes, target);
     *answer = answers::three(r);
 }
 
@@ -127,9 +134,10 @@ pub extern "C" fn staran_write_content(
     out: &mut [u8],
     answer: &mut [u32; 3],
 )
-    ensures { λ _. ⌜ record { buffer = now (out .exit); answer = now (answer .exit) } ≡ writeLeft kind (now (content .entry)) (now (out .entry)) ⌝ }
+    ensures { λ _. ⌜ record { buffer = now (out .exit); answer = now (answer .exit) }
+        ≡ writeLeft kind (now (content .entry)) (now (out .entry)) ⌝ }
 {
-    let r = pictures::write_content(kind, content, out);
+    let r = contents::write_content(kind, content, out);
     *answer = answers::three(r);
 }
 
@@ -142,7 +150,8 @@ pub extern "C" fn staran_read_picture(
     registers: &mut [u8],
     answer: &mut [u32; 3],
 )
-    ensures { λ _. ⌜ record { memory = now (memory .exit); registers = now (registers .exit); answer = now (answer .exit) } ≡ readPictureLeft kind (now (bytes .entry)) (now (memory .entry)) (now (registers .entry)) ⌝ }
+    ensures { λ _. ⌜ record { memory = now (memory .exit); registers = now (registers .exit); answer = now (answer .exit) }
+        ≡ readPictureLeft kind (now (bytes .entry)) (now (memory .entry)) (now (registers .entry)) ⌝ }
 {
     let r = pictures::read_picture(kind, bytes, memory, registers);
     *answer = answers::three(r);
@@ -157,8 +166,17 @@ pub extern "C" fn staran_write_picture(
     out: &mut [u8],
     answer: &mut [u32; 3],
 )
-    ensures { λ _. ⌜ record { buffer = now (out .exit); answer = now (answer .exit) } ≡ writePictureLeft kind (now (memory .entry)) (now (registers .entry)) (now (out .entry)) ⌝ }
+    ensures { λ _. ⌜ record { buffer = now (out .exit); answer = now (answer .exit) }
+        ≡ writePictureLeft kind (now (memory .entry)) (now (registers .entry)) (now (out .entry)) ⌝ }
 {
     let r = pictures::write_picture(kind, memory, registers, out);
     *answer = answers::three(r);
+}
+
+// The version of the library that is linked, to be held to the header's.
+#[no_mangle]
+pub extern "C" fn staran_version() -> u32
+    ensures { λ r. ⌜ r ≡ version 1 0 ⌝ }
+{
+    65536
 }

@@ -6,4 +6,3 @@ pub mod MemoryLaws
 pub mod StoreLaws
 pub mod TableDemand
 pub mod Examples
-pub mod PlainLaws

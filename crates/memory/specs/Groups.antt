@@ -3,7 +3,7 @@ use mathlib.Core.List.{List}
 use Prim.Native.Nat.{ℕ, _+_, _*_, _/_, _%_, _^_}
 use lib.Bits.{bitAnd, bitOr, bitXor}
 use lib.ListN.{getD}
-use Rattle.bits.specs.Bits.{digit, listed, digitsOf}
+use Rattle.bits.specs.Bits.{digit}
 
 -- The group of chips 8k to 8k+7 that the lines 8i to 8i+7 meet.
 abbrev pub groupOf : ℕ → ℕ → ℕ
@@ -27,13 +27,6 @@ spotFrom first m i = bitXor first (bitAnd (257 * i) (7936 + m / 8))
 -- What line 8i + j reads, from a list that has the byte read of chip t of the group that lines 8i to 8i+7 meet at 32t + i.
 abbrev pub lineDigit : List ℕ → ℕ → ℕ → ℕ → ℕ → ℕ
 lineDigit bytes m g i j = digit (getD bytes (32 * bitXor (g % 8) j + i) 0) (placeOf m g (bitXor (g % 8) j))
-
--- Eight rows of 32 bytes turned: row a is what a load of word a gathers from the rows, so digit j of its byte i is that of row a xor j. The rule is its own inverse.
-abbrev pub turnedByte : List ℕ → ℕ → ℕ
-turnedByte rows n = digitsOf (lineDigit rows 255 (n / 32) (n % 32)) 8
-
-unfoldable pub turned : List ℕ → List ℕ
-turned rows = listed (turnedByte rows) 256
 
 -- The bit f of the line among 8i to 8i+7 that meets chip t of the group, moved to the place at which the chip is read.
 abbrev pub laneByte : (ℕ → ℕ) → ℕ → ℕ → ℕ → ℕ → ℕ

@@ -2,5 +2,4 @@
 pub mod Access
 pub mod Table
 pub mod Memory
-pub mod Plain
 pub mod Groups

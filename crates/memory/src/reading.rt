@@ -6,7 +6,6 @@ use super::places::place_of;
 use super::places::spot_from;
 use super::places::wide;
 use bits::lanes::gather_lane;
-use bits::lanes::keep_lane;
 ghost use mathlib.Core.Path.{_≡_};
 ghost use Prim.Native.Nat.{_+_, _*_, _/_, _%_, _<_};
 ghost use lib.ListN.{length, getD};
@@ -54,21 +53,6 @@ pub fn gather(bytes: &[u8], mode: u8, addr: u8) -> [u8; 32]
         let t = partner(addr, j);
         let from = 32 * wide(t);
         out = gather_lane(&out, &bytes[from..from + 32], place_of(mode, addr, t), j);
-        j += 1;
-    }
-    out
-}
-
-// The same under mode 255, a word: there line 8i + j's bit is digit j of its byte already, and no digit moves.
-pub fn gather_word(bytes: &[u8], addr: u8) -> [u8; 32]
-    requires { ⌜ length (now bytes) ≡ 256 ⌝ }
-    ensures { λ r. ⌜ r ≡ listed (λ i. digitsOf (lineDigit (now (bytes .entry)) 255 addr i) 8) 32 ⌝ }
-{
-    let mut out = [0u8; 32];
-    let mut j: u8 = 0;
-    while j < 8 {
-        let from = 32 * wide(partner(addr, j));
-        out = keep_lane(&out, &bytes[from..from + 32], j);
         j += 1;
     }
     out

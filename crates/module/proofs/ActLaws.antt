@@ -17,7 +17,7 @@ use Rattle.registers.specs.Logic.{logicOf}
 use Rattle.registers.specs.Resolver.{resolved}
 use Rattle.judge.specs.declared.Instruction.{Instruction}
 use Rattle.judge.specs.Judge.{takes, gives}
-use Rattle.module.specs.Act.{State, partAt, putPart, held, heldItem, sourceItem, passedBy, regsAfter, memAfter, outAfter, after, acted}
+use Rattle.module.specs.Act.{State, partAt, putPart, modeOf, held, heldItem, sourceItem, passedBy, regsAfter, memAfter, outAfter, after, acted}
 
 -- ---- the source
 
@@ -80,7 +80,7 @@ resolve-any i f g s e = simp (ap (λ (k : ℕ). eqb k 0) e, ap (λ (k : ℕ). eq
 
 pub act-is : (i : Instruction) (items : List ℕ) (s : State) (f m o : List ℕ) (r : Registers) (t g : ℕ)
     → ((i .kind ≡ 5 → ⊥) → f ≡ passedBy i (s .mem) items (s .regs) (s .taken))
-    → m ≡ memAfter i (s .mem) (s .regs .m) f
+    → m ≡ memAfter i (modeOf i (s .regs)) (s .mem) (s .regs .m) f
     → o ≡ outAfter i (s .out) (s .given) f (s .regs .y)
     → r ≡ regsAfter i (s .regs) f
     → t ≡ cond (takes i) 1 0 → g ≡ cond (gives i) 1 0
@@ -100,7 +100,7 @@ act-is i items s f m o r t g ef em eo er et eg = parts ∙ same (ℕ-discrete (i
 module _ (i : Instruction) (mem items : List ℕ) (r : Registers) (taken : ℕ) where
   -- the passed item of source n
   abbrev pub bySource : ℕ → List ℕ
-  bySource n = passedItem (cond (eqb n 4) (partAt items taken) (held n (i .mode) (i .addr) mem r)) (i .flip) (i .code)
+  bySource n = passedItem (cond (eqb n 4) (partAt items taken) (held n (modeOf i r) (i .addr) mem r)) (i .flip) (i .code)
 
   pub passed-source : (n : ℕ) → i .source ≡ n → passedBy i mem items r taken ≡ bySource n
   unfolding passedBy sourceItem heldItem
@@ -111,7 +111,10 @@ module _ (i : Instruction) (items : List ℕ) (s : State) where
   abbrev pub byKind : List ℕ → ℕ → State
   byKind f n =
       record {
-        mem = cond (eqb n 2) (stored (s .mem) (i .mode) (i .addr) every (bitOf f)) (cond (eqb n 3) (stored (s .mem) (i .mode) (i .addr) (maskOf (s .regs .m) (i .flip)) (bitOf f)) (s .mem));
+        mem =
+            let mode = modeOf i (s .regs) in
+            cond (eqb n 2) (stored (s .mem) mode (i .addr) every (bitOf f))
+            (cond (eqb n 3) (stored (s .mem) mode (i .addr) (maskOf (s .regs .m) (i .flip)) (bitOf f)) (s .mem));
         out = cond (eqb n 4) (putPart (s .out) (s .given) f) (cond (eqb n 5) (putPart (s .out) (s .given) (resolved (bitOf (s .regs .y)))) (s .out));
         regs = cond (eqb n 0) (logicOf (s .regs) f (i .logic)) (cond (eqb n 1) (withM (s .regs) f) (s .regs));
         taken = s .taken + cond (takes i) 1 0;

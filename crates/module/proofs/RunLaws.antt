@@ -14,13 +14,13 @@ use Rattle.registers.specs.declared.Registers.{Registers}
 use Rattle.registers.specs.Rows.{registersOf, bytesOf}
 use Rattle.judge.specs.declared.Instruction.{Instruction}
 use Rattle.judge.specs.declared.Answer.{Answer}
-use Rattle.judge.specs.Judge.{instructionAt, faultOf, takes, gives, judged}
+use Rattle.judge.specs.Judge.{instructionAt, faultOf, takes, gives, runRows, judged}
 use Rattle.judge.specs.Steps.{Accepted}
-use Rattle.judge.proofs.Accepted.{accepted-done}
-use Rattle.judge.proofs.Table.{refusal-counts}
+use Rattle.judge.proofs.Accepted.{run-accepted, run-registers, run-done}
+use Rattle.judge.proofs.Numbers.{refusal-counts}
 use Rattle.module.specs.Act.{State, acted}
 use Rattle.module.specs.Ready.{Ready}
-use Rattle.module.specs.Run.{begun, ranBy, Left, ran}
+use Rattle.module.specs.Run.{Lent, Left, unmoved, runLengths, stepLengths, begun, ranBy, ranAll, ran}
 use Rattle.registers.proofs.RowLaws.{bytes-registers}
 
 -- how many of the first k instructions want one
@@ -49,45 +49,50 @@ module _ (list items : List ℕ) (k : ℕ) (i : Instruction) (decoded : i ≡ in
       ∙ sym (count-more (λ j. gives (instructionAt list j)) k)
 
 -- the judge has seen to what instruction k needs
-pub ready-at : (list mem₀ out₀ items mem out : List ℕ) (k : ℕ) (i : Instruction) (taken given : ℕ)
-    → Accepted (length mem₀) 96 list (length items) (length out₀) → k < length list / 8 → i ≡ instructionAt list k
-    → length mem ≡ length mem₀ → length out ≡ length out₀ → taken ≡ usedBy takes list k → given ≡ usedBy gives list k
-    → Ready mem items out i taken given
-ready-at list mem₀ out₀ items mem out k i taken given fit h e em eo et eg =
+pub ready-at : (l : Lent Registers) (mem out : List ℕ) (k : ℕ) (i : Instruction) (taken given : ℕ)
+    → Accepted (stepLengths l) (l .list) → k < length (l .list) / 8 → i ≡ instructionAt (l .list) k
+    → length mem ≡ length (l .memory) → length out ≡ length (l .out) → taken ≡ usedBy takes (l .list) k → given ≡ usedBy gives (l .list) k
+    → Ready mem (l .items) out i taken given
+ready-at l mem out k i taken given fit h e em eo et eg =
+    let list = l .list in
     let size = fit .size in
     record {
       memory = em ∙ fit .memory;
       formed = ap faultOf e ∙ fit .formed k h;
       supplied = λ t. let r = fit .supplied k h (sym (ap takes e) ∙ t) in omega arith;
       roomy = λ t. let r = fit .roomy k h (sym (ap gives e) ∙ t) in omega arith;
-      few-taken = let l = count-le (λ j. takes (instructionAt list j)) k in omega arith;
-      few-given = let l = count-le (λ j. gives (instructionAt list j)) k in omega arith;
+      few-taken = let n = count-le (λ j. takes (instructionAt list j)) k in omega arith;
+      few-given = let n = count-le (λ j. gives (instructionAt list j)) k in omega arith;
     }
 
 -- ---- a run
 
-module _ (mem regs list items out : List ℕ) (a : Answer) (judge : a ≡ judged (length mem) (length regs) list (length items) (length out)) where
-  pub run-accepted : a .number ≡ 0 → Accepted (length mem) (length regs) list (length items) (length out)
-  run-accepted h = accepted-done (length mem) (length regs) list (length items) (length out) (sym (ap (λ (x : Answer). x .number) judge) ∙ h)
+module _ (l : Lent (List ℕ)) (a : Answer) (judge : a ≡ judged (runLengths l) (l .list)) where
+  number-is : a .number ≡ 0 → judged (runLengths l) (l .list) .number ≡ 0
+  number-is h = sym (ap (λ (x : Answer). x .number) judge) ∙ h
 
-  pub list-accepted : a .number ≡ 0 → Accepted (length mem) 96 list (length items) (length out)
-  list-accepted h = subst (λ (n : ℕ). Accepted (length mem) n list (length items) (length out)) (run-accepted h .registers) (run-accepted h)
+  pub registers-long : a .number ≡ 0 → length (l .registers) ≡ 96
+  registers-long h = run-registers (runLengths l) (l .list) (number-is h)
 
-  pub ran-done : a .number ≡ 0 → (r : Registers) (s : State) (w : List ℕ) → r ≡ registersOf regs
-      → s ≡ ranBy list items (begun mem out r) (length list / 8) → w ≡ bytesOf (s .regs)
-      → _≡_ {A = Left} (record { mem = s .mem; regs = w; out = s .out; answer = a }) (ran mem regs list items out)
+  -- the list is accepted with a record in the place of the bytes
+  pub list-accepted : a .number ≡ 0 → (r : Registers)
+      → Accepted (stepLengths (record { memory = l .memory; registers = r; list = l .list; items = l .items; out = l .out })) (l .list)
+  list-accepted h r =
+      subst (λ (n : ℕ). Accepted (record { memory = length (l .memory); registers = n; items = length (l .items); out = length (l .out) }) (l .list))
+      (registers-long h) (run-accepted (runLengths l) (l .list) (number-is h))
+
+  pub ran-done : a .number ≡ 0 → (r : Registers) (s : State) (w : List ℕ) → r ≡ registersOf (l .registers) → s ≡ ranAll l r → w ≡ bytesOf (s .regs)
+      → _≡_ {A = Left (List ℕ) Answer} (record { memory = s .mem; registers = w; out = s .out; answer = a }) (ran l)
   unfolding ran
   ran-done h r s w er es ew =
-      ap (λ (z : List ℕ). record { mem = s .mem; regs = z; out = s .out; answer = a }) ew
-      ∙ ap₂ (λ (x : State) (b : Answer). record { mem = x .mem; regs = bytesOf (x .regs); out = x .out; answer = b })
-      (es ∙ ap (λ (z : Registers). ranBy list items (begun mem out z) (length list / 8)) er) judge
-      ∙ simp (eq-eqb _ _ (sym (ap (λ (x : Answer). x .number) judge) ∙ h))
+      ap (λ (z : List ℕ). record { memory = s .mem; registers = z; out = s .out; answer = a }) ew
+      ∙ ap₂ (λ (x : State) (b : Answer). record { memory = x .mem; registers = bytesOf (x .regs); out = x .out; answer = b })
+      (es ∙ ap (ranAll l) er) judge
+      ∙ simp (eq-eqb _ _ (number-is h))
 
-  pub ran-refused : (a .number ≡ 0 → ⊥) → _≡_ {A = Left} (record { mem = mem; regs = regs; out = out; answer = a }) (ran mem regs list items out)
+  pub ran-refused : (a .number ≡ 0 → ⊥) → unmoved l a ≡ ran l
   unfolding ran
-  ran-refused h =
-      ap (λ (b : Answer). record { mem = mem; regs = regs; out = out; answer = b }) judge
-      ∙ simp (ne-eqb _ _ (λ q. h (ap (λ (x : Answer). x .number) judge ∙ q)))
+  ran-refused h = ap (unmoved l) judge ∙ simp (ne-eqb _ _ (λ q. h (ap (λ (x : Answer). x .number) judge ∙ q)))
 
   -- a run that has steps is done
   pub steps-done : (a .steps ≡ 0 → ⊥) → a .number ≡ 0
@@ -96,30 +101,33 @@ module _ (mem regs list items out : List ℕ) (a : Answer) (judge : a ≡ judged
       go : Dec (a .number ≡ 0) → a .number ≡ 0
       go (yes z) = z
       go (no v) =
-          absurd (u (ap (λ (x : Answer). x .steps) (judge ∙ refusal-counts (length mem) (length regs) list (length items) (length out) (λ z. v (ap (λ (x : Answer). x .number) judge ∙ z)))))
+          absurd (u (ap (λ (x : Answer). x .steps) (judge
+          ∙ refusal-counts (runRows (runLengths l) (l .list)) (runLengths l) (l .list) refl (λ z. v (ap (λ (x : Answer). x .number) judge ∙ z)))))
 
   -- and one that has none leaves every buffer: it is refused, or its list is empty
-  pub ran-still : a .steps ≡ 0 → _≡_ {A = Left} (record { mem = mem; regs = regs; out = out; answer = a }) (ran mem regs list items out)
+  pub ran-still : a .steps ≡ 0 → unmoved l a ≡ ran l
   unfolding ranBy
   ran-still z = go (ℕ-discrete (a .number) 0)
     where
-      go : Dec (a .number ≡ 0) → _≡_ {A = Left} (record { mem = mem; regs = regs; out = out; answer = a }) (ran mem regs list items out)
+      go : Dec (a .number ≡ 0) → unmoved l a ≡ ran l
       go (no u) = ran-refused u
       go (yes e) =
-          let none : 0 ≡ length list / 8 = sym z ∙ ap (λ (x : Answer). x .steps) (judge ∙ run-accepted e .answer) in
-          let start : State = begun mem out (registersOf regs) in
-          ran-done e (registersOf regs) start regs refl (ap (ranBy list items start) none) (sym (bytes-registers regs (run-accepted e .registers)))
+          let none : 0 ≡ length (l .list) / 8 = sym z ∙ ap (λ (x : Answer). x .steps) (judge ∙ run-done (runLengths l) (l .list) (number-is e)) in
+          let start : State = begun l (registersOf (l .registers)) in
+          ran-done e (registersOf (l .registers)) start (l .registers) refl (ap (ranBy (l .list) (l .items) start) none)
+          (sym (bytes-registers (l .registers) (registers-long e)))
 
 -- the answer is the judge's, of the lengths and the list alone
-pub ran-answer : (mem regs list items out : List ℕ) → ran mem regs list items out .answer ≡ judged (length mem) (length regs) list (length items) (length out)
-ran-answer mem regs list items out = go (ℕ-discrete (a .number) 0)
+pub ran-answer : (l : Lent (List ℕ)) → ran l .answer ≡ judged (runLengths l) (l .list)
+ran-answer l = go (ℕ-discrete (a .number) 0)
   where
     a : Answer
-    a = judged (length mem) (length regs) list (length items) (length out)
+    a = judged (runLengths l) (l .list)
 
     s : State
-    s = ranBy list items (begun mem out (registersOf regs)) (length list / 8)
+    s = ranAll l (registersOf (l .registers))
 
-    go : Dec (a .number ≡ 0) → ran mem regs list items out .answer ≡ a
-    go (yes z) = sym (ap (λ (l : Left). l .answer) (ran-done mem regs list items out a refl z (registersOf regs) s (bytesOf (s .regs)) refl refl refl))
-    go (no u) = sym (ap (λ (l : Left). l .answer) (ran-refused mem regs list items out a refl u))
+    go : Dec (a .number ≡ 0) → ran l .answer ≡ a
+    go (yes z) =
+        sym (ap (λ (x : Left (List ℕ) Answer). x .answer) (ran-done l a refl z (registersOf (l .registers)) s (bytesOf (s .regs)) refl refl refl))
+    go (no u) = sym (ap (λ (x : Left (List ℕ) Answer). x .answer) (ran-refused l a refl u))

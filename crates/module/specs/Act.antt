@@ -25,6 +25,12 @@ partAt l k = take 32 (drop (32 * k) l)
 unfoldable pub putPart : List ℕ → ℕ → List ℕ → List ℕ
 putPart l k x = take (32 * k) l ++ (x ++ drop (32 * k + 32) l)
 
+-- ---- what an instruction accesses
+
+-- The mode under which instruction i accesses memory, in a register set: its byte 3, whatever the registers hold.
+abbrev pub modeOf : Instruction → Registers → ℕ
+modeOf i r = i .mode
+
 -- ---- the source item, and its pass
 
 -- "Source: 0 memory, 1 M, 2 X, 3 Y": what the module itself holds.
@@ -35,7 +41,7 @@ held (suc (suc zero)) mode addr mem r = r .x
 held (suc (suc (suc n))) mode addr mem r = r .y
 
 unfoldable pub heldItem : Instruction → List ℕ → Registers → List ℕ
-heldItem i mem r = held (i .source) (i .mode) (i .addr) mem r
+heldItem i mem r = held (i .source) (modeOf i r) (i .addr) mem r
 
 -- "4 outside: each use takes the next 32 bytes of the lent items", of which some were taken.
 unfoldable pub sourceItem : Instruction → List ℕ → List ℕ → Registers → ℕ → List ℕ
@@ -51,11 +57,11 @@ passedBy i mem items r taken = passedItem (sourceItem i mem items r taken) (i .f
 unfoldable pub regsAfter : Instruction → Registers → List ℕ → Registers
 regsAfter i r f = cond (eqb (i .kind) 0) (logicOf r f (i .logic)) (cond (eqb (i .kind) 1) (withM r f) r)
 
--- The memory: kind 2 stores at all lines, kind 3 at those that the mask rule gives for M and the flip.
-unfoldable pub memAfter : Instruction → List ℕ → List ℕ → List ℕ → List ℕ
-memAfter i mem m f =
-    cond (eqb (i .kind) 2) (stored mem (i .mode) (i .addr) every (bitOf f))
-    (cond (eqb (i .kind) 3) (stored mem (i .mode) (i .addr) (maskOf m (i .flip)) (bitOf f)) mem)
+-- The memory, under a mode: kind 2 stores at all lines, kind 3 at those that the mask rule gives for M and the flip.
+unfoldable pub memAfter : Instruction → ℕ → List ℕ → List ℕ → List ℕ → List ℕ
+memAfter i mode mem m f =
+    cond (eqb (i .kind) 2) (stored mem mode (i .addr) every (bitOf f))
+    (cond (eqb (i .kind) 3) (stored mem mode (i .addr) (maskOf m (i .flip)) (bitOf f)) mem)
 
 -- The out buffer: kind 4 puts the item out, kind 5 what the resolver says of Y.
 unfoldable pub outAfter : Instruction → List ℕ → ℕ → List ℕ → List ℕ → List ℕ
@@ -77,7 +83,7 @@ pub record State : Type 0 where
 abbrev pub after : Instruction → List ℕ → State → State
 after i f s =
     record {
-      mem = memAfter i (s .mem) (s .regs .m) f;
+      mem = memAfter i (modeOf i (s .regs)) (s .mem) (s .regs .m) f;
       out = outAfter i (s .out) (s .given) f (s .regs .y);
       regs = regsAfter i (s .regs) f;
       taken = s .taken + cond (takes i) 1 0;

@@ -12,7 +12,7 @@ ghost use Rattle.bits.specs.Bits.{bitOf};
 ghost use Rattle.network.specs.Shifts.{permitted};
 ghost use Rattle.registers.specs.Resolver.{resolved};
 ghost use Rattle.judge.specs.Judge.{gives, takes};
-ghost use Rattle.module.specs.Act.{heldItem, passedBy, regsAfter, memAfter, outAfter, acted};
+ghost use Rattle.module.specs.Act.{modeOf, heldItem, passedBy, regsAfter, memAfter, outAfter, acted};
 ghost use Rattle.module.specs.Ready.{Ready};
 
 // What an act leaves beside the buffers: the registers, and how many items were taken and given.
@@ -22,13 +22,20 @@ pub struct Acted {
     pub given: usize,
 }
 
+// The mode under which an instruction accesses memory.
+fn mode_of(i: Instruction, r: Registers) -> u8
+    ensures { λ m. ⌜ m ≡ modeOf i r ⌝ }
+{
+    i.mode
+}
+
 // The item that the module itself holds: of memory, M, X or Y.
 fn held_item(mem: &[u8], r: Registers, i: Instruction) -> [u8; 32]
     requires { ⌜ (length (now mem) ≡ 8192) × (i .source < 4) ⌝ }
     ensures { λ f. ⌜ f ≡ heldItem i (now (mem .entry)) r ⌝ }
 {
     if i.source == 0 {
-        return memory::load(mem, i.mode, i.addr);
+        return memory::load(mem, mode_of(i, r), i.addr);
     }
     if i.source == 1 {
         let m = r.m;
@@ -43,7 +50,7 @@ fn held_item(mem: &[u8], r: Registers, i: Instruction) -> [u8; 32]
 }
 
 // The source item, passed. An outside item is handed to the pass as the part of the lent items that it is; a resolve reads no source. Most instructions move no line: a call of the pass would cost them more than the copy.
-fn passed_item(mem: &[u8], items: &[u8], r: Registers, i: Instruction, taken: usize) -> [u8; 32]
+fn passed_item(mem: &[u8], r: Registers, i: Instruction, items: &[u8], taken: usize) -> [u8; 32]
     requires { ⌜ (length (now mem) ≡ 8192) × (i .source ≤ 4) × (permitted (i .code) ≡ true) × (takes i ≡ true → 32 * taken + 32 ≤ length (now items)) ⌝ }
     ensures { λ f. ⌜ ((i .kind ≡ 5 → ⊥) → f ≡ passedBy i (now (mem .entry)) (now (items .entry)) r taken) ⌝ }
 {
@@ -75,17 +82,17 @@ fn turn(i: Instruction, r: Registers, f: &[u8; 32]) -> Registers
 }
 
 // The memory after it: store and masked store change it.
-fn keep<'a>(mem: &mut [u8], i: Instruction, m: &'a [u8; 32], f: &'a [u8; 32])
+fn keep<'a>(mem: &mut [u8], i: Instruction, mode: u8, m: &'a [u8; 32], f: &'a [u8; 32])
     requires { ⌜ length (now mem) ≡ 8192 ⌝ }
-    ensures { λ r. ⌜ now (mem .exit) ≡ memAfter i (now (mem .entry)) (now (m .entry)) (now (f .entry)) ⌝ }
+    ensures { λ r. ⌜ now (mem .exit) ≡ memAfter i mode (now (mem .entry)) (now (m .entry)) (now (f .entry)) ⌝ }
 {
     if i.kind == 2 {
-        memory::store(mem, i.mode, i.addr, f);
+        memory::store(mem, mode, i.addr, f);
         return;
     }
     if i.kind == 3 {
         let mask = memory::line_mask(m, i.flip);
-        memory::store_masked(mem, i.mode, i.addr, f, &mask);
+        memory::store_masked(mem, mode, i.addr, f, &mask);
     }
 }
 
@@ -114,20 +121,25 @@ fn deliver<'a>(out: &mut [u8], i: Instruction, given: usize, f: &'a [u8; 32], y:
 // What an instruction does to a state, and the counts after it.
 pub fn act(
     mem: &mut [u8],
-    out: &mut [u8],
-    items: &[u8],
     r: Registers,
     i: Instruction,
+    items: &[u8],
+    out: &mut [u8],
     taken: usize,
     given: usize,
 ) -> Acted
     requires { ⌜ Ready (now mem) (now items) (now out) i taken given ⌝ }
-    ensures { λ a. ⌜ record { mem = now (mem .exit); out = now (out .exit); regs = a .regs; taken = a .taken; given = a .given } ≡ acted i (now (items .entry)) (record { mem = now (mem .entry); out = now (out .entry); regs = r; taken = taken; given = given }) ⌝ }
+    ensures { λ a. ⌜
+        record { mem = now (mem .exit); out = now (out .exit); regs = a .regs; taken = a .taken; given = a .given }
+        ≡ acted i (now (items .entry))
+        (record { mem = now (mem .entry); out = now (out .entry); regs = r; taken = taken; given = given })
+        ⌝ }
 {
-    let f = passed_item(mem, items, r, i, taken);
+    let f = passed_item(mem, r, i, items, taken);
+    let mode = mode_of(i, r);
     let m = r.m;
     let y = r.y;
-    keep(mem, i, &m, &f);
+    keep(mem, i, mode, &m, &f);
     deliver(out, i, given, &f, &y);
     let t = turn(i, r, &f);
     let takes = judge::rows::takes(i);

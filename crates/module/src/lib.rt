@@ -3,12 +3,11 @@ mod acting;
 
 use acting::Acted;
 use judge::Answer;
+use judge::Lengths;
 use registers::Registers;
 ghost use mathlib.Core.Path.{_≡_};
-ghost use Prim.Native.Nat.{_/_};
-ghost use lib.ListN.{length};
 ghost use Rattle.judge.specs.Steps.{Accepted};
-ghost use Rattle.module.specs.Run.{begun, ranBy, ran, stepped};
+ghost use Rattle.module.specs.Run.{Lent, Left, stepLengths, ranAll, ran, stepped};
 
 // What a step leaves beside the buffers.
 pub struct Stepped {
@@ -17,9 +16,18 @@ pub struct Stepped {
 }
 
 // The instructions of a list that the judge accepts, one after the other.
-fn run_list(mem: &mut [u8], out: &mut [u8], items: &[u8], list: &[u8], r: Registers) -> Acted
-    requires { ⌜ Accepted (length (now mem)) 96 (now list) (length (now items)) (length (now out)) ⌝ }
-    ensures { λ a. ⌜ record { mem = now (mem .exit); out = now (out .exit); regs = a .regs; taken = a .taken; given = a .given } ≡ ranBy (now (list .entry)) (now (items .entry)) (begun (now (mem .entry)) (now (out .entry)) r) (length (now (list .entry)) / 8) ⌝ }
+fn run_list(mem: &mut [u8], r: Registers, list: &[u8], items: &[u8], out: &mut [u8]) -> Acted
+    requires { ⌜
+        Accepted
+        (stepLengths (record { memory = now mem; registers = r; list = now list; items = now items; out = now out }))
+        (now list)
+        ⌝ }
+    ensures { λ a. ⌜
+        record { mem = now (mem .exit); out = now (out .exit); regs = a .regs; taken = a .taken; given = a .given }
+        ≡ ranAll
+        (record { memory = now (mem .entry); registers = r; list = now (list .entry); items = now (items .entry); out = now (out .entry) })
+        r
+        ⌝ }
 {
     let n = list.len() / 8;
     let mut s = r;
@@ -27,7 +35,7 @@ fn run_list(mem: &mut [u8], out: &mut [u8], items: &[u8], list: &[u8], r: Regist
     let mut given: usize = 0;
     let mut k: usize = 0;
     while k < n {
-        let a = acting::act(mem, out, items, s, judge::decode(list, k), taken, given);
+        let a = acting::act(mem, s, judge::decode(list, k), items, out, taken, given);
         s = a.regs;
         taken = a.taken;
         given = a.given;
@@ -42,12 +50,21 @@ fn run_list(mem: &mut [u8], out: &mut [u8], items: &[u8], list: &[u8], r: Regist
 
 // A run: the whole list is judged before its first instruction acts. Where it is refused, or there is no instruction, it has no steps, and nothing is written, not even the same bytes.
 pub fn run(mem: &mut [u8], regs: &mut [u8], list: &[u8], items: &[u8], out: &mut [u8]) -> Answer
-    ensures { λ a. ⌜ record { mem = now (mem .exit); regs = now (regs .exit); out = now (out .exit); answer = a } ≡ ran (now (mem .entry)) (now (regs .entry)) (now (list .entry)) (now (items .entry)) (now (out .entry)) ⌝ }
+    ensures { λ a. ⌜
+        record { memory = now (mem .exit); registers = now (regs .exit); out = now (out .exit); answer = a }
+        ≡ ran (record { memory = now (mem .entry); registers = now (regs .entry); list = now (list .entry); items = now (items .entry); out = now (out .entry) })
+        ⌝ }
 {
-    let verdict = judge::judge(mem.len(), regs.len(), list, items.len(), out.len());
+    let lengths = Lengths {
+        memory: mem.len(),
+        registers: regs.len(),
+        items: items.len(),
+        out: out.len(),
+    };
+    let verdict = judge::judge(lengths, list);
     if verdict.steps != 0 {
         let r = registers::rows::registers_of(regs);
-        let d = run_list(mem, out, items, list, r);
+        let d = run_list(mem, r, list, items, out);
         let t = d.regs;
         registers::rows::write_registers(regs, t);
     }
@@ -57,16 +74,25 @@ pub fn run(mem: &mut [u8], regs: &mut [u8], list: &[u8], items: &[u8], out: &mut
 // A step on a register record by value: what `step` does to the record that it is lent.
 pub fn advance(
     mem: &mut [u8],
-    out: &mut [u8],
-    items: &[u8],
     r: Registers,
     instruction: &[u8],
+    items: &[u8],
+    out: &mut [u8],
 ) -> Stepped
-    ensures { λ a. ⌜ record { mem = now (mem .exit); regs = a .regs; out = now (out .exit); answer = a .answer } ≡ stepped (now (mem .entry)) r (now (instruction .entry)) (now (items .entry)) (now (out .entry)) ⌝ }
+    ensures { λ a. ⌜
+        record { memory = now (mem .exit); registers = a .regs; out = now (out .exit); answer = a .answer }
+        ≡ stepped (record { memory = now (mem .entry); registers = r; list = now (instruction .entry); items = now (items .entry); out = now (out .entry) })
+        ⌝ }
 {
-    let answer = judge::judge_step(mem.len(), instruction, items.len(), out.len());
+    let lengths = Lengths {
+        memory: mem.len(),
+        registers: 96,
+        items: items.len(),
+        out: out.len(),
+    };
+    let answer = judge::judge_step(lengths, instruction);
     if answer.number == 0 {
-        let d = run_list(mem, out, items, instruction, r);
+        let d = run_list(mem, r, instruction, items, out);
         let t = d.regs;
         Stepped {
             regs: t,
@@ -84,14 +110,17 @@ pub fn advance(
 pub fn step(
     mem: &mut [u8],
     r: &mut Registers,
+    instruction: &[u8],
     items: &[u8],
     out: &mut [u8],
-    instruction: &[u8],
 ) -> Answer
-    ensures { λ a. ⌜ record { mem = now (mem .exit); regs = now (r .exit); out = now (out .exit); answer = a } ≡ stepped (now (mem .entry)) (now (r .entry)) (now (instruction .entry)) (now (items .entry)) (now (out .entry)) ⌝ }
+    ensures { λ a. ⌜
+        record { memory = now (mem .exit); registers = now (r .exit); out = now (out .exit); answer = a }
+        ≡ stepped (record { memory = now (mem .entry); registers = now (r .entry); list = now (instruction .entry); items = now (items .entry); out = now (out .entry) })
+        ⌝ }
 {
     let old = *r;
-    let done = advance(mem, out, items, old, instruction);
+    let done = advance(mem, old, instruction, items, out);
     let a = done.answer;
     if a.number == 0 {
         *r = done.regs;

@@ -34,7 +34,7 @@ fn step_on(mem: &mut [u8], regs: &mut [u8], list: &[u8], items: &[u8], out: &mut
     requires { ⌜ length (now regs) ≡ 96 ⌝ }
 {
     let r = registers::rows::registers_of(regs);
-    let s = module::advance(mem, out, items, r, list);
+    let s = module::advance(mem, r, list, items, out);
     let t = s.regs;
     registers::rows::write_registers(regs, t);
     s.answer

@@ -11,7 +11,7 @@ pub fn copied(lines: &[u8; 32]) -> [u8; 32]
     item_of(lines)
 }
 
-// The item flipped, with no work where nothing is.
+// The item flipped; a copy where nothing is.
 pub fn flipped(lines: &[u8; 32], f: u8) -> [u8; 32]
     ensures { λ r. ⌜ r ≡ item (flipped (now (lines .entry)) f) ⌝ }
 {

@@ -17,7 +17,7 @@ pub struct Passed {
     pub item: [u8; 32],
 }
 
-// The item passed, for a caller that has judged `code`. Where nothing is flipped or shifted, no work is done for it.
+// The item passed, for a caller that has judged `code`. Where nothing is flipped or shifted, it is a copy.
 pub fn pass_item(lines: &[u8; 32], flip: u8, code: u8) -> [u8; 32]
     requires { ⌜ permitted code ≡ true ⌝ }
     ensures { λ r. ⌜ r ≡ passedItem (now (lines .entry)) flip code ⌝ }

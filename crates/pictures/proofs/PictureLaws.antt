@@ -12,14 +12,15 @@ use borrow.Author.Tests.{eqb-true}
 use Rattle.bits.specs.Steps.{putAt}
 use Rattle.bits.proofs.Puts.{put-nil, put-put, put-all, length-put, put-bytes}
 use Rattle.blocks.proofs.BlockLaws.{and-left, and-right}
-use Rattle.memory.proofs.PlainLaws.{length-plain, plain-bytes, scrambled-front, plain-scrambled, scrambled-plain}
-use Rattle.contents.specs.declared.Answer.{Answer}
-use Rattle.contents.specs.File.{done, contentOf, sizeFits, judge, blockCount, blocksOf}
-use Rattle.contents.specs.Content.{over}
+use Rattle.words.proofs.PlainLaws.{length-plain, plain-bytes, scrambled-front, plain-scrambled, scrambled-plain}
+use Rattle.contents.specs.declared.Moved.{Moved}
+use Rattle.contents.specs.File.{done, contentOf, sizeFits, fileJudged, blockCount, blocksOf}
+use Rattle.contents.specs.Content.{over, changed}
 use Rattle.contents.specs.Payloads.{payloads, laid}
-use Rattle.contents.proofs.FileLaws.{judge-stands, Stands}
+use Rattle.contents.proofs.FileLaws.{file-stands, Stands}
+use Rattle.contents.proofs.AnswerLaws.{changed-not, changed-done}
 use Rattle.contents.proofs.PayloadLaws.{laid-more, laid-sealed}
-use Rattle.pictures.specs.Picture.{plainWords, pictureOf, scrambled, pictureFits}
+use Rattle.pictures.specs.Picture.{plainWords, pictureOf, scrambled, pictureFits, PictureLeft}
 
 -- ---- what the tests of a picture say
 
@@ -28,20 +29,51 @@ fits-are kind m r e =
     let both = and-left (eqb kind 1 && eqb m 8192) (eqb r 96) e in
     (eqb-true kind 1 (and-left (eqb kind 1) (eqb m 8192) both), eqb-true m 8192 (and-right (eqb kind 1) (eqb m 8192) both), eqb-true r 96 (and-right (eqb kind 1 && eqb m 8192) (eqb r 96) e))
 
-pub picture-judged : (kind : ℕ) (bytes : List ℕ) → kind ≡ 1 → judge kind bytes .number ≡ 0 → judge 1 bytes ≡ done 8288
+pub picture-judged : (kind : ℕ) (bytes : List ℕ) → kind ≡ 1 → fileJudged kind bytes .number ≡ 0 → fileJudged 1 bytes ≡ done 8288
 unfolding sizeFits
 picture-judged kind bytes k z =
-    let s = judge-stands 1 bytes (sym (ap (λ (x : ℕ). judge x bytes .number) k) ∙ z) in
+    let s = file-stands 1 bytes (sym (ap (λ (x : ℕ). fileJudged x bytes .number) k) ∙ z) in
     s .answer ∙ ap done (eqb-true (length (contentOf bytes)) 8288 (s .sizes))
+
+-- ---- what is left, where the answer r is a: on a refusal the buffers as they were, else the new content of both
+
+module _ (r a : Moved) (new old new′ old′ : List ℕ) where
+  abbrev Leaves : List ℕ → List ℕ → Type 0
+  Leaves m g =
+      _≡_ {A = PictureLeft} (record { answer = r; memory = m; registers = g })
+      (record { answer = a; memory = changed a new old; registers = changed a new′ old′ })
+
+  leaving : r ≡ a → (m g : List ℕ) → m ≡ changed r new old → g ≡ changed r new′ old′ → Leaves m g
+  leaving e m g hm hg = λ i.
+      record {
+        answer = e i;
+        memory = (hm ∙ ap (λ (x : Moved). changed x new old) e) i;
+        registers = (hg ∙ ap (λ (x : Moved). changed x new′ old′) e) i;
+      }
+
+  pub both-old : r ≡ a → (r .number ≡ 0 → ⊥) → Leaves old old′
+  both-old e u = leaving e old old′ (changed-not r new old u) (changed-not r new′ old′ u)
+
+  pub both-new : r ≡ a → (m g : List ℕ) → m ≡ new → g ≡ new′ → r .number ≡ 0 → Leaves m g
+  both-new e m g hm hg z = leaving e m g (hm ∙ changed-done r new old z) (hg ∙ changed-done r new′ old′ z)
+
+  -- and what that says of the answer and of the buffers
+  pub both-parts : (m g : List ℕ) → Leaves m g → (r ≡ a) × (m ≡ changed r new old) × (g ≡ changed r new′ old′)
+  both-parts m g h =
+      let e = ap (λ (l : PictureLeft). l .answer) h in (
+        e,
+        ap (λ (l : PictureLeft). l .memory) h ∙ ap (λ (x : Moved). changed x new old) (sym e),
+        ap (λ (l : PictureLeft). l .registers) h ∙ ap (λ (x : Moved). changed x new′ old′) (sym e),
+      )
 
 -- ---- a picture that stands
 
-module _ (bytes : List ℕ) (q : judge 1 bytes ≡ done 8288) where
+module _ (bytes : List ℕ) (q : fileJudged 1 bytes ≡ done 8288) where
   pub picture-stands : Stands 1 bytes
-  picture-stands = judge-stands 1 bytes (ap (λ (x : Answer). x .number) q)
+  picture-stands = file-stands 1 bytes (ap (λ (x : Moved). x .number) q)
 
   pub picture-size : length (contentOf bytes) ≡ 8288
-  picture-size = ap (λ (x : Answer). x .bytes) (sym (picture-stands .answer) ∙ q)
+  picture-size = ap (λ (x : Moved). x .bytes) (sym (picture-stands .answer) ∙ q)
 
 -- its words are its first 8,192 bytes, and its registers the others
 words-front : (content : List ℕ) → 8192 ≤ length content → scrambled (take 8192 content) ≡ scrambled content

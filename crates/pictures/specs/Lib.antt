@@ -1,3 +1,2 @@
 -- Pictures: what the contracts of this crate cite, beside those of contents.
 pub mod Picture
-pub mod Entries

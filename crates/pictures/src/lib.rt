@@ -1,22 +1,34 @@
-// What a user reads and writes on disk: pictures here, lists and items handed on from contents. Document 01, Blocks on disk; docs/FORMAT.md has the layout.
+// Pictures on disk, read and written. Document 01, Blocks on disk; docs/FORMAT.md has the layout.
 //
-// The public entries take any bytes, any lengths and any kind asked: `read_picture`, `write_picture`, `read_content`, `write_content`. Between the blocks and the scrambled memory a picture's words stand on the stack eight at a time, 256 bytes: those that one reading of the chips gives.
-pub use contents::Answer;
-pub use contents::read_content;
-pub use contents::write_content;
+// The public entries take any bytes, any lengths and any kind asked: `read_picture` and `write_picture`; those of lists and
+// items are in contents. Between the blocks and the scrambled memory a picture's words stand on the stack eight at a time,
+// 256 bytes: those that one reading of the chips gives.
+use contents::Moved;
+use contents::PICTURE;
+use contents::PICTURE_BYTES;
 ghost use mathlib.Core.Path.{_≡_};
 ghost use Prim.Native.Nat.{_≤_};
 ghost use lib.ListN.{length, drop};
-ghost use Rattle.contents.specs.File.{done, contentOf, judge, blocksOf};
-ghost use Rattle.contents.specs.Content.{readAnswer, writeAnswer, changed, over};
-ghost use Rattle.pictures.specs.Picture.{pictureOf, scrambled, pictureFits};
+ghost use Rattle.contents.specs.File.{pictureKind, pictureBytes, done, contentOf, fileJudged, blocksOf};
+ghost use Rattle.contents.specs.Content.{over};
+ghost use Rattle.pictures.specs.Picture.{pictureWords, pictureRegisters, pictureOf, scrambled, pictureFits};
+ghost use Rattle.pictures.specs.Picture.{pictureRead, pictureWritten};
+
+// The bytes of the words, which are a memory's, and of the registers behind them; and of the 17 blocks of a picture.
+const WORDS: usize = 8192;
+
+const REGISTERS: usize = 96;
+
+const BLOCKS: usize = 17;
+
+const FILE: usize = 8704;
 
 fn picture_fits(kind: usize, memory: usize, registers: usize) -> bool
     ensures { λ r. ⌜ r ≡ pictureFits kind memory registers ⌝ }
 {
-    if kind == 1 {
-        if memory == 8192 {
-            return registers == 96;
+    if kind == PICTURE {
+        if memory == WORDS {
+            return registers == REGISTERS;
         }
     }
     false
@@ -24,32 +36,33 @@ fn picture_fits(kind: usize, memory: usize, registers: usize) -> bool
 
 // The content of a picture that stands, into the memory and the registers.
 fn unload_picture(bytes: &[u8], memory: &mut [u8], registers: &mut [u8])
-    requires { ⌜ (judge 1 (now bytes) ≡ done 8288) × (length (now memory) ≡ 8192) × (length (now registers) ≡ 96) ⌝ }
-    ensures { λ _. ⌜ (now (memory .exit) ≡ scrambled (contentOf (now (bytes .entry)))) × (now (registers .exit) ≡ drop 8192 (contentOf (now (bytes .entry)))) ⌝ }
+    requires { ⌜ (fileJudged pictureKind (now bytes) ≡ done pictureBytes) × (length (now memory) ≡ pictureWords)
+        × (length (now registers) ≡ pictureRegisters) ⌝ }
+    ensures { λ _. ⌜ (now (memory .exit) ≡ scrambled (contentOf (now (bytes .entry))))
+        × (now (registers .exit) ≡ drop pictureWords (contentOf (now (bytes .entry)))) ⌝ }
 {
     let mut v: usize = 0;
     while v < 32 {
         let mut words = [0u8; 256];
         contents::part_of(bytes, 256 * v, &mut words);
-        memory::words_in(memory, v, &words);
+        words::words_in(memory, v, &words);
         v += 1;
     }
-    contents::part_of(bytes, 8192, registers);
+    contents::part_of(bytes, WORDS, registers);
 }
 
 // Reads a picture. Every block is judged, and both lengths, before a target is touched.
-pub fn read_picture(kind: usize, bytes: &[u8], memory: &mut [u8], registers: &mut [u8]) -> Answer
-    ensures answer { λ r. ⌜ r ≡ readAnswer kind (now (bytes .entry)) (pictureFits kind (length (now (memory .entry))) (length (now (registers .entry)))) ⌝ }
-    ensures memory { λ r. ⌜ now (memory .exit) ≡ changed r (scrambled (contentOf (now (bytes .entry)))) (now (memory .entry)) ⌝ }
-    ensures registers { λ r. ⌜ now (registers .exit) ≡ changed r (drop 8192 (contentOf (now (bytes .entry)))) (now (registers .entry)) ⌝ }
+pub fn read_picture(kind: usize, bytes: &[u8], memory: &mut [u8], registers: &mut [u8]) -> Moved
+    ensures { λ r. ⌜ record { answer = r; memory = now (memory .exit); registers = now (registers .exit) }
+        ≡ pictureRead kind (now (bytes .entry)) (now (memory .entry)) (now (registers .entry)) ⌝ }
 {
-    let found = contents::judge(kind, bytes);
+    let found = contents::judge_file(kind, bytes);
     let number = found.number;
     if number != 0 {
         return found;
     }
     if !picture_fits(kind, memory.len(), registers.len()) {
-        return contents::refuse(26, 0);
+        return contents::refused(26, 0);
     }
     unload_picture(bytes, memory, registers);
     found
@@ -57,33 +70,35 @@ pub fn read_picture(kind: usize, bytes: &[u8], memory: &mut [u8], registers: &mu
 
 // The blocks of a picture, to the start of the output.
 fn put_picture(memory: &[u8], registers: &[u8], out: &mut [u8])
-    requires { ⌜ (length (now memory) ≡ 8192) × (length (now registers) ≡ 96) × (8704 ≤ length (now out)) ⌝ }
-    ensures { λ _. ⌜ now (out .exit) ≡ over (blocksOf 1 (pictureOf (now (memory .entry)) (now (registers .entry)))) (now (out .entry)) ⌝ }
+    requires { ⌜ (length (now memory) ≡ pictureWords) × (length (now registers) ≡ pictureRegisters)
+        × (8704 ≤ length (now out)) ⌝ }
+    ensures { λ _. ⌜ now (out .exit)
+        ≡ over (blocksOf pictureKind (pictureOf (now (memory .entry)) (now (registers .entry)))) (now (out .entry)) ⌝ }
 {
     let mut v: usize = 0;
     while v < 32 {
-        let words = memory::words_out(memory, v);
+        let words = words::words_out(memory, v);
         contents::put_part(&words, 256 * v, out);
         v += 1;
     }
-    contents::put_part(registers, 8192, out);
-    contents::seal_all(1, 8288, 17, out);
+    contents::put_part(registers, WORDS, out);
+    contents::seal_all(PICTURE, PICTURE_BYTES, BLOCKS, out);
 }
 
 // Writes a picture to the start of an output, whose bytes past the blocks stay.
-pub fn write_picture(kind: usize, memory: &[u8], registers: &[u8], out: &mut [u8]) -> Answer
-    ensures answer { λ r. ⌜ r ≡ writeAnswer kind (pictureFits kind (length (now (memory .entry))) (length (now (registers .entry)))) 8288 (length (now (out .entry))) ⌝ }
-    ensures out { λ r. ⌜ now (out .exit) ≡ changed r (over (blocksOf kind (pictureOf (now (memory .entry)) (now (registers .entry)))) (now (out .entry))) (now (out .entry)) ⌝ }
+pub fn write_picture(kind: usize, memory: &[u8], registers: &[u8], out: &mut [u8]) -> Moved
+    ensures { λ r. ⌜ record { answer = r; buffer = now (out .exit) }
+        ≡ pictureWritten kind (now (memory .entry)) (now (registers .entry)) (now (out .entry)) ⌝ }
 {
     if !contents::kind_right(kind) {
-        return contents::refuse(22, 0);
+        return contents::refused(22, 0);
     }
     if !picture_fits(kind, memory.len(), registers.len()) {
-        return contents::refuse(26, 0);
+        return contents::refused(26, 0);
     }
-    if out.len() < 8704 {
-        return contents::refuse(27, 0);
+    if out.len() < FILE {
+        return contents::refused(27, 0);
     }
     put_picture(memory, registers, out);
-    contents::finish(8704)
+    contents::done(FILE)
 }

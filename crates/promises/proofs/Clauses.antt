@@ -34,10 +34,11 @@ use Rattle.library.proofs.staran_read_content as staran_read_content
 use Rattle.library.proofs.staran_write_content as staran_write_content
 use Rattle.library.proofs.staran_read_picture as staran_read_picture
 use Rattle.library.proofs.staran_write_picture as staran_write_picture
-use Rattle.promises.specs.Clauses.{Run, Step, Pass, SumList, DifferenceList, ReadContent-answer, ReadContent-target, WriteContent-answer, WriteContent-out, ReadPicture-answer, ReadPicture-memory, ReadPicture-registers, WritePicture-answer, WritePicture-out, LibraryRun, LibraryStep, LibraryPass, LibraryBuffer, LibraryReadPicture}
+use Rattle.library.proofs.staran_version as staran_version
+use Rattle.promises.specs.Clauses.{Run, Step, Pass, SumList, DifferenceList, ReadContent, WriteContent, ReadPicture, WritePicture, LibraryRun, LibraryStep, LibraryPass, LibraryBuffer, LibraryReadPicture, LibraryVersion}
 
 module _ {M : Type 1} (𝓤 : URA M) (H : Heap 𝓤) (A : Atoms 𝓤) (memory : Memory → SProp 𝓤) (runs : Routine → Fun 𝓤) where
-  open Connectives (connectives 𝓤) using (⌜_⌝, _∗_, ⊤ₛ)
+  open Connectives (connectives 𝓤) using (⌜_⌝, ⊤ₛ)
 
   -- what a contract says: it asks nothing, and ensures p of the arguments a, the result r and the arguments at exit e
   abbrev Says : (T : Ended) → Clauses 𝓤 T → ((κs : Lfts (T .signature .lifetimes)) → Args (T .signature) κs → Res (T .signature) κs → AtExit T κs → SProp 𝓤) → Type 2
@@ -45,15 +46,18 @@ module _ {M : Type 1} (𝓤 : URA M) (H : Heap 𝓤) (A : Atoms 𝓤) (memory : 
       → (c κs a .requires g ≡ ⊤ₛ) × (c κs a .ensures g r e ≡ p κs a r e)
 
   pub run-clauses : Says run.ended (run.clauses 𝓤 H A memory runs) (λ κs a r e.
-      ⌜ Run (now (a .0)) (now (a .1 .0)) (now (a .1 .1 .0)) (now (a .1 .1 .1 .0)) (now (a .1 .1 .1 .1 .0)) (now (e .0)) (now (e .1 .0)) (now (e .1 .1 .1 .1 .0)) r ⌝)
+      ⌜ Run (record { memory = now (a .0); registers = now (a .1 .0); list = now (a .1 .1 .0); items = now (a .1 .1 .1 .0); out = now (a .1 .1 .1 .1 .0) })
+      (record { memory = now (e .0); registers = now (e .1 .0); out = now (e .1 .1 .1 .1 .0); answer = r }) ⌝)
   run-clauses κs a g r e = (refl, refl)
 
   pub step-clauses : Says step.ended (step.clauses 𝓤 H A memory runs) (λ κs a r e.
-      ⌜ Step (now (a .0)) (now (a .1 .0)) (now (a .1 .1 .1 .1 .0)) (now (a .1 .1 .0)) (now (a .1 .1 .1 .0)) (now (e .0)) (now (e .1 .0)) (now (e .1 .1 .1 .0)) r ⌝)
+      ⌜ Step (record { memory = now (a .0); registers = now (a .1 .0); list = now (a .1 .1 .0); items = now (a .1 .1 .1 .0); out = now (a .1 .1 .1 .1 .0) })
+      (record { memory = now (e .0); registers = now (e .1 .0); out = now (e .1 .1 .1 .1 .0); answer = r }) ⌝)
   step-clauses κs a g r e = (refl, refl)
 
   pub advance-clauses : Says advance.ended (advance.clauses 𝓤 H A memory runs) (λ κs a r e.
-      ⌜ Step (now (a .0)) (a .1 .1 .1 .0) (now (a .1 .1 .1 .1 .0)) (now (a .1 .1 .0)) (now (a .1 .0)) (now (e .0)) (r .regs) (now (e .1 .0)) (r .answer) ⌝)
+      ⌜ Step (record { memory = now (a .0); registers = a .1 .0; list = now (a .1 .1 .0); items = now (a .1 .1 .1 .0); out = now (a .1 .1 .1 .1 .0) })
+      (record { memory = now (e .0); registers = r .regs; out = now (e .1 .1 .1 .1 .0); answer = r .answer }) ⌝)
   advance-clauses κs a g r e = (refl, refl)
 
   pub pass-clauses : Says pass.ended (pass.clauses 𝓤 H A memory runs) (λ κs a r e.
@@ -73,34 +77,31 @@ module _ {M : Type 1} (𝓤 : URA M) (H : Heap 𝓤) (A : Atoms 𝓤) (memory : 
   difference-list-clauses κs a g r e = (refl, refl)
 
   pub read-content-clauses : Says read_content.ended (read_content.clauses 𝓤 H A memory runs) (λ κs a r e.
-      ⌜ ReadContent-answer (a .0) (now (a .1 .0)) (now (a .1 .1 .0)) r ⌝
-      ∗ ⌜ ReadContent-target (now (a .1 .0)) (now (a .1 .1 .0)) (now (e .1 .1 .0)) r ⌝)
+      ⌜ ReadContent (a .0) (now (a .1 .0)) (now (a .1 .1 .0)) (now (e .1 .1 .0)) r ⌝)
   read-content-clauses κs a g r e = (refl, refl)
 
   pub write-content-clauses : Says write_content.ended (write_content.clauses 𝓤 H A memory runs) (λ κs a r e.
-      ⌜ WriteContent-answer (a .0) (now (a .1 .0)) (now (a .1 .1 .0)) r ⌝
-      ∗ ⌜ WriteContent-out (a .0) (now (a .1 .0)) (now (a .1 .1 .0)) (now (e .1 .1 .0)) r ⌝)
+      ⌜ WriteContent (a .0) (now (a .1 .0)) (now (a .1 .1 .0)) (now (e .1 .1 .0)) r ⌝)
   write-content-clauses κs a g r e = (refl, refl)
 
   pub read-picture-clauses : Says read_picture.ended (read_picture.clauses 𝓤 H A memory runs) (λ κs a r e.
-      ⌜ ReadPicture-answer (a .0) (now (a .1 .0)) (now (a .1 .1 .0)) (now (a .1 .1 .1 .0)) r ⌝
-      ∗ ⌜ ReadPicture-memory (now (a .1 .0)) (now (a .1 .1 .0)) (now (e .1 .1 .0)) r ⌝
-      ∗ ⌜ ReadPicture-registers (now (a .1 .0)) (now (a .1 .1 .1 .0)) (now (e .1 .1 .1 .0)) r ⌝)
+      ⌜ ReadPicture (a .0) (now (a .1 .0)) (now (a .1 .1 .0)) (now (a .1 .1 .1 .0)) (now (e .1 .1 .0)) (now (e .1 .1 .1 .0)) r ⌝)
   read-picture-clauses κs a g r e = (refl, refl)
 
   pub write-picture-clauses : Says write_picture.ended (write_picture.clauses 𝓤 H A memory runs) (λ κs a r e.
-      ⌜ WritePicture-answer (a .0) (now (a .1 .0)) (now (a .1 .1 .0)) (now (a .1 .1 .1 .0)) r ⌝
-      ∗ ⌜ WritePicture-out (a .0) (now (a .1 .0)) (now (a .1 .1 .0)) (now (a .1 .1 .1 .0)) (now (e .1 .1 .1 .0)) r ⌝)
+      ⌜ WritePicture (a .0) (now (a .1 .0)) (now (a .1 .1 .0)) (now (a .1 .1 .1 .0)) (now (e .1 .1 .1 .0)) r ⌝)
   write-picture-clauses κs a g r e = (refl, refl)
 
   -- ---- the library for C
 
   pub library-run-clauses : Says staran_run.ended (staran_run.clauses 𝓤 H A memory runs) (λ κs a r e.
-      ⌜ LibraryRun (now (a .0)) (now (a .1 .0)) (now (a .1 .1 .0)) (now (a .1 .1 .1 .0)) (now (a .1 .1 .1 .1 .0)) (now (e .0)) (now (e .1 .0)) (now (e .1 .1 .1 .1 .0)) (now (e .1 .1 .1 .1 .1 .0)) ⌝)
+      ⌜ LibraryRun (record { memory = now (a .0); registers = now (a .1 .0); list = now (a .1 .1 .0); items = now (a .1 .1 .1 .0); out = now (a .1 .1 .1 .1 .0) })
+      (record { memory = now (e .0); registers = now (e .1 .0); out = now (e .1 .1 .1 .1 .0); answer = now (e .1 .1 .1 .1 .1 .0) }) ⌝)
   library-run-clauses κs a g r e = (refl, refl)
 
   pub library-step-clauses : Says staran_step.ended (staran_step.clauses 𝓤 H A memory runs) (λ κs a r e.
-      ⌜ LibraryStep (now (a .0)) (now (a .1 .0)) (now (a .1 .1 .0)) (now (a .1 .1 .1 .0)) (now (a .1 .1 .1 .1 .0)) (now (e .0)) (now (e .1 .0)) (now (e .1 .1 .1 .0)) (now (e .1 .1 .1 .1 .1 .0)) ⌝)
+      ⌜ LibraryStep (record { memory = now (a .0); registers = now (a .1 .0); list = now (a .1 .1 .0); items = now (a .1 .1 .1 .0); out = now (a .1 .1 .1 .1 .0) })
+      (record { memory = now (e .0); registers = now (e .1 .0); out = now (e .1 .1 .1 .1 .0); answer = now (e .1 .1 .1 .1 .1 .0) }) ⌝)
   library-step-clauses κs a g r e = (refl, refl)
 
   pub library-pass-clauses : Says staran_pass.ended (staran_pass.clauses 𝓤 H A memory runs) (λ κs a r e.
@@ -134,3 +135,7 @@ module _ {M : Type 1} (𝓤 : URA M) (H : Heap 𝓤) (A : Atoms 𝓤) (memory : 
   pub library-write-picture-clauses : Says staran_write_picture.ended (staran_write_picture.clauses 𝓤 H A memory runs) (λ κs a r e.
       ⌜ LibraryBuffer (writePictureLeft (a .0) (now (a .1 .0)) (now (a .1 .1 .0)) (now (a .1 .1 .1 .0))) (now (e .1 .1 .1 .0)) (now (e .1 .1 .1 .1 .0)) ⌝)
   library-write-picture-clauses κs a g r e = (refl, refl)
+
+  pub library-version-clauses : Says staran_version.ended (staran_version.clauses 𝓤 H A memory runs) (λ κs a r e.
+      ⌜ LibraryVersion r ⌝)
+  library-version-clauses κs a g r e = (refl, refl)

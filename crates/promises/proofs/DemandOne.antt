@@ -1,35 +1,39 @@
 -- Demand 1 of specs/DemandOne.antt: its tables from the crates' laws, and its fields from the promises. Assumes nothing.
 use mathlib.Core.Path.{_≡_, refl, sym, ap, subst, _∙_}
-use mathlib.Core.Bool.{Bool}
+use mathlib.Core.Bool.{Bool, true}
 use mathlib.Core.List.{List, [], _∷_}
 use mathlib.Core.Logic.{_≢_}
 use Prim.Native.Nat.{ℕ}
-use native.Mathlib.Omega.{arith}
 use lib.ListN.{length, drop}
+use Rattle.bits.specs.Rows.{Row}
+use Rattle.bits.proofs.Rows.{numbered}
 use Rattle.network.specs.declared.Passed.{Passed}
 use Rattle.network.specs.Answer.{passedItem, answer}
 use Rattle.network.proofs.AnswerLaws.{pass-10, pass-0, given, refused}
 use Rattle.registers.specs.declared.Registers.{Registers}
+use Rattle.judge.specs.declared.Lengths.{Lengths}
 use Rattle.judge.specs.declared.Answer.{Answer}
-use Rattle.judge.specs.Judge.{refusal, judged, judgedStep}
-use Rattle.judge.proofs.Table as numbers
-use Rattle.module.specs.Run.{Left, ran, Updated, stepped}
+use Rattle.judge.specs.Judge.{runRows, stepRows, judgedBy, judged, judgedStep}
+use Rattle.judge.proofs.Numbers as numbers
+use Rattle.module.specs.Run.{Lent, Left, unmoved, runLengths, stepLengths, ran, stepped, leftBytes}
 use Rattle.module.proofs.RunLaws.{ran-answer, ran-refused}
-use Rattle.module.proofs.StepLaws.{stepped-answer, stepped-refused, asRun, step-is-run, step-not-eight}
+use Rattle.module.proofs.StepLaws.{stepped-answer, stepped-refused, step-is-run, step-not-eight}
 use Rattle.builders.specs.declared.Built.{Built}
 use Rattle.builders.specs.Lists.{encoded}
-use Rattle.builders.specs.Fields.{Left as Buffer, sumList, differenceList, listLength, fieldsFault, builtWith, sumBuilt, differenceBuilt}
+use Rattle.builders.specs.Sums.{sumList, differenceList, listLength, fieldsFault, sumBuilt, differenceBuilt}
+use Rattle.builders.specs.Building.{BuiltLeft as Buffer, builtWith}
 use Rattle.builders.proofs.ListLaws.{sum-length, difference-length}
 use Rattle.builders.proofs.Refusals.{built-row, built-0, built-count, built-unwritten}
-use Rattle.contents.specs.declared.Answer.{Answer as Moved}
+use Rattle.contents.specs.declared.Moved.{Moved}
 use Rattle.contents.specs.File.{contentOf, blocksOf}
-use Rattle.contents.specs.Content.{readAnswer, writeAnswer, changed, over, targetFits, contentFits}
-use Rattle.contents.proofs.AnswerLaws.{changed-not}
-use Rattle.contents.proofs.Table as blocks
-use Rattle.pictures.specs.Picture.{pictureOf, scrambled, pictureFits}
-use Rattle.library.specs.Left.{five, three, RunLeft, runLeft, StepLeft, stepLeft, PassLeft, passLeft, BufferLeft, sumLeft, differenceLeft, readLeft, writeLeft, PictureLeft, readPictureLeft, writePictureLeft}
-use Rattle.promises.specs.Clauses.{Run, Step, SumList, DifferenceList, LibraryRun, LibraryStep, LibraryPass, LibraryBuffer, LibraryReadPicture}
-use Rattle.promises.specs.DemandOne.{RunTable, StepTable, PassTable, ListTable, ReadTable, WriteTable, Kept, DemandOne}
+use Rattle.contents.specs.Content.{readAnswer, writeAnswer, changed, over, targetFits, contentFits, ContentLeft, contentRead, contentWritten}
+use Rattle.contents.proofs.AnswerLaws.{changed-not, left-parts}
+use Rattle.contents.proofs.Numbers as blocks
+use Rattle.pictures.specs.Picture.{pictureOf, scrambled, pictureFits, pictureRead, pictureWritten}
+use Rattle.pictures.proofs.PictureLaws.{both-parts}
+use Rattle.library.specs.Left.{five, three, runLeft, stepLeft, PassLeft, passLeft, BufferLeft, sumLeft, differenceLeft, readLeft, writeLeft, writePictureLeft, TargetsLeft, readPictureLeft}
+use Rattle.promises.specs.Clauses.{Run, Step, SumList, DifferenceList, ReadContent, WriteContent, ReadPicture, WritePicture, LibraryRun, LibraryStep, LibraryPass, LibraryBuffer, LibraryReadPicture}
+use Rattle.promises.specs.DemandOne.{AnswerTable, PassTable, ListTable, ReadTable, WriteTable, Kept, AllKept, DemandOne}
 
 -- ---- the tables, from the laws
 
@@ -42,44 +46,20 @@ pass-table lines flip code =
       passed = λ t. sym (ap (λ (r : Passed). r .item) (given lines flip code (passedItem lines flip code) t refl));
     }
 
-run-table : (mem regs : ℕ) (list : List ℕ) (items out : ℕ) → RunTable mem regs list items out (judged mem regs list items out)
-run-table mem regs list items out =
+answer-table : (rows : List Row) (l : Lengths) (list : List ℕ) → numbered rows ≡ true → AnswerTable rows l list (judgedBy rows l list)
+answer-table rows l list apart =
     record {
-      row-1 = numbers.number-1 mem regs list items out;
-      row-2 = numbers.number-2 mem regs list items out;
-      row-3 = numbers.number-3 mem regs list items out;
-      row-4 = numbers.number-4 mem regs list items out;
-      row-5 = numbers.number-5 mem regs list items out;
-      row-6 = numbers.number-6 mem regs list items out;
-      row-7 = numbers.number-7 mem regs list items out;
-      row-8 = numbers.number-8 mem regs list items out;
-      row-9 = numbers.number-9 mem regs list items out;
-      row-10 = numbers.number-10 mem regs list items out;
-      row-11 = numbers.number-11 mem regs list items out;
-      row-12 = numbers.number-12 mem regs list items out;
-      row-13 = numbers.number-13 mem regs list items out;
-      row-0 = numbers.number-0 mem regs list items out;
-      done-is = λ z. numbers.all-done mem regs list items out (numbers.number-0 mem regs list items out .0 z);
-      refused-is = numbers.refusal-counts mem regs list items out;
-    }
-
-step-table : (mem : ℕ) (instruction : List ℕ) (items out : ℕ) → StepTable mem instruction items out (judgedStep mem instruction items out)
-step-table mem instruction items out =
-    record {
-      row-1 = numbers.step-1 mem instruction items out;
-      row-3 = numbers.step-3 mem instruction items out;
-      as-run = λ h. subst (RunTable mem 96 instruction items out) (sym (numbers.step-eight mem instruction items out h)) (run-table mem 96 instruction items out);
-      refused-is = numbers.step-refusal mem instruction items out;
+      refused = numbers.refusals rows l list apart;
+      unrefused = numbers.unrefused rows l list apart;
+      done-is = λ z. numbers.done-is rows l list (numbers.unrefused rows l list apart .0 z);
+      refused-is = numbers.refusal-counts rows l list apart;
     }
 
 list-table : (lead a b s n : ℕ) (bytes buffer : List ℕ) → length bytes ≡ listLength lead n
     → ListTable lead a b s n (length buffer) (builtWith (fieldsFault lead a b s n (length buffer)) bytes buffer .answer)
 list-table lead a b s n bytes buffer size =
     record {
-      row-30 = built-row lead a b s n bytes buffer 0 (omega arith);
-      row-31 = built-row lead a b s n bytes buffer 1 (omega arith);
-      row-32 = built-row lead a b s n bytes buffer 2 (omega arith);
-      row-33 = built-row lead a b s n bytes buffer 3 (omega arith);
+      refused = built-row lead a b s n bytes buffer;
       row-0 = built-0 lead a b s n bytes buffer;
       done-is = λ z. built-count lead a b s n bytes buffer z ∙ size;
       refused-is = λ u. ap (λ (l : Buffer). l .answer .count) (built-unwritten lead a b s n bytes buffer u);
@@ -113,42 +93,32 @@ write-table kind fits size room =
 
 -- ---- from the promises
 
-run-meets : (mem regs list items out mem′ regs′ out′ : List ℕ) (a : Answer) → Run mem regs list items out mem′ regs′ out′ a
-    → (a ≡ judged (length mem) (length regs) list (length items) (length out))
-    × RunTable (length mem) (length regs) list (length items) (length out) a
-    × Kept (a .number) mem mem′ × Kept (a .number) regs regs′ × Kept (a .number) out out′
-run-meets mem regs list items out mem′ regs′ out′ a h =
-    let e = ap (λ (l : Left). l .answer) h ∙ ran-answer mem regs list items out in
-    let same : Kept {A = Left} (a .number) (record { mem = mem; regs = regs; out = out; answer = a }) (record { mem = mem′; regs = regs′; out = out′; answer = a })
-    = λ u. h ∙ sym (ran-refused mem regs list items out a e u) in (
+-- a refusal that leaves all unmoved keeps all
+all-kept : {R : Type 0} (l : Lent R) (u : Left R Answer) → (u .answer .number ≢ 0 → u ≡ unmoved l (u .answer)) → AllKept (u .answer .number) l u
+all-kept {R} l u h =
+    (λ n. ap (λ (x : Left R Answer). x .memory) (h n), λ n. ap (λ (x : Left R Answer). x .registers) (h n), λ n. ap (λ (x : Left R Answer). x .out) (h n))
+
+run-meets : (l : Lent (List ℕ)) (u : Left (List ℕ) Answer) → Run l u
+    → (u .answer ≡ judged (runLengths l) (l .list)) × AnswerTable (runRows (runLengths l) (l .list)) (runLengths l) (l .list) (u .answer)
+    × AllKept (u .answer .number) l u
+run-meets l u h =
+    let e = ap (λ (x : Left (List ℕ) Answer). x .answer) h ∙ ran-answer l in
+    let rows = runRows (runLengths l) (l .list) in (
       e,
-      subst (RunTable (length mem) (length regs) list (length items) (length out)) (sym e) (run-table (length mem) (length regs) list (length items) (length out)),
-      λ u. ap (λ (l : Left). l .mem) (same u),
-      λ u. ap (λ (l : Left). l .regs) (same u),
-      λ u. ap (λ (l : Left). l .out) (same u),
+      subst (AnswerTable rows (runLengths l) (l .list)) (sym e) (answer-table rows (runLengths l) (l .list) refl),
+      all-kept l u (λ n. h ∙ sym (ran-refused l (u .answer) e n)),
     )
 
-module _ (mem : List ℕ) (r : Registers) (instruction items out mem′ : List ℕ) (r′ : Registers) (out′ : List ℕ) (a : Answer) where
-  step-meets : Step mem r instruction items out mem′ r′ out′ a
-      → (a ≡ judgedStep (length mem) instruction (length items) (length out))
-      × StepTable (length mem) instruction (length items) (length out) a
-      × Kept (a .number) mem mem′ × Kept (a .number) r r′ × Kept (a .number) out out′
-  step-meets h =
-      let e = ap (λ (l : Updated). l .answer) h ∙ stepped-answer mem r instruction items out in
-      let same : Kept {A = Updated} (a .number) (record { mem = mem; regs = r; out = out; answer = a }) (record { mem = mem′; regs = r′; out = out′; answer = a })
-      = λ u. h ∙ sym (stepped-refused mem r instruction items out a e u) in (
-        e,
-        subst (StepTable (length mem) instruction (length items) (length out)) (sym e) (step-table (length mem) instruction (length items) (length out)),
-        λ u. ap (λ (l : Updated). l .mem) (same u),
-        λ u. ap (λ (l : Updated). l .regs) (same u),
-        λ u. ap (λ (l : Updated). l .out) (same u),
-      )
-
-  not-eight : length mem ≡ 8192 → length instruction ≢ 8 → Step mem r instruction items out mem′ r′ out′ a
-      → (a ≡ refusal 3 0) × (mem′ ≡ mem) × (r′ ≡ r) × (out′ ≡ out)
-  not-eight m u h =
-      let e = h ∙ step-not-eight mem r instruction items out m u in
-      (ap (λ (l : Updated). l .answer) e, ap (λ (l : Updated). l .mem) e, ap (λ (l : Updated). l .regs) e, ap (λ (l : Updated). l .out) e)
+step-meets : (l : Lent Registers) (u : Left Registers Answer) → Step l u
+    → (u .answer ≡ judgedStep (stepLengths l) (l .list)) × AnswerTable (stepRows (stepLengths l) (l .list)) (stepLengths l) (l .list) (u .answer)
+    × AllKept (u .answer .number) l u
+step-meets l u h =
+    let e = ap (λ (x : Left Registers Answer). x .answer) h ∙ stepped-answer l in
+    let rows = stepRows (stepLengths l) (l .list) in (
+      e,
+      subst (AnswerTable rows (stepLengths l) (l .list)) (sym e) (answer-table rows (stepLengths l) (l .list) refl),
+      all-kept l u (λ n. h ∙ sym (stepped-refused l (u .answer) e n)),
+    )
 
 built : (lead a b s n : ℕ) (bytes list list′ : List ℕ) (r : Built) → length bytes ≡ listLength lead n
     → _≡_ {A = Buffer} (record { answer = r; list = list′ }) (builtWith (fieldsFault lead a b s n (length list)) bytes list)
@@ -168,14 +138,47 @@ module _ (a b s n : ℕ) (list list′ : List ℕ) (r : Built) where
   unfolding differenceBuilt
   difference-meets h = built 2 a b s n (encoded (differenceList a b s n)) list list′ r (difference-length a b s n) h
 
-kept : (r : Moved) (new old after : List ℕ) → after ≡ changed r new old → Kept (r .number) old after
-kept r new old after h u = h ∙ sym (changed-not r new old u)
+-- what an entry leaves that reads, or writes, where its answer is one of the table
+module _ (r a : Moved) (new old after : List ℕ) where
+  moved : (Table : Moved → Type 0) → Table a → _≡_ {A = ContentLeft} (record { answer = r; buffer = after }) (record { answer = a; buffer = changed a new old })
+      → Table r × Kept (r .number) old after
+  moved Table t h =
+      let p = left-parts r a new old after h in
+      (subst Table (sym (p .0)) t, λ u. p .1 ∙ sym (changed-not r new old u))
 
-read-meets : (kind : ℕ) (bytes : List ℕ) (fits : Bool) (r : Moved) → r ≡ readAnswer kind bytes fits → ReadTable kind bytes fits r
-read-meets kind bytes fits r e = subst (ReadTable kind bytes fits) (sym e) (read-table kind bytes fits)
+read-meets : (kind : ℕ) (bytes target target′ : List ℕ) (r : Moved) → ReadContent kind bytes target target′ r
+    → ReadTable kind bytes (targetFits kind bytes target) r × Kept (r .number) target target′
+unfolding contentRead
+read-meets kind bytes target target′ r h =
+    let fits = targetFits kind bytes target in
+    moved r _ (over (contentOf bytes) target) target target′ (ReadTable kind bytes fits) (read-table kind bytes fits) h
 
-write-meets : (kind : ℕ) (fits : Bool) (size room : ℕ) (r : Moved) → r ≡ writeAnswer kind fits size room → WriteTable kind fits size room r
-write-meets kind fits size room r e = subst (WriteTable kind fits size room) (sym e) (write-table kind fits size room)
+write-meets : (kind : ℕ) (content out out′ : List ℕ) (r : Moved) → WriteContent kind content out out′ r
+    → WriteTable kind (contentFits kind content) (length content) (length out) r × Kept (r .number) out out′
+unfolding contentWritten
+write-meets kind content out out′ r h =
+    let fits = contentFits kind content in
+    moved r _ (over (blocksOf kind content) out) out out′ (WriteTable kind fits (length content) (length out)) (write-table kind fits (length content) (length out)) h
+
+read-picture-meets : (kind : ℕ) (bytes memory registers memory′ registers′ : List ℕ) (r : Moved) → ReadPicture kind bytes memory registers memory′ registers′ r
+    → ReadTable kind bytes (pictureFits kind (length memory) (length registers)) r × Kept (r .number) memory memory′ × Kept (r .number) registers registers′
+unfolding pictureRead
+read-picture-meets kind bytes memory registers memory′ registers′ r h =
+    let fits = pictureFits kind (length memory) (length registers) in
+    let new = scrambled (contentOf bytes) in
+    let new′ = drop 8192 (contentOf bytes) in
+    let p = both-parts r _ new memory new′ registers memory′ registers′ h in (
+      subst (ReadTable kind bytes fits) (sym (p .0)) (read-table kind bytes fits),
+      λ u. p .1 ∙ sym (changed-not r new memory u),
+      λ u. p .2 ∙ sym (changed-not r new′ registers u),
+    )
+
+write-picture-meets : (kind : ℕ) (memory registers out out′ : List ℕ) (r : Moved) → WritePicture kind memory registers out out′ r
+    → WriteTable kind (pictureFits kind (length memory) (length registers)) 8288 (length out) r × Kept (r .number) out out′
+unfolding pictureWritten
+write-picture-meets kind memory registers out out′ r h =
+    let fits = pictureFits kind (length memory) (length registers) in
+    moved r _ (over (blocksOf kind (pictureOf memory registers)) out) out out′ (WriteTable kind fits 8288 (length out)) (write-table kind fits 8288 (length out)) h
 
 -- ---- a function of the library: what it leaves is what the entry leaves, and the numbers of the entry's answer
 
@@ -185,24 +188,23 @@ unfolding passLeft
 library-pass item flip code passed′ answer′ h =
     (answer item flip code, ap (λ (l : PassLeft). l .answer) h, ap (λ (l : PassLeft). l .passed) h, pass-table item flip code)
 
-library-run : (memory registers list items out memory′ registers′ out′ answer′ : List ℕ) → LibraryRun memory registers list items out memory′ registers′ out′ answer′
-    → (a : Answer) × (answer′ ≡ five a) × RunTable (length memory) (length registers) list (length items) (length out) a
-    × Kept (a .number) memory memory′ × Kept (a .number) registers registers′ × Kept (a .number) out out′
+library-run : (l : Lent (List ℕ)) (u : Left (List ℕ) (List ℕ)) → LibraryRun l u
+    → (a : Answer) × (u .answer ≡ five a) × AnswerTable (runRows (runLengths l) (l .list)) (runLengths l) (l .list) a × AllKept (a .number) l u
 unfolding runLeft
-library-run memory registers list items out memory′ registers′ out′ answer′ h =
-    let a = ran memory registers list items out .answer in
-    let m = run-meets memory registers list items out memory′ registers′ out′ a (λ t. record { mem = h t .memory; regs = h t .registers; out = h t .out; answer = a }) in
-    (a, ap (λ (l : RunLeft). l .answer) h, m .1, m .2, m .3, m .4)
+library-run l u h =
+    let a = ran l .answer in
+    let m = run-meets l (record { memory = u .memory; registers = u .registers; out = u .out; answer = a })
+    (λ t. record { memory = h t .memory; registers = h t .registers; out = h t .out; answer = a }) in
+    (a, ap (λ (x : Left (List ℕ) (List ℕ)). x .answer) h, m .1, m .2)
 
-library-step : (memory : List ℕ) (r : Registers) (items out instruction memory′ : List ℕ) (r′ : Registers) (out′ answer′ : List ℕ)
-    → LibraryStep memory r items out instruction memory′ r′ out′ answer′
-    → (a : Answer) × (answer′ ≡ five a) × StepTable (length memory) instruction (length items) (length out) a
-    × Kept (a .number) memory memory′ × Kept (a .number) r r′ × Kept (a .number) out out′
+library-step : (l : Lent Registers) (u : Left Registers (List ℕ)) → LibraryStep l u
+    → (a : Answer) × (u .answer ≡ five a) × AnswerTable (stepRows (stepLengths l) (l .list)) (stepLengths l) (l .list) a × AllKept (a .number) l u
 unfolding stepLeft
-library-step memory r items out instruction memory′ r′ out′ answer′ h =
-    let a = stepped memory r instruction items out .answer in
-    let m = step-meets memory r instruction items out memory′ r′ out′ a (λ t. record { mem = h t .memory; regs = h t .registers; out = h t .out; answer = a }) in
-    (a, ap (λ (l : StepLeft). l .answer) h, m .1, m .2, m .3, m .4)
+library-step l u h =
+    let a = stepped l .answer in
+    let m = step-meets l (record { memory = u .memory; registers = u .registers; out = u .out; answer = a })
+    (λ t. record { memory = h t .memory; registers = h t .registers; out = h t .out; answer = a }) in
+    (a, ap (λ (x : Left Registers (List ℕ)). x .answer) h, m .1, m .2)
 
 module _ (a b s n : ℕ) (list list′ answer′ : List ℕ) where
   library-sum : LibraryBuffer (sumLeft a b s n list) list′ answer′
@@ -225,40 +227,36 @@ library-read : (kind : ℕ) (bytes target target′ answer′ : List ℕ) → Li
     → (r : Moved) × (answer′ ≡ three r) × ReadTable kind bytes (targetFits kind bytes target) r × Kept (r .number) target target′
 unfolding readLeft
 library-read kind bytes target target′ answer′ h =
-    let fits = targetFits kind bytes target in
-    let r = readAnswer kind bytes fits in
-    (r, ap (λ (l : BufferLeft). l .answer) h, read-table kind bytes fits, kept r (over (contentOf bytes) target) target target′ (ap (λ (l : BufferLeft). l .buffer) h))
+    let r = contentRead kind bytes target .answer in
+    let m = read-meets kind bytes target target′ r (λ t. record { answer = r; buffer = h t .buffer }) in
+    (r, ap (λ (l : BufferLeft). l .answer) h, m .0, m .1)
 
 library-write : (kind : ℕ) (content out out′ answer′ : List ℕ) → LibraryBuffer (writeLeft kind content out) out′ answer′
     → (r : Moved) × (answer′ ≡ three r) × WriteTable kind (contentFits kind content) (length content) (length out) r × Kept (r .number) out out′
 unfolding writeLeft
 library-write kind content out out′ answer′ h =
-    let fits = contentFits kind content in
-    let r = writeAnswer kind fits (length content) (length out) in
-    (r, ap (λ (l : BufferLeft). l .answer) h, write-table kind fits (length content) (length out), kept r (over (blocksOf kind content) out) out out′ (ap (λ (l : BufferLeft). l .buffer) h))
+    let r = contentWritten kind content out .answer in
+    let m = write-meets kind content out out′ r (λ t. record { answer = r; buffer = h t .buffer }) in
+    (r, ap (λ (l : BufferLeft). l .answer) h, m .0, m .1)
 
-library-read-picture : (kind : ℕ) (bytes memory registers memory′ registers′ answer′ : List ℕ) → LibraryReadPicture kind bytes memory registers memory′ registers′ answer′
+library-read-picture : (kind : ℕ) (bytes memory registers memory′ registers′ answer′ : List ℕ)
+    → LibraryReadPicture kind bytes memory registers memory′ registers′ answer′
     → (r : Moved) × (answer′ ≡ three r) × ReadTable kind bytes (pictureFits kind (length memory) (length registers)) r
     × Kept (r .number) memory memory′ × Kept (r .number) registers registers′
 unfolding readPictureLeft
 library-read-picture kind bytes memory registers memory′ registers′ answer′ h =
-    let fits = pictureFits kind (length memory) (length registers) in
-    let r = readAnswer kind bytes fits in (
-      r,
-      ap (λ (l : PictureLeft). l .answer) h,
-      read-table kind bytes fits,
-      kept r (scrambled (contentOf bytes)) memory memory′ (ap (λ (l : PictureLeft). l .memory) h),
-      kept r (drop 8192 (contentOf bytes)) registers registers′ (ap (λ (l : PictureLeft). l .registers) h),
-    )
+    let r = pictureRead kind bytes memory registers .answer in
+    let m = read-picture-meets kind bytes memory registers memory′ registers′ r (λ t. record { answer = r; memory = h t .memory; registers = h t .registers }) in
+    (r, ap (λ (l : TargetsLeft). l .answer) h, m .0, m .1, m .2)
 
 library-write-picture : (kind : ℕ) (memory registers out out′ answer′ : List ℕ) → LibraryBuffer (writePictureLeft kind memory registers out) out′ answer′
     → (r : Moved) × (answer′ ≡ three r) × WriteTable kind (pictureFits kind (length memory) (length registers)) 8288 (length out) r
     × Kept (r .number) out out′
 unfolding writePictureLeft
 library-write-picture kind memory registers out out′ answer′ h =
-    let fits = pictureFits kind (length memory) (length registers) in
-    let r = writeAnswer kind fits 8288 (length out) in
-    (r, ap (λ (l : BufferLeft). l .answer) h, write-table kind fits 8288 (length out), kept r (over (blocksOf kind (pictureOf memory registers)) out) out out′ (ap (λ (l : BufferLeft). l .buffer) h))
+    let r = pictureWritten kind memory registers out .answer in
+    let m = write-picture-meets kind memory registers out out′ r (λ t. record { answer = r; buffer = h t .buffer }) in
+    (r, ap (λ (l : BufferLeft). l .answer) h, m .0, m .1)
 
 pub demand-one : DemandOne
 demand-one =
@@ -266,21 +264,14 @@ demand-one =
       pass = λ lines flip code r e. subst (PassTable lines flip code) (sym e) (pass-table lines flip code);
       run = run-meets;
       step = step-meets;
-      stepIsRun = λ mem r instruction items out mem′ r′ out′ a hm hx hy h s. ap asRun s ∙ sym (step-is-run mem r instruction items out hm hx hy h);
-      stepNotEight = not-eight;
+      stepIsRun = λ l u hm hx hy h s. ap leftBytes s ∙ sym (step-is-run l hm hx hy h);
+      stepNotEight = λ l u m n s. s ∙ step-not-eight l m n;
       sumList = sum-meets;
       differenceList = difference-meets;
-      readContent = λ kind bytes target target′ r e h.
-          (read-meets kind bytes (targetFits kind bytes target) r e, kept r (over (contentOf bytes) target) target target′ h);
-      writeContent = λ kind content out out′ r e h.
-          (write-meets kind (contentFits kind content) (length content) (length out) r e, kept r (over (blocksOf kind content) out) out out′ h);
-      readPicture = λ kind bytes memory registers memory′ registers′ r e h g. (
-        read-meets kind bytes (pictureFits kind (length memory) (length registers)) r e,
-        kept r (scrambled (contentOf bytes)) memory memory′ h,
-        kept r (drop 8192 (contentOf bytes)) registers registers′ g,
-      );
-      writePicture = λ kind memory registers out out′ r e h.
-          (write-meets kind (pictureFits kind (length memory) (length registers)) 8288 (length out) r e, kept r (over (blocksOf kind (pictureOf memory registers)) out) out out′ h);
+      readContent = read-meets;
+      writeContent = write-meets;
+      readPicture = read-picture-meets;
+      writePicture = write-picture-meets;
       libraryPass = library-pass;
       libraryRun = library-run;
       libraryStep = library-step;
@@ -290,4 +281,5 @@ demand-one =
       libraryWriteContent = library-write;
       libraryReadPicture = library-read-picture;
       libraryWritePicture = library-write-picture;
+      libraryVersion = λ r h. h;
     }

@@ -20,9 +20,10 @@ use Rattle.registers.proofs.LogicLaws.{logic-X, logic-Y, choice-X, choice-Y}
 use Rattle.registers.proofs.ResolverLaws.{resolved-first, resolved-none}
 use Rattle.judge.specs.declared.Answer.{Answer}
 use Rattle.judge.specs.Judge.{judged}
-use Rattle.module.specs.Run.{begun, ranBy}
+use Rattle.judge.proofs.Accepted.{run-done}
+use Rattle.module.specs.Run.{Lent, runLengths, ranBy, ranAll}
 use Rattle.module.proofs.ActLaws.{passed-source, acted-kind}
-use Rattle.module.proofs.RunLaws.{run-accepted, ran-done, ran-refused}
+use Rattle.module.proofs.RunLaws.{ran-done, ran-refused}
 use Rattle.pictures.proofs.RoundTripDemand.{content-back, content-again, picture-back, picture-again}
 use Rattle.promises.specs.DemandTwo.{Choices, Runs, DemandTwo}
 
@@ -40,15 +41,15 @@ keeps-M : (r : Registers) (l : List ℕ) (t : ℕ) → logicOf r l t .m ≡ r .m
 unfolding logicOf
 keeps-M r l t = refl
 
-a-run : (mem regs list items out : List ℕ) → Runs mem regs list items out
+a-run : (l : Lent (List ℕ)) → Runs l
 unfolding ranBy
-a-run mem regs list items out =
-    let a = judged (length mem) (length regs) list (length items) (length out) in
-    let s = ranBy list items (begun mem out (registersOf regs)) (length list / 8) in
+a-run l =
+    let a = judged (runLengths l) (l .list) in
+    let s = ranAll l (registersOf (l .registers)) in
     record {
-      refused = λ u. sym (ran-refused mem regs list items out a refl u);
-      accepted = λ e. sym (ran-done mem regs list items out a refl e (registersOf regs) s (bytesOf (s .regs)) refl refl refl)
-          ∙ ap (λ (b : Answer). record { mem = s .mem; regs = bytesOf (s .regs); out = s .out; answer = b }) (run-accepted mem regs list items out a refl e .answer);
+      refused = λ u. sym (ran-refused l a refl u);
+      accepted = λ e. sym (ran-done l a refl e (registersOf (l .registers)) s (bytesOf (s .regs)) refl refl refl)
+          ∙ ap (λ (b : Answer). record { memory = s .mem; registers = bytesOf (s .regs); out = s .out; answer = b }) (run-done (runLengths l) (l .list) e);
       before = λ s. refl;
       oneMore = λ s n. refl;
     }

@@ -22,11 +22,11 @@ starred =
       twoPasses = back-31;
       halfIsFlip = half-is-flip;
       noShift = λ l f. (refused-136 l f, refused-1 l f);
-      adds = λ a b s buffer buffer′ mem regs items out lent w word ea eb.
-          let d = demand-three a b s 8 buffer buffer′ mem regs items out lent .sum in
+      adds = λ a b s buffer buffer′ lent given w word ea eb.
+          let d = demand-three a b s 8 buffer buffer′ lent given .sum in
           (d .field w word ∙ ap₂ (λ (x y : ℕ). (x + y) % 256) ea eb, d .carry w word ∙ ap₂ (λ (x y : ℕ). (x + y) / 256) ea eb);
-      subtracts = λ a b s buffer buffer′ mem regs items out lent w word ea eb.
-          let d = demand-three a b s 8 buffer buffer′ mem regs items out lent .difference in
+      subtracts = λ a b s buffer buffer′ lent given w word ea eb.
+          let d = demand-three a b s 8 buffer buffer′ lent given .difference in
           (d .field w word ∙ ap₂ (λ (x y : ℕ). (x + (256 - y)) % 256) ea eb, d .carry w word ∙ ap₂ (λ (x y : ℕ). (x + (256 - y)) / 256) ea eb);
       sixInstructions = sum-built 0 1 2 1 one-bit;
       theFourth = λ buffer room. ap (λ (l : List ℕ). take 8 (drop (8 * 3) l)) (sum-listed 0 1 2 1 one-bit buffer room) ∙ the-fourth;

@@ -14,14 +14,12 @@ use denote.Ref.{now}
 use denote.Triple.Entry.{Args, Res}
 use denote.Triple.Clauses.{Ended, Clauses, AtExit}
 use lib.ListN.{length, drop}
-use Rattle.contents.specs.File.{contentOf, blocksOf}
-use Rattle.contents.specs.Content.{changed, over}
-use Rattle.pictures.specs.Picture.{pictureOf, scrambled}
+use Rattle.contents.specs.Content.{over}
 use Rattle.report.specs.Report.{printed}
 use Rattle.session.specs.declared.Counts.{Counts}
 use Rattle.session.specs.Session.{Outcome}
 use Rattle.session.specs.Shown.{Shown}
-use Rattle.promises.specs.Uniqueness.{Sight, OneOutcome, Same, Entries, Library, Program, OfBits, OfMemory, OfNetwork, OfRegisters, OfJudge, OfBlocks, OfContents, Uniqueness}
+use Rattle.promises.specs.Uniqueness.{Sight, OneOutcome, Same, Entries, Library, Program, OfBits, OfMemory, OfWords, OfNetwork, OfRegisters, OfJudge, OfBlocks, OfContents, Uniqueness}
 
 -- ---- the laws
 
@@ -63,10 +61,6 @@ module _ {M : Type 1} (𝓤 : URA M) where
 followed : {A B : Type 0} (f : A → B) {x r : A} {t : B} → r ≡ x → t ≡ f r → _≡_ {A = A × B} (r, t) (x, f x)
 followed f e h = λ i. (e i, (h ∙ ap f e) i)
 
--- and so are two things
-both-followed : {A B C : Type 0} (f : A → B) (g : A → C) {x r : A} {t : B} {u : C} → r ≡ x → t ≡ f r → u ≡ g r → _≡_ {A = A × B × C} (r, t, u) (x, f x, g x)
-both-followed f g e h k = λ i. (e i, (h ∙ ap f e) i, (k ∙ ap g e) i)
-
 -- what the program shows, and the picture that it writes
 shown-told : {o : Outcome} {r : Counts} {old text after : List ℕ} (before : List ℕ) → Shown o r old text → after ≡ over (o .after) before
     → _≡_ {A = Counts × List ℕ × List ℕ} (r, after, text) (record { text = length (o .text); after = length (o .after) }, over (o .after) before, o .text ++ drop (length (o .text)) old)
@@ -84,10 +78,10 @@ module _ {M : Type 1} (𝓤 : URA M) (H : Heap 𝓤) (A : Atoms 𝓤) (memory : 
         advance = equation 𝓤 _ (λ κs a g r e. refl);
         sumList = equation 𝓤 _ (λ κs a g r e. refl);
         differenceList = equation 𝓤 _ (λ κs a g r e. refl);
-        readContent = record { told = _; tells = λ κs a g r e. two 𝓤 _ _ _ (followed (λ x. changed x (over (contentOf (now (a .1 .0))) (now (a .1 .1 .0))) (now (a .1 .1 .0)))) };
-        writeContent = record { told = _; tells = λ κs a g r e. two 𝓤 _ _ _ (followed (λ x. changed x (over (blocksOf (a .0) (now (a .1 .0))) (now (a .1 .1 .0))) (now (a .1 .1 .0)))) };
-        readPicture = record { told = _; tells = λ κs a g r e. three 𝓤 _ _ _ _ (both-followed (λ x. changed x (scrambled (contentOf (now (a .1 .0)))) (now (a .1 .1 .0))) (λ x. changed x (drop 8192 (contentOf (now (a .1 .0)))) (now (a .1 .1 .1 .0)))) };
-        writePicture = record { told = _; tells = λ κs a g r e. two 𝓤 _ _ _ (followed (λ x. changed x (over (blocksOf (a .0) (pictureOf (now (a .1 .0)) (now (a .1 .1 .0)))) (now (a .1 .1 .1 .0))) (now (a .1 .1 .1 .0)))) };
+        readContent = equation 𝓤 _ (λ κs a g r e. refl);
+        writeContent = equation 𝓤 _ (λ κs a g r e. refl);
+        readPicture = equation 𝓤 _ (λ κs a g r e. refl);
+        writePicture = equation 𝓤 _ (λ κs a g r e. refl);
       }
 
   library : Library 𝓤 H A memory runs
@@ -103,6 +97,7 @@ module _ {M : Type 1} (𝓤 : URA M) (H : Heap 𝓤) (A : Atoms 𝓤) (memory : 
         writeContent = equation 𝓤 _ (λ κs a g r e. refl);
         readPicture = equation 𝓤 _ (λ κs a g r e. refl);
         writePicture = equation 𝓤 _ (λ κs a g r e. refl);
+        version = equation 𝓤 _ (λ κs a g r e. refl);
       }
 
   program : Program 𝓤 H A memory runs
@@ -133,6 +128,13 @@ module _ {M : Type 1} (𝓤 : URA M) (H : Heap 𝓤) (A : Atoms 𝓤) (memory : 
         store = equation 𝓤 _ (λ κs a g r e. refl);
         storeMasked = equation 𝓤 _ (λ κs a g r e. refl);
         lineMask = equation 𝓤 _ (λ κs a g r e. refl);
+        partner = equation-and 𝓤 _ _ (λ κs a g r e. refl);
+        readAll = equation 𝓤 _ (λ κs a g r e. refl);
+      }
+
+  of-words : OfWords 𝓤 H A memory runs
+  of-words =
+      record {
         wordsOut = equation 𝓤 _ (λ κs a g r e. refl);
         wordsIn = equation 𝓤 _ (λ κs a g r e. refl);
       }
@@ -182,10 +184,10 @@ module _ {M : Type 1} (𝓤 : URA M) (H : Heap 𝓤) (A : Atoms 𝓤) (memory : 
   of-contents : OfContents 𝓤 H A memory runs
   of-contents =
       record {
-        refuse = equation 𝓤 _ (λ κs a g r e. refl);
-        finish = equation 𝓤 _ (λ κs a g r e. refl);
+        refused = equation 𝓤 _ (λ κs a g r e. refl);
+        done = equation 𝓤 _ (λ κs a g r e. refl);
         kindRight = equation 𝓤 _ (λ κs a g r e. refl);
-        judge = equation 𝓤 _ (λ κs a g r e. refl);
+        judgeFile = equation 𝓤 _ (λ κs a g r e. refl);
         partOf = equation 𝓤 _ (λ κs a g r e. refl);
         putPart = equation 𝓤 _ (λ κs a g r e. refl);
         sealAll = equation 𝓤 _ (λ κs a g r e. refl);
@@ -200,6 +202,7 @@ module _ {M : Type 1} (𝓤 : URA M) (H : Heap 𝓤) (A : Atoms 𝓤) (memory : 
         program = program;
         ofBits = of-bits;
         ofMemory = of-memory;
+        ofWords = of-words;
         ofNetwork = of-network;
         ofRegisters = of-registers;
         ofJudge = of-judge;

@@ -2,29 +2,28 @@
 use mathlib.Core.Path.{_≡_}
 use mathlib.Core.List.{List}
 use Prim.Native.Nat.{ℕ}
-use lib.ListN.{length, drop}
 use Rattle.network.specs.declared.Passed.{Passed}
 use Rattle.network.specs.Answer.{answer}
 use Rattle.registers.specs.declared.Registers.{Registers}
 use Rattle.judge.specs.declared.Answer.{Answer}
-use Rattle.module.specs.Run.{Left, ran, Updated, stepped}
+use Rattle.module.specs.Run.{Lent, Left, ran, stepped}
 use Rattle.builders.specs.declared.Built.{Built}
-use Rattle.builders.specs.Fields.{sumBuilt, differenceBuilt, Left as Buffer}
-use Rattle.contents.specs.declared.Answer.{Answer as Moved}
-use Rattle.contents.specs.File.{contentOf, blocksOf}
-use Rattle.contents.specs.Content.{readAnswer, writeAnswer, changed, over, targetFits, contentFits}
-use Rattle.pictures.specs.Picture.{pictureOf, scrambled, pictureFits}
-use Rattle.library.specs.Left.{RunLeft, runLeft, StepLeft, stepLeft, PassLeft, passLeft, BufferLeft, PictureLeft, readPictureLeft}
+use Rattle.builders.specs.Sums.{sumBuilt, differenceBuilt}
+use Rattle.builders.specs.Building.{BuiltLeft as Buffer}
+use Rattle.contents.specs.declared.Moved.{Moved}
+use Rattle.contents.specs.Content.{ContentLeft, contentRead, contentWritten}
+use Rattle.pictures.specs.Picture.{PictureLeft, pictureRead, pictureWritten}
+use Rattle.library.specs.Left.{runLeft, stepLeft, PassLeft, passLeft, BufferLeft, TargetsLeft, readPictureLeft, version}
 
 -- ---- the array
 
--- `module::run`
-abbrev pub Run : (mem regs list items out mem′ regs′ out′ : List ℕ) → Answer → Type 0
-Run mem regs list items out mem′ regs′ out′ a = _≡_ {A = Left} (record { mem = mem′; regs = regs′; out = out′; answer = a }) (ran mem regs list items out)
+-- `module::run`: what is lent, and what is left of it
+abbrev pub Run : Lent (List ℕ) → Left (List ℕ) Answer → Type 0
+Run l u = u ≡ ran l
 
 -- `module::step` on the record that it is lent, and `module::advance` on one by value
-abbrev pub Step : (mem : List ℕ) → Registers → (instruction items out mem′ : List ℕ) → Registers → (out′ : List ℕ) → Answer → Type 0
-Step mem r instruction items out mem′ r′ out′ a = _≡_ {A = Updated} (record { mem = mem′; regs = r′; out = out′; answer = a }) (stepped mem r instruction items out)
+abbrev pub Step : Lent Registers → Left Registers Answer → Type 0
+Step l u = u ≡ stepped l
 
 -- ---- the network
 
@@ -42,50 +41,35 @@ SumList a b s n list list′ r = _≡_ {A = Buffer} (record { answer = r; list =
 abbrev pub DifferenceList : (a b s n : ℕ) (list list′ : List ℕ) → Built → Type 0
 DifferenceList a b s n list list′ r = _≡_ {A = Buffer} (record { answer = r; list = list′ }) (differenceBuilt a b s n list)
 
--- ---- the disk: the answer's clause, and one for each target
+-- ---- the disk
 
--- `pictures::read_content`
-abbrev pub ReadContent-answer : (kind : ℕ) (bytes target : List ℕ) → Moved → Type 0
-ReadContent-answer kind bytes target r = r ≡ readAnswer kind bytes (targetFits kind bytes target)
+-- `contents::read_content`
+abbrev pub ReadContent : (kind : ℕ) (bytes target target′ : List ℕ) → Moved → Type 0
+ReadContent kind bytes target target′ r = _≡_ {A = ContentLeft} (record { answer = r; buffer = target′ }) (contentRead kind bytes target)
 
-abbrev pub ReadContent-target : (bytes target target′ : List ℕ) → Moved → Type 0
-ReadContent-target bytes target target′ r = target′ ≡ changed r (over (contentOf bytes) target) target
-
--- `pictures::write_content`
-abbrev pub WriteContent-answer : (kind : ℕ) (content out : List ℕ) → Moved → Type 0
-WriteContent-answer kind content out r = r ≡ writeAnswer kind (contentFits kind content) (length content) (length out)
-
-abbrev pub WriteContent-out : (kind : ℕ) (content out out′ : List ℕ) → Moved → Type 0
-WriteContent-out kind content out out′ r = out′ ≡ changed r (over (blocksOf kind content) out) out
+-- `contents::write_content`
+abbrev pub WriteContent : (kind : ℕ) (content out out′ : List ℕ) → Moved → Type 0
+WriteContent kind content out out′ r = _≡_ {A = ContentLeft} (record { answer = r; buffer = out′ }) (contentWritten kind content out)
 
 -- `pictures::read_picture`
-abbrev pub ReadPicture-answer : (kind : ℕ) (bytes memory registers : List ℕ) → Moved → Type 0
-ReadPicture-answer kind bytes memory registers r = r ≡ readAnswer kind bytes (pictureFits kind (length memory) (length registers))
-
-abbrev pub ReadPicture-memory : (bytes memory memory′ : List ℕ) → Moved → Type 0
-ReadPicture-memory bytes memory memory′ r = memory′ ≡ changed r (scrambled (contentOf bytes)) memory
-
-abbrev pub ReadPicture-registers : (bytes registers registers′ : List ℕ) → Moved → Type 0
-ReadPicture-registers bytes registers registers′ r = registers′ ≡ changed r (drop 8192 (contentOf bytes)) registers
+abbrev pub ReadPicture : (kind : ℕ) (bytes memory registers memory′ registers′ : List ℕ) → Moved → Type 0
+ReadPicture kind bytes memory registers memory′ registers′ r =
+    _≡_ {A = PictureLeft} (record { answer = r; memory = memory′; registers = registers′ }) (pictureRead kind bytes memory registers)
 
 -- `pictures::write_picture`
-abbrev pub WritePicture-answer : (kind : ℕ) (memory registers out : List ℕ) → Moved → Type 0
-WritePicture-answer kind memory registers out r = r ≡ writeAnswer kind (pictureFits kind (length memory) (length registers)) 8288 (length out)
-
-abbrev pub WritePicture-out : (kind : ℕ) (memory registers out out′ : List ℕ) → Moved → Type 0
-WritePicture-out kind memory registers out out′ r = out′ ≡ changed r (over (blocksOf kind (pictureOf memory registers)) out) out
+abbrev pub WritePicture : (kind : ℕ) (memory registers out out′ : List ℕ) → Moved → Type 0
+WritePicture kind memory registers out out′ r =
+    _≡_ {A = ContentLeft} (record { answer = r; buffer = out′ }) (pictureWritten kind memory registers out)
 
 -- ---- the library for C: each contract is one equation of all that a function leaves, its answer's numbers included
 
 -- `staran_run`
-abbrev pub LibraryRun : (memory registers list items out memory′ registers′ out′ answer′ : List ℕ) → Type 0
-LibraryRun memory registers list items out memory′ registers′ out′ answer′ =
-    _≡_ {A = RunLeft} (record { memory = memory′; registers = registers′; out = out′; answer = answer′ }) (runLeft memory registers list items out)
+abbrev pub LibraryRun : Lent (List ℕ) → Left (List ℕ) (List ℕ) → Type 0
+LibraryRun l u = u ≡ runLeft l
 
 -- `staran_step`
-abbrev pub LibraryStep : (memory : List ℕ) → Registers → (items out instruction memory′ : List ℕ) → Registers → (out′ answer′ : List ℕ) → Type 0
-LibraryStep memory r items out instruction memory′ r′ out′ answer′ =
-    _≡_ {A = StepLeft} (record { memory = memory′; registers = r′; out = out′; answer = answer′ }) (stepLeft memory r items out instruction)
+abbrev pub LibraryStep : Lent Registers → Left Registers (List ℕ) → Type 0
+LibraryStep l u = u ≡ stepLeft l
 
 -- `staran_pass` and `staran_wired_pass`
 abbrev pub LibraryPass : (item : List ℕ) (flip code : ℕ) (passed′ answer′ : List ℕ) → Type 0
@@ -98,4 +82,8 @@ LibraryBuffer l buffer′ answer′ = _≡_ {A = BufferLeft} (record { buffer = 
 -- `staran_read_picture`
 abbrev pub LibraryReadPicture : (kind : ℕ) (bytes memory registers memory′ registers′ answer′ : List ℕ) → Type 0
 LibraryReadPicture kind bytes memory registers memory′ registers′ answer′ =
-    _≡_ {A = PictureLeft} (record { memory = memory′; registers = registers′; answer = answer′ }) (readPictureLeft kind bytes memory registers)
+    _≡_ {A = TargetsLeft} (record { memory = memory′; registers = registers′; answer = answer′ }) (readPictureLeft kind bytes memory registers)
+
+-- `staran_version`: 1.0
+abbrev pub LibraryVersion : ℕ → Type 0
+LibraryVersion r = r ≡ version 1 0

@@ -1,31 +1,32 @@
 -- Demand 1, on a page: "Every public entry takes arbitrary bytes and lengths, and ends. A list is judged whole before its first instruction acts. A refusal gives the number and place that document 01 fixes, exactly when it says, and no lent byte has changed."
--- A record states each table of document 01, row by row in its order; `DemandOne`, below them, has a field for each public entry and for each function of the library. `After earlier row` says that none of the earlier rows holds and this one does. The names are those of specs/. It is proved in proofs/DemandOne.antt, and assumes nothing.
+-- A record states each table of document 01; `DemandOne`, below them, has a field for each public entry and for each function of the library. A table is a list of rows with their numbers, in the order in which they are judged; `FirstRow rows n` says that row n is the first that holds. The names are those of specs/. It is proved in proofs/DemandOne.antt, and assumes nothing.
 -- What is lent is any list of bytes, and a kind, a start or a width any number: no contract of an entry has a `requires`, so no field has a condition on them. That an entry ends is part of every check. A name with ′ is what a buffer lent for writing holds afterwards; one lent for reading cannot change. What stands before a field's last arrow is the entry's promise, its contract's clauses as specs/Clauses.antt has them.
 use mathlib.Core.Path.{_≡_}
-use mathlib.Core.Bool.{Bool, true, false, _||_}
+use mathlib.Core.Bool.{Bool, true, false}
 use mathlib.Core.List.{List, [], _∷_}
 use mathlib.Core.Logic.{_↔_, _⊎_, _≢_}
 use Prim.Native.Nat.{ℕ, _*_, _/_, _<_, _≤_}
-use lib.Dec.{ltb}
 use lib.ListN.{length, replicate}
+use Rattle.bits.specs.Rows.{Row, FirstRow}
 use Rattle.network.specs.declared.Passed.{Passed}
 use Rattle.network.specs.Shifts.{permitted}
 use Rattle.network.specs.Answer.{passedItem}
 use Rattle.registers.specs.declared.Registers.{Registers}
-use Rattle.registers.specs.Rows.{bytesOf}
+use Rattle.judge.specs.declared.Lengths.{Lengths}
 use Rattle.judge.specs.declared.Answer.{Answer}
-use Rattle.judge.specs.Judge.{takes, gives, wrongMemory, wrongRegisters, unfit, wrongKind, wrongSource, lacksTag, wrongTag, idleAccess, wrongPass, wrongLogic, refusal, done, judged, judgedStep}
-use Rattle.judge.specs.Table.{Gives, After, Sized, Formed, Met, Served, Lacks}
+use Rattle.judge.specs.Judge.{runRows, stepRows, refusal, done, judged, judgedStep}
+use Rattle.judge.specs.Numbers.{Gives, Refused, Unrefused}
+use Rattle.module.specs.Run.{Lent, Left, unmoved, runLengths, stepLengths, lentBytes, leftBytes}
 use Rattle.builders.specs.declared.Built.{Built}
-use Rattle.builders.specs.Fields.{wrongWidth, beyond, crosses, Fields, listLength}
-use Rattle.blocks.specs.Block.{sumsDiffer, otherKind, misplaced, misfilled}
-use Rattle.contents.specs.declared.Answer.{Answer as Moved}
-use Rattle.contents.specs.File.{contentOf, kindRight, lengthRight, sizeFits, blockCount}
+use Rattle.builders.specs.Sums.{Fields, listLength, fieldRows}
+use Rattle.blocks.specs.Block.{blockBytes, sumsDiffer, otherKind, misplaced, misfilled}
+use Rattle.contents.specs.declared.Moved.{Moved}
+use Rattle.contents.specs.File.{pictureBytes, contentOf, kindRight, lengthRight, sizeFits, blockCount}
 use Rattle.contents.specs.Content.{targetFits, contentFits}
-use Rattle.contents.specs.Table.{Gives as MovedGives, Met as MetBlock, Sound}
+use Rattle.contents.specs.Numbers.{Answers, MetBlock, Sound}
 use Rattle.pictures.specs.Picture.{pictureFits}
 use Rattle.library.specs.Left.{five, three, sumLeft, differenceLeft, readLeft, writeLeft, writePictureLeft}
-use Rattle.promises.specs.Clauses.{Run, Step, Pass, SumList, DifferenceList, ReadContent-answer, ReadContent-target, WriteContent-answer, WriteContent-out, ReadPicture-answer, ReadPicture-memory, ReadPicture-registers, WritePicture-answer, WritePicture-out, LibraryRun, LibraryStep, LibraryPass, LibraryBuffer, LibraryReadPicture}
+use Rattle.promises.specs.Clauses.{Run, Step, Pass, SumList, DifferenceList, ReadContent, WriteContent, ReadPicture, WritePicture, LibraryRun, LibraryStep, LibraryPass, LibraryBuffer, LibraryReadPicture, LibraryVersion}
 
 -- ---- Network: "it gives 10 and a zero item where byte 6 is none of the 37, and otherwise 0 and the passed item"
 pub record PassTable (lines : List ℕ) (flip code : ℕ) (r : Passed) : Type 0 where
@@ -34,83 +35,50 @@ pub record PassTable (lines : List ℕ) (flip code : ℕ) (r : Passed) : Type 0 
   pub zero-item : permitted code ≡ false → r .item ≡ replicate 32 0
   pub passed : permitted code ≡ true → r .item ≡ passedItem lines flip code
 
--- ---- Numbers given back: what a run of a list answers, from the lengths of the memory and the registers, the list, and the lengths of items and out buffer
+-- ---- Numbers given back: what a run or a step answers, from the lengths of what is lent and the list
 
--- "Order: 1 to 4 (place 0); then each instruction in turn, 5 to 11; then 12; then 13. Place is the instruction's number; for 12 and 13 the first that lacks its item or room."
-pub record RunTable (mem regs : ℕ) (list : List ℕ) (items out : ℕ) (a : Answer) : Type 0 where
-  -- "1 / 2: memory is not 8,192 bytes / registers not 96"
-  pub row-1 : (k : ℕ) → Gives a 1 k ↔ (k ≡ 0) × After [] (wrongMemory mem)
-  pub row-2 : (k : ℕ) → Gives a 2 k ↔ (k ≡ 0) × After (wrongMemory mem ∷ []) (wrongRegisters regs)
-  -- "3: list not a multiple of 8, or over 32,768 bytes"
-  pub row-3 : (k : ℕ) → Gives a 3 k ↔ (k ≡ 0) × After (wrongMemory mem ∷ wrongRegisters regs ∷ []) (unfit 8 (length list))
-  -- "4: items not a multiple of 32, or over 32,768 bytes"
-  pub row-4 : (k : ℕ) → Gives a 4 k ↔ (k ≡ 0) × After (wrongMemory mem ∷ wrongRegisters regs ∷ unfit 8 (length list) ∷ []) (unfit 32 items)
-  -- "5: kind over 5"
-  pub row-5 : (k : ℕ) → Gives a 5 k ↔ Met mem regs list items k (λ i. After [] (wrongKind i))
-  -- "6: source over 4; 0 for kinds 2, 3; not 0 for kind 5"
-  pub row-6 : (k : ℕ) → Gives a 6 k ↔ Met mem regs list items k (λ i. After (wrongKind i ∷ []) (wrongSource i))
-  -- "7 / 8: memory touched and tag 0 / memory touched and tag over 1"
-  pub row-7 : (k : ℕ) → Gives a 7 k ↔ Met mem regs list items k (λ i. After (wrongKind i ∷ wrongSource i ∷ []) (lacksTag i))
-  pub row-8 : (k : ℕ) → Gives a 8 k ↔ Met mem regs list items k (λ i. After (wrongKind i ∷ wrongSource i ∷ lacksTag i ∷ []) (wrongTag i))
-  -- "9: memory not touched and byte 2, 3 or 4 not 0"
-  pub row-9 : (k : ℕ) → Gives a 9 k ↔ Met mem regs list items k (λ i. After (wrongKind i ∷ wrongSource i ∷ lacksTag i ∷ wrongTag i ∷ []) (idleAccess i))
-  -- "10: byte 6 is none of the 37; not 0 for kinds 2, 3; byte 5 or 6 not 0 for kind 5"
-  pub row-10 : (k : ℕ) → Gives a 10 k ↔ Met mem regs list items k (λ i. After (wrongKind i ∷ wrongSource i ∷ lacksTag i ∷ wrongTag i ∷ idleAccess i ∷ []) (wrongPass i))
-  -- "11: kind 0: choice over 4; other kinds: byte 7 not 0"
-  pub row-11 : (k : ℕ) → Gives a 11 k ↔ Met mem regs list items k (λ i. After (wrongKind i ∷ wrongSource i ∷ lacksTag i ∷ wrongTag i ∷ idleAccess i ∷ wrongPass i ∷ []) (wrongLogic i))
-  -- "12 / 13: items too few / out buffer too short"
-  pub row-12 : (k : ℕ) → Gives a 12 k
-      ↔ Sized mem regs list items × Formed list (length list / 8) × (k < length list / 8) × Served takes list items k × Lacks takes list items k
-  pub row-13 : (k : ℕ) → Gives a 13 k
-      ↔ Sized mem regs list items × Formed list (length list / 8) × Served takes list items (length list / 8)
-      × (k < length list / 8) × Served gives list out k × Lacks gives list out k
+-- `rows` are those of what is lent, 1 to 4: `runRows` or `stepRows`. Those of an instruction, 5 to 11, are `instructionRows`; `Refused` has the order of all: "1 to 4 (place 0); then each instruction in turn, 5 to 11; then 12; then 13. Place is the instruction's number; for 12 and 13 the first that lacks its item or room."
+pub record AnswerTable (rows : List Row) (l : Lengths) (list : List ℕ) (a : Answer) : Type 0 where
+  -- number n is given at place k exactly where the tables say so
+  pub refused : (n k : ℕ) → n ≢ 0 → Gives a n k ↔ Refused rows l list n k
   -- no row holds anywhere: "Done is 0, place 0; steps is the count of instructions, taken of source 4, given of kinds 4 and 5"
-  pub row-0 : (a .number ≡ 0)
-      ↔ Sized mem regs list items × Formed list (length list / 8) × Served takes list items (length list / 8) × Served gives list out (length list / 8)
+  pub unrefused : (a .number ≡ 0) ↔ Unrefused rows l list
   pub done-is : a .number ≡ 0 → a ≡ done list
   -- "A refusal has the last three 0"
   pub refused-is : a .number ≢ 0 → a ≡ refusal (a .number) (a .place)
 
--- "A step answers, refuses and leaves its buffers as a run of a list of that one instruction does. Its instruction is exactly 8 bytes, else 3."
-pub record StepTable (mem : ℕ) (instruction : List ℕ) (items out : ℕ) (a : Answer) : Type 0 where
-  pub row-1 : (k : ℕ) → Gives a 1 k ↔ (k ≡ 0) × (wrongMemory mem ≡ true)
-  pub row-3 : (k : ℕ) → Gives a 3 k ↔ (k ≡ 0) × ((wrongMemory mem ≡ false) × (length instruction ≢ 8))
-  pub as-run : length instruction ≡ 8 → RunTable mem 96 instruction items out a
-  pub refused-is : a .number ≢ 0 → a ≡ refusal (a .number) (a .place)
-
 -- ---- Sum and difference lists: `lead` is 1 or 2, `have` the length of the list buffer. "In that order; nothing is written and the count is 0. Else .. their count is given"
 pub record ListTable (lead a b s n have : ℕ) (r : Built) : Type 0 where
-  -- "30 width not 1..64"
-  pub row-30 : (r .number ≡ 30) ↔ After [] (wrongWidth n)
-  -- "31 a start plus n over 256"
-  pub row-31 : (r .number ≡ 31) ↔ After (wrongWidth n ∷ []) (beyond a n || beyond b n || beyond s n)
-  -- "32 S overlaps A or B without having its start"
-  pub row-32 : (r .number ≡ 32) ↔ After (wrongWidth n ∷ (beyond a n || beyond b n || beyond s n) ∷ []) (crosses s a n || crosses s b n)
-  -- "33 list buffer under 8(1+5n) or, for a difference, 8(2+5n) bytes"
-  pub row-33 : (r .number ≡ 33) ↔ After (wrongWidth n ∷ (beyond a n || beyond b n || beyond s n) ∷ (crosses s a n || crosses s b n) ∷ []) (ltb have (listLength lead n))
+  -- "30 width not 1..64; 31 a start plus n over 256; 32 S overlaps A or B without having its start; 33 list buffer under 8(1+5n) or, for a difference, 8(2+5n) bytes"
+  pub refused : (m : ℕ) → m ≢ 0 → (r .number ≡ m) ↔ FirstRow (fieldRows lead a b s n have) m
   pub row-0 : (r .number ≡ 0) ↔ Fields a b s n × (listLength lead n ≤ have)
   pub done-is : r .number ≡ 0 → r .count ≡ listLength lead n
   pub refused-is : r .number ≢ 0 → r .count ≡ 0
 
 -- ---- Blocks on disk: "Place is the block for 21 to 24, else 0"
 
+-- None of the earlier rows holds, and this one does.
+abbrev pub After : List Bool → Bool → Type 0
+After [] row = row ≡ true
+After (first ∷ earlier) row = (first ≡ false) × After earlier row
+
 -- Reading; `fits` says whether the targets have the room, or for a picture the lengths, that 26 asks for.
 pub record ReadTable (kind : ℕ) (bytes : List ℕ) (fits : Bool) (r : Moved) : Type 0 where
   -- "20 length 0, not a multiple of 512, or over 34,304"
-  pub row-20 : (k : ℕ) → MovedGives r 20 k ↔ (k ≡ 0) × (kindRight kind ≡ true) × (lengthRight (length bytes) ≡ false)
+  pub row-20 : (k : ℕ) → Answers r 20 k ↔ (k ≡ 0) × (kindRight kind ≡ true) × (lengthRight (length bytes) ≡ false)
   -- "then per block 21 sums differ"
-  pub row-21 : (k : ℕ) → MovedGives r 21 k ↔ MetBlock kind bytes k (λ b. After [] (sumsDiffer b))
+  pub row-21 : (k : ℕ) → Answers r 21 k ↔ MetBlock kind bytes k (λ b. After [] (sumsDiffer b))
   -- "22 kind not the one asked"; and "a kind asked for that is not 1 to 3 is 22, place 0, before all else"
-  pub row-22 : (k : ℕ) → MovedGives r 22 k ↔ ((k ≡ 0) × (kindRight kind ≡ false)) ⊎ MetBlock kind bytes k (λ b. After (sumsDiffer b ∷ []) (otherKind b kind))
+  pub row-22 : (k : ℕ) → Answers r 22 k ↔ ((k ≡ 0) × (kindRight kind ≡ false)) ⊎ MetBlock kind bytes k (λ b. After (sumsDiffer b ∷ []) (otherKind b kind))
   -- "23 number not its place or count not that of the blocks there"
-  pub row-23 : (k : ℕ) → MovedGives r 23 k ↔ MetBlock kind bytes k (λ b. After (sumsDiffer b ∷ otherKind b kind ∷ []) (misplaced b k (length bytes / 512)))
+  pub row-23 : (k : ℕ) → Answers r 23 k ↔ MetBlock kind bytes k (λ b. After (sumsDiffer b ∷ otherKind b kind ∷ []) (misplaced b k (length bytes / blockBytes)))
   -- "24 used wrong or a byte not 0 that must be"
-  pub row-24 : (k : ℕ) → MovedGives r 24 k
-      ↔ MetBlock kind bytes k (λ b. After (sumsDiffer b ∷ otherKind b kind ∷ misplaced b k (length bytes / 512) ∷ []) (misfilled b k (length bytes / 512)))
+  pub row-24 : (k : ℕ) → Answers r 24 k
+      ↔ MetBlock kind bytes k (λ b. After (sumsDiffer b ∷ otherKind b kind ∷ misplaced b k (length bytes / blockBytes) ∷ []) (misfilled b k (length bytes / blockBytes)))
   -- "then 25 size unfit for the kind (8,288; a list or items as in 3 and 4)"
-  pub row-25 : (k : ℕ) → MovedGives r 25 k ↔ (k ≡ 0) × Sound kind bytes × (sizeFits kind (length (contentOf bytes)) ≡ false)
+  pub row-25 : (k : ℕ) → Answers r 25 k ↔ (k ≡ 0) × Sound kind bytes × (sizeFits kind (length (contentOf bytes)) ≡ false)
   -- "26 target too short, or for a picture not exactly 8,192 and 96"
-  pub row-26 : (k : ℕ) → MovedGives r 26 k ↔ (k ≡ 0) × Sound kind bytes × (sizeFits kind (length (contentOf bytes)) ≡ true) × (fits ≡ false)
+  pub row-26 : (k : ℕ) → Answers r 26 k ↔ (k ≡ 0) × Sound kind bytes × (sizeFits kind (length (contentOf bytes)) ≡ true) × (fits ≡ false)
   -- "Success gives 0, place 0 and the number of bytes put out; a refusal gives 0 bytes"
   pub row-0 : (r .number ≡ 0) ↔ Sound kind bytes × (sizeFits kind (length (contentOf bytes)) ≡ true) × (fits ≡ true)
   pub done-is : r .number ≡ 0 → r ≡ record { number = 0; place = 0; bytes = length (contentOf bytes) }
@@ -119,13 +87,13 @@ pub record ReadTable (kind : ℕ) (bytes : List ℕ) (fits : Bool) (r : Moved) :
 -- Writing a content of `size` bytes to an output of `room`; `fits` says whether the content has the right size.
 pub record WriteTable (kind : ℕ) (fits : Bool) (size room : ℕ) (r : Moved) : Type 0 where
   -- 22 of the kind asked, "before all else, in reading and writing"
-  pub row-22 : (k : ℕ) → MovedGives r 22 k ↔ (k ≡ 0) × (kindRight kind ≡ false)
+  pub row-22 : (k : ℕ) → Answers r 22 k ↔ (k ≡ 0) × (kindRight kind ≡ false)
   -- "26 content of wrong size"
-  pub row-26 : (k : ℕ) → MovedGives r 26 k ↔ (k ≡ 0) × (kindRight kind ≡ true) × (fits ≡ false)
+  pub row-26 : (k : ℕ) → Answers r 26 k ↔ (k ≡ 0) × (kindRight kind ≡ true) × (fits ≡ false)
   -- "27 output too short"
-  pub row-27 : (k : ℕ) → MovedGives r 27 k ↔ (k ≡ 0) × (kindRight kind ≡ true) × (fits ≡ true) × (room < 512 * blockCount size)
-  pub row-0 : (r .number ≡ 0) ↔ (kindRight kind ≡ true) × (fits ≡ true) × (512 * blockCount size ≤ room)
-  pub done-is : r .number ≡ 0 → r ≡ record { number = 0; place = 0; bytes = 512 * blockCount size }
+  pub row-27 : (k : ℕ) → Answers r 27 k ↔ (k ≡ 0) × (kindRight kind ≡ true) × (fits ≡ true) × (room < blockBytes * blockCount size)
+  pub row-0 : (r .number ≡ 0) ↔ (kindRight kind ≡ true) × (fits ≡ true) × (blockBytes * blockCount size ≤ room)
+  pub done-is : r .number ≡ 0 → r ≡ record { number = 0; place = 0; bytes = blockBytes * blockCount size }
   pub refused-is : r .number ≢ 0 → r .bytes ≡ 0
 
 -- ---- the entries
@@ -134,28 +102,28 @@ pub record WriteTable (kind : ℕ) (fits : Bool) (size room : ℕ) (r : Moved) :
 abbrev pub Kept : {A : Type 0} → ℕ → A → A → Type 0
 Kept number before after = number ≢ 0 → after ≡ before
 
+-- So with all that a run or a step is lent for writing.
+abbrev pub AllKept : {R A : Type 0} → ℕ → Lent R → Left R A → Type 0
+AllKept number l u = Kept number (l .memory) (u .memory) × Kept number (l .registers) (u .registers) × Kept number (l .out) (u .out)
+
 pub record DemandOne : Type 0 where
   -- `pass` and `wired_pass`, whose contracts are the same; nothing is lent for writing
   pub pass : (lines : List ℕ) (flip code : ℕ) (r : Passed) → Pass lines flip code r → PassTable lines flip code r
   -- `run`: judged whole before its first instruction acts, since the answer is the judge's, of the lengths and the list alone, whatever the other bytes are
-  pub run : (mem regs list items out mem′ regs′ out′ : List ℕ) (a : Answer) → Run mem regs list items out mem′ regs′ out′ a
-      → (a ≡ judged (length mem) (length regs) list (length items) (length out))
-      × RunTable (length mem) (length regs) list (length items) (length out) a
-      × Kept (a .number) mem mem′ × Kept (a .number) regs regs′ × Kept (a .number) out out′
+  pub run : (l : Lent (List ℕ)) (u : Left (List ℕ) Answer) → Run l u
+      → (u .answer ≡ judged (runLengths l) (l .list)) × AnswerTable (runRows (runLengths l) (l .list)) (runLengths l) (l .list) (u .answer)
+      × AllKept (u .answer .number) l u
   -- `step`, on the lent register record, and `advance`, on one by value
-  pub step : (mem : List ℕ) (r : Registers) (instruction items out mem′ : List ℕ) (r′ : Registers) (out′ : List ℕ) (a : Answer)
-      → Step mem r instruction items out mem′ r′ out′ a
-      → (a ≡ judgedStep (length mem) instruction (length items) (length out))
-      × StepTable (length mem) instruction (length items) (length out) a
-      × Kept (a .number) mem mem′ × Kept (a .number) r r′ × Kept (a .number) out out′
+  pub step : (l : Lent Registers) (u : Left Registers Answer) → Step l u
+      → (u .answer ≡ judgedStep (stepLengths l) (l .list)) × AnswerTable (stepRows (stepLengths l) (l .list)) (stepLengths l) (l .list) (u .answer)
+      × AllKept (u .answer .number) l u
   -- "A step answers, refuses and leaves its buffers as a run of a list of that one instruction does": a run on the 96 bytes of the record
-  pub stepIsRun : (mem : List ℕ) (r : Registers) (instruction items out mem′ : List ℕ) (r′ : Registers) (out′ : List ℕ) (a : Answer)
-      → length (r .m) ≡ 32 → length (r .x) ≡ 32 → length (r .y) ≡ 32 → length instruction ≡ 8
-      → Step mem r instruction items out mem′ r′ out′ a → Run mem (bytesOf r) instruction items out mem′ (bytesOf r′) out′ a
+  pub stepIsRun : (l : Lent Registers) (u : Left Registers Answer)
+      → length (l .registers .m) ≡ 32 → length (l .registers .x) ≡ 32 → length (l .registers .y) ≡ 32 → length (l .list) ≡ 8
+      → Step l u → Run (lentBytes l) (leftBytes u)
   -- "Its instruction is exactly 8 bytes, else 3"
-  pub stepNotEight : (mem : List ℕ) (r : Registers) (instruction items out mem′ : List ℕ) (r′ : Registers) (out′ : List ℕ) (a : Answer)
-      → length mem ≡ 8192 → length instruction ≢ 8
-      → Step mem r instruction items out mem′ r′ out′ a → (a ≡ refusal 3 0) × (mem′ ≡ mem) × (r′ ≡ r) × (out′ ≡ out)
+  pub stepNotEight : (l : Lent Registers) (u : Left Registers Answer) → length (l .memory) ≡ 8192 → length (l .list) ≢ 8
+      → Step l u → u ≡ unmoved l (refusal 3 0)
   -- `sum_list` and `difference_list`
   pub sumList : (a b s n : ℕ) (list list′ : List ℕ) (r : Built) → SumList a b s n list list′ r
       → ListTable 1 a b s n (length list) r × Kept (r .number) list list′
@@ -163,36 +131,32 @@ pub record DemandOne : Type 0 where
       → ListTable 2 a b s n (length list) r × Kept (r .number) list list′
   -- `read_content`, of a list or items
   pub readContent : (kind : ℕ) (bytes target target′ : List ℕ) (r : Moved)
-      → ReadContent-answer kind bytes target r → ReadContent-target bytes target target′ r
+      → ReadContent kind bytes target target′ r
       → ReadTable kind bytes (targetFits kind bytes target) r × Kept (r .number) target target′
   -- `write_content`
   pub writeContent : (kind : ℕ) (content out out′ : List ℕ) (r : Moved)
-      → WriteContent-answer kind content out r → WriteContent-out kind content out out′ r
+      → WriteContent kind content out out′ r
       → WriteTable kind (contentFits kind content) (length content) (length out) r × Kept (r .number) out out′
   -- `read_picture`
   pub readPicture : (kind : ℕ) (bytes memory registers memory′ registers′ : List ℕ) (r : Moved)
-      → ReadPicture-answer kind bytes memory registers r → ReadPicture-memory bytes memory memory′ r → ReadPicture-registers bytes registers registers′ r
+      → ReadPicture kind bytes memory registers memory′ registers′ r
       → ReadTable kind bytes (pictureFits kind (length memory) (length registers)) r
       × Kept (r .number) memory memory′ × Kept (r .number) registers registers′
   -- `write_picture`
   pub writePicture : (kind : ℕ) (memory registers out out′ : List ℕ) (r : Moved)
-      → WritePicture-answer kind memory registers out r → WritePicture-out kind memory registers out out′ r
-      → WriteTable kind (pictureFits kind (length memory) (length registers)) 8288 (length out) r × Kept (r .number) out out′
+      → WritePicture kind memory registers out out′ r
+      → WriteTable kind (pictureFits kind (length memory) (length registers)) pictureBytes (length out) r × Kept (r .number) out out′
   -- ---- the library for C: the numbers in its answer array are those of the same tables, and a refusal leaves every other lent byte as it was
 
   -- `staran_pass` and `staran_wired_pass`: "it gives 10 and a zero item", so the item is always written
   pub libraryPass : (item : List ℕ) (flip code : ℕ) (passed′ answer′ : List ℕ) → LibraryPass item flip code passed′ answer′
       → (r : Passed) × (answer′ ≡ r .number ∷ []) × (passed′ ≡ r .item) × PassTable item flip code r
   -- `staran_run`
-  pub libraryRun : (memory registers list items out memory′ registers′ out′ answer′ : List ℕ)
-      → LibraryRun memory registers list items out memory′ registers′ out′ answer′
-      → (a : Answer) × (answer′ ≡ five a) × RunTable (length memory) (length registers) list (length items) (length out) a
-      × Kept (a .number) memory memory′ × Kept (a .number) registers registers′ × Kept (a .number) out out′
+  pub libraryRun : (l : Lent (List ℕ)) (u : Left (List ℕ) (List ℕ)) → LibraryRun l u
+      → (a : Answer) × (u .answer ≡ five a) × AnswerTable (runRows (runLengths l) (l .list)) (runLengths l) (l .list) a × AllKept (a .number) l u
   -- `staran_step`
-  pub libraryStep : (memory : List ℕ) (r : Registers) (items out instruction memory′ : List ℕ) (r′ : Registers) (out′ answer′ : List ℕ)
-      → LibraryStep memory r items out instruction memory′ r′ out′ answer′
-      → (a : Answer) × (answer′ ≡ five a) × StepTable (length memory) instruction (length items) (length out) a
-      × Kept (a .number) memory memory′ × Kept (a .number) r r′ × Kept (a .number) out out′
+  pub libraryStep : (l : Lent Registers) (u : Left Registers (List ℕ)) → LibraryStep l u
+      → (a : Answer) × (u .answer ≡ five a) × AnswerTable (stepRows (stepLengths l) (l .list)) (stepLengths l) (l .list) a × AllKept (a .number) l u
   -- `staran_sum_list` and `staran_difference_list`
   pub librarySumList : (a b s n : ℕ) (list list′ answer′ : List ℕ) → LibraryBuffer (sumLeft a b s n list) list′ answer′
       → (r : Built) × (answer′ ≡ r .number ∷ r .count ∷ []) × ListTable 1 a b s n (length list) r × Kept (r .number) list list′
@@ -211,5 +175,7 @@ pub record DemandOne : Type 0 where
       × Kept (r .number) memory memory′ × Kept (r .number) registers registers′
   -- `staran_write_picture`
   pub libraryWritePicture : (kind : ℕ) (memory registers out out′ answer′ : List ℕ) → LibraryBuffer (writePictureLeft kind memory registers out) out′ answer′
-      → (r : Moved) × (answer′ ≡ three r) × WriteTable kind (pictureFits kind (length memory) (length registers)) 8288 (length out) r
+      → (r : Moved) × (answer′ ≡ three r) × WriteTable kind (pictureFits kind (length memory) (length registers)) pictureBytes (length out) r
       × Kept (r .number) out out′
+  -- `staran_version` has no number of the tables: 1.0, and nothing else
+  pub libraryVersion : (r : ℕ) → LibraryVersion r → r ≡ 65536

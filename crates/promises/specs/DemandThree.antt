@@ -6,29 +6,30 @@ use mathlib.Core.List.{List}
 use Prim.Native.Nat.{ℕ, _+_, _-_, _*_, _^_, _≤_}
 use lib.ListN.{length}
 use Rattle.judge.specs.Judge.{unfit}
-use Rattle.builders.specs.Fields.{Fields, Apart, listLength, sumBuilt, differenceBuilt}
-use Rattle.fields.specs.Value.{value, Bytes, Put, TakenOff, sumRun, differenceRun}
+use Rattle.module.specs.Run.{Lent}
+use Rattle.builders.specs.Sums.{Fields, Apart, listLength, sumBuilt, differenceBuilt}
+use Rattle.fields.specs.Value.{value, Bytes, Put, TakenOff, lentOn, sumRun, differenceRun}
 
 -- What is lent: any memory of 8,192 bytes and any registers of 96; items that the judge does not refuse; any out buffer; a buffer with room for a sum list, and one with room for a difference list.
 -- `Fields` says that the width is 1 to 64, that each field lies in the word, and that S is the same field or wholly apart, towards A and towards B each.
-pub record Lent (a b s n : ℕ) (buffer buffer′ mem regs items : List ℕ) : Type 0 where
+pub record Given (a b s n : ℕ) (buffer buffer′ : List ℕ) (lent : Lent (List ℕ)) : Type 0 where
   pub fields : Fields a b s n
   pub room : listLength 1 n ≤ length buffer
   pub room′ : listLength 2 n ≤ length buffer′
-  pub memory : Bytes mem 8192
-  pub registers : Bytes regs 96
-  pub supplied : unfit 32 (length items) ≡ false
+  pub memory : Bytes (lent .memory) 8192
+  pub registers : Bytes (lent .registers) 96
+  pub supplied : unfit 32 (length (lent .items)) ≡ false
 
-pub record DemandThree (a b s n : ℕ) (buffer buffer′ mem regs items out : List ℕ) : Type 0 where
+pub record DemandThree (a b s n : ℕ) (buffer buffer′ : List ℕ) (lent : Lent (List ℕ)) : Type 0 where
   -- the builders write their lists, of 8(1+5n) and 8(2+5n) bytes
   pub sumWritten : sumBuilt a b s n buffer .answer ≡ record { number = 0; count = 8 * (1 + 5 * n) }
   pub differenceWritten : differenceBuilt a b s n buffer′ .answer ≡ record { number = 0; count = 8 * (2 + 5 * n) }
   -- S is old A plus old B modulo 2 ^ n in each word
-  pub sum : Put (1 + 5 * n) s n (λ w. value mem w a n + value mem w b n) mem regs out (sumRun a b s n buffer mem regs items out)
+  pub sum : Put (1 + 5 * n) s n (λ w. value (lent .memory) w a n + value (lent .memory) w b n) lent (sumRun a b s n buffer lent)
   -- of a difference, S is old A plus what old B lacks to 2 ^ n
-  pub difference : Put (2 + 5 * n) s n (λ w. value mem w a n + (2 ^ n - value mem w b n)) mem regs out (differenceRun a b s n buffer′ mem regs items out)
+  pub difference : Put (2 + 5 * n) s n (λ w. value (lent .memory) w a n + (2 ^ n - value (lent .memory) w b n)) lent (differenceRun a b s n buffer′ lent)
   -- A and B exchanged leave the same, every byte and the answer
-  pub exchanged : sumRun a b s n buffer mem regs items out ≡ sumRun b a s n buffer′ mem regs items out
+  pub exchanged : sumRun a b s n buffer lent ≡ sumRun b a s n buffer′ lent
   -- where S is also apart from B, taking B off S into S leaves the old A there, and Y is 1 exactly where no borrow was needed
   pub takenOff : Apart s b n
-      → (let r = sumRun a b s n buffer mem regs items out in TakenOff a b s n mem regs r (differenceRun s b s n buffer′ (r .mem) (r .regs) items (r .out)))
+      → (let r = sumRun a b s n buffer lent in TakenOff a b s n lent r (differenceRun s b s n buffer′ (lentOn lent r)))

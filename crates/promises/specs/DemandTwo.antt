@@ -21,12 +21,12 @@ use Rattle.registers.specs.Logic.{functionBit, newX, newY, logicOf}
 use Rattle.registers.specs.Resolver.{resolved}
 use Rattle.judge.specs.declared.Instruction.{Instruction}
 use Rattle.judge.specs.Judge.{instructionAt, takes, gives, done, judged}
-use Rattle.module.specs.Act.{State, partAt, putPart, passedBy, acted}
-use Rattle.module.specs.Run.{begun, ranBy, ran}
+use Rattle.module.specs.Act.{State, modeOf, partAt, putPart, passedBy, acted}
+use Rattle.module.specs.Run.{Lent, unmoved, runLengths, begun, ranBy, ran}
 use Rattle.blocks.specs.Sums.{at}
-use Rattle.contents.specs.File.{done as put}
-use Rattle.contents.specs.Content.{over}
-use Rattle.pictures.specs.Entries.{contentAnswer, contentTarget, contentWritten, contentOut, pictureAnswer, pictureMemory, pictureRegisters, pictureWritten, pictureOut}
+use Rattle.contents.specs.File.{pictureKind, pictureBytes, done as put}
+use Rattle.contents.specs.Content.{over, contentRead, contentWritten}
+use Rattle.pictures.specs.Picture.{pictureWords, pictureRegisters, pictureRead, pictureWritten}
 
 -- ---- storage, access, and the unscrambled table
 
@@ -105,41 +105,42 @@ left i s mem out regs = record { mem = mem; out = out; regs = regs; taken = s .t
 pub record Acts (i : Instruction) (items f : List ℕ) (s : State) : Type 0 where
   pub logic : i .kind ≡ 0 → acted i items s ≡ left i s (s .mem) (s .out) (logicOf (s .regs) f (i .logic))
   pub setM : i .kind ≡ 1 → acted i items s ≡ left i s (s .mem) (s .out) (withM (s .regs) f)
-  pub store : i .kind ≡ 2 → acted i items s ≡ left i s (stored (s .mem) (i .mode) (i .addr) every (bitOf f)) (s .out) (s .regs)
-  pub maskedStore : i .kind ≡ 3 → acted i items s ≡ left i s (stored (s .mem) (i .mode) (i .addr) (maskOf (s .regs .m) (i .flip)) (bitOf f)) (s .out) (s .regs)
+  pub store : i .kind ≡ 2 → acted i items s ≡ left i s (stored (s .mem) (modeOf i (s .regs)) (i .addr) every (bitOf f)) (s .out) (s .regs)
+  pub maskedStore : i .kind ≡ 3 → acted i items s ≡ left i s (stored (s .mem) (modeOf i (s .regs)) (i .addr) (maskOf (s .regs .m) (i .flip)) (bitOf f)) (s .out) (s .regs)
   pub deliver : i .kind ≡ 4 → acted i items s ≡ left i s (s .mem) (putPart (s .out) (s .given) f) (s .regs)
   pub resolve : i .kind ≡ 5 → acted i items s ≡ left i s (s .mem) (putPart (s .out) (s .given) (resolved (bitOf (s .regs .y)))) (s .regs)
 
 -- ---- a run
 
 -- Judged whole; then refused, and every buffer as it was, or each instruction of the list in turn.
-pub record Runs (mem regs list items out : List ℕ) : Type 0 where
-  pub refused : judged (length mem) (length regs) list (length items) (length out) .number ≢ 0
-      → ran mem regs list items out ≡ record { mem = mem; regs = regs; out = out; answer = judged (length mem) (length regs) list (length items) (length out) }
-  pub accepted : judged (length mem) (length regs) list (length items) (length out) .number ≡ 0
-      → (let s = ranBy list items (begun mem out (registersOf regs)) (length list / 8) in
-      ran mem regs list items out ≡ record { mem = s .mem; regs = bytesOf (s .regs); out = s .out; answer = done list })
-  pub before : (s : State) → ranBy list items s 0 ≡ s
-  pub oneMore : (s : State) (n : ℕ) → ranBy list items s (suc n) ≡ acted (instructionAt list n) items (ranBy list items s n)
+pub record Runs (l : Lent (List ℕ)) : Type 0 where
+  pub refused : judged (runLengths l) (l .list) .number ≢ 0 → ran l ≡ unmoved l (judged (runLengths l) (l .list))
+  pub accepted : judged (runLengths l) (l .list) .number ≡ 0
+      → (let s = ranBy (l .list) (l .items) (begun l (registersOf (l .registers))) (length (l .list) / 8) in
+      ran l ≡ record { memory = s .mem; registers = bytesOf (s .regs); out = s .out; answer = done (l .list) })
+  pub before : (s : State) → ranBy (l .list) (l .items) s 0 ≡ s
+  pub oneMore : (s : State) (n : ℕ)
+      → ranBy (l .list) (l .items) s (suc n) ≡ acted (instructionAt (l .list) n) (l .items) (ranBy (l .list) (l .items) s n)
 
 -- ---- the disk
 
 -- "Pictures, lists and items come back from disk as they were written", and a file that is read and written again is the same bytes.
 pub record Returns : Type 0 where
-  pub content : (kind : ℕ) (content out target : List ℕ) → contentWritten kind content out .number ≡ 0 → length content ≤ length target
-      → (let file = take (contentWritten kind content out .bytes) (contentOut kind content out) in
-      (contentAnswer kind file target ≡ put (length content)) × (contentTarget kind file target ≡ over content target))
-  pub contentAgain : (kind : ℕ) (bytes target out : List ℕ) → ((k : ℕ) → at bytes k < 256) → contentAnswer kind bytes target .number ≡ 0 → length bytes ≤ length out
-      → (let content = take (contentAnswer kind bytes target .bytes) (contentTarget kind bytes target) in
-      (contentWritten kind content out ≡ put (length bytes)) × (contentOut kind content out ≡ over bytes out))
-  pub picture : (kind : ℕ) (memory registers out memory′ registers′ : List ℕ) → ((k : ℕ) → at memory k < 256) → pictureWritten kind memory registers out .number ≡ 0
-      → length memory′ ≡ 8192 → length registers′ ≡ 96
-      → (let file = take (pictureWritten kind memory registers out .bytes) (pictureOut kind memory registers out) in
-      (pictureAnswer 1 file memory′ registers′ ≡ put 8288) × (pictureMemory 1 file memory′ registers′ ≡ memory) × (pictureRegisters 1 file memory′ registers′ ≡ registers))
-  pub pictureAgain : (kind : ℕ) (bytes memory registers out : List ℕ) → ((k : ℕ) → at bytes k < 256) → pictureAnswer kind bytes memory registers .number ≡ 0 → length bytes ≤ length out
-      → (let memory′ = pictureMemory kind bytes memory registers in
-      let registers′ = pictureRegisters kind bytes memory registers in
-      (pictureWritten 1 memory′ registers′ out ≡ put (length bytes)) × (pictureOut 1 memory′ registers′ out ≡ over bytes out))
+  pub content : (kind : ℕ) (content out target : List ℕ) → contentWritten kind content out .answer .number ≡ 0 → length content ≤ length target
+      → (let w = contentWritten kind content out in
+      contentRead kind (take (w .answer .bytes) (w .buffer)) target ≡ record { answer = put (length content); buffer = over content target })
+  pub contentAgain : (kind : ℕ) (bytes target out : List ℕ) → ((k : ℕ) → at bytes k < 256)
+      → contentRead kind bytes target .answer .number ≡ 0 → length bytes ≤ length out
+      → (let r = contentRead kind bytes target in
+      contentWritten kind (take (r .answer .bytes) (r .buffer)) out ≡ record { answer = put (length bytes); buffer = over bytes out })
+  pub picture : (kind : ℕ) (memory registers out memory′ registers′ : List ℕ) → ((k : ℕ) → at memory k < 256)
+      → pictureWritten kind memory registers out .answer .number ≡ 0 → length memory′ ≡ pictureWords → length registers′ ≡ pictureRegisters
+      → (let w = pictureWritten kind memory registers out in
+      pictureRead pictureKind (take (w .answer .bytes) (w .buffer)) memory′ registers′ ≡ record { answer = put pictureBytes; memory = memory; registers = registers })
+  pub pictureAgain : (kind : ℕ) (bytes memory registers out : List ℕ) → ((k : ℕ) → at bytes k < 256)
+      → pictureRead kind bytes memory registers .answer .number ≡ 0 → length bytes ≤ length out
+      → (let r = pictureRead kind bytes memory registers in
+      pictureWritten pictureKind (r .memory) (r .registers) out ≡ record { answer = put (length bytes); buffer = over bytes out })
 
 -- ---- the demand
 
@@ -149,5 +150,5 @@ pub record DemandTwo : Type 0 where
   pub registers : Logic
   pub sources : (i : Instruction) (mem items : List ℕ) (r : Registers) (taken : ℕ) → Sources i mem items r taken
   pub acts : (i : Instruction) (items : List ℕ) (s : State) → Acts i items (passedBy i (s .mem) items (s .regs) (s .taken)) s
-  pub runs : (mem regs list items out : List ℕ) → Runs mem regs list items out
+  pub runs : (l : Lent (List ℕ)) → Runs l
   pub disk : Returns

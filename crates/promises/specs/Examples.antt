@@ -9,9 +9,10 @@ use Rattle.memory.specs.Table.{lineBit, lineWord}
 use Rattle.network.specs.Pass.{moved, passed}
 use Rattle.network.specs.Answer.{answer}
 use Rattle.registers.specs.Rows.{registersOf}
-use Rattle.builders.specs.Fields.{sumBuilt, differenceBuilt}
+use Rattle.builders.specs.Sums.{sumBuilt, differenceBuilt}
+use Rattle.module.specs.Run.{Lent}
 use Rattle.fields.specs.Value.{value, listOf, sumRun, differenceRun}
-use Rattle.promises.specs.DemandThree.{Lent}
+use Rattle.promises.specs.DemandThree.{Given}
 
 pub record Starred : Type 0 where
   -- "M 7, G 45, P 83: bit 43 of word 85, chip 126."
@@ -32,13 +33,13 @@ pub record Starred : Type 0 where
   -- "Byte 6 = 136 or 1: refused 10."
   pub noShift : (l : List ℕ) (f : ℕ) → (answer l f 136 ≡ record { number = 10; item = replicate 32 0 }) × (answer l f 1 ≡ record { number = 10; item = replicate 32 0 })
   -- "n 8: 200 + 100 leaves 44, Y 1."
-  pub adds : (a b s : ℕ) (buffer buffer′ mem regs items out : List ℕ) → Lent a b s 8 buffer buffer′ mem regs items → (w : ℕ) → w < 256
-      → value mem w a 8 ≡ 200 → value mem w b 8 ≡ 100
-      → (let r = sumRun a b s 8 buffer mem regs items out in (value (r .mem) w s 8 ≡ 44) × (bitOf (registersOf (r .regs) .y) w ≡ 1))
+  pub adds : (a b s : ℕ) (buffer buffer′ : List ℕ) (lent : Lent (List ℕ)) → Given a b s 8 buffer buffer′ lent → (w : ℕ) → w < 256
+      → value (lent .memory) w a 8 ≡ 200 → value (lent .memory) w b 8 ≡ 100
+      → (let r = sumRun a b s 8 buffer lent in (value (r .memory) w s 8 ≡ 44) × (bitOf (registersOf (r .registers) .y) w ≡ 1))
   -- "44 − 100 leaves 200, Y 0."
-  pub subtracts : (a b s : ℕ) (buffer buffer′ mem regs items out : List ℕ) → Lent a b s 8 buffer buffer′ mem regs items → (w : ℕ) → w < 256
-      → value mem w a 8 ≡ 44 → value mem w b 8 ≡ 100
-      → (let r = differenceRun a b s 8 buffer′ mem regs items out in (value (r .mem) w s 8 ≡ 200) × (bitOf (registersOf (r .regs) .y) w ≡ 0))
+  pub subtracts : (a b s : ℕ) (buffer buffer′ : List ℕ) (lent : Lent (List ℕ)) → Given a b s 8 buffer buffer′ lent → (w : ℕ) → w < 256
+      → value (lent .memory) w a 8 ≡ 44 → value (lent .memory) w b 8 ≡ 100
+      → (let r = differenceRun a b s 8 buffer′ lent in (value (r .memory) w s 8 ≡ 200) × (bitOf (registersOf (r .registers) .y) w ≡ 0))
   -- "A sum with A 0, B 1, S 2, n 1 has six instructions; the fourth is `02 03 01 00 02 00 00 00`."
   pub sixInstructions : (buffer : List ℕ) → 8 * 6 ≤ length buffer → sumBuilt 0 1 2 1 buffer .answer ≡ record { number = 0; count = 8 * 6 }
   pub theFourth : (buffer : List ℕ) → 8 * 6 ≤ length buffer → take 8 (drop (8 * 3) (listOf (sumBuilt 0 1 2 1 buffer))) ≡ 2 ∷ 3 ∷ 1 ∷ 0 ∷ 2 ∷ 0 ∷ 0 ∷ 0 ∷ []

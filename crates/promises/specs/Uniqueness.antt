@@ -27,8 +27,10 @@ use Rattle.memory.proofs.load as load
 use Rattle.memory.proofs.store as store
 use Rattle.memory.proofs.store_masked as store_masked
 use Rattle.memory.proofs.line_mask as line_mask
-use Rattle.memory.proofs.words_out as words_out
-use Rattle.memory.proofs.«words_in» as words-in
+use Rattle.memory.proofs.places.partner as partner
+use Rattle.memory.proofs.reading.read_all as read_all
+use Rattle.words.proofs.words_out as words_out
+use Rattle.words.proofs.«words_in» as words-in
 use Rattle.network.proofs.pass as pass
 use Rattle.network.proofs.wired_pass as wired_pass
 use Rattle.network.proofs.pass_item as pass_item
@@ -50,29 +52,32 @@ use Rattle.judge.proofs.rows.takes as takes
 use Rattle.judge.proofs.rows.gives as gives
 use Rattle.judge.proofs.searches.tally as tally
 use Rattle.judge.proofs.searches.shortage as shortage
-use Rattle.module.specs.Run.{Left, Updated}
+use Rattle.registers.specs.declared.Registers.{Registers}
+use Rattle.judge.specs.declared.Answer.{Answer}
+use Rattle.module.specs.Run.{Left}
 use Rattle.module.proofs.run as run
 use Rattle.module.proofs.step as step
 use Rattle.module.proofs.advance as advance
-use Rattle.builders.specs.Fields.{Left as Buffer}
+use Rattle.builders.specs.Building.{BuiltLeft as Buffer}
 use Rattle.builders.proofs.sum_list as sum_list
 use Rattle.builders.proofs.difference_list as difference_list
 use Rattle.blocks.proofs.two_at as two_at
 use Rattle.blocks.proofs.fault as block_fault
 use Rattle.blocks.proofs.seal as seal
-use Rattle.contents.specs.declared.Answer.{Answer as Moved}
-use Rattle.contents.proofs.refuse as refuse
-use Rattle.contents.proofs.finish as finish
+use Rattle.contents.specs.Content.{ContentLeft}
+use Rattle.contents.proofs.refused as refused
+use Rattle.contents.proofs.done as done
 use Rattle.contents.proofs.kind_right as kind_right
-use Rattle.contents.proofs.judge as judge_file
+use Rattle.contents.proofs.judge_file as judge_file
 use Rattle.contents.proofs.part_of as part_of
 use Rattle.contents.proofs.put_part as put_part
 use Rattle.contents.proofs.seal_all as seal_all
 use Rattle.contents.proofs.read_content as read_content
 use Rattle.contents.proofs.write_content as write_content
+use Rattle.pictures.specs.Picture.{PictureLeft}
 use Rattle.pictures.proofs.read_picture as read_picture
 use Rattle.pictures.proofs.write_picture as write_picture
-use Rattle.library.specs.Left.{RunLeft, StepLeft, PassLeft, BufferLeft, PictureLeft}
+use Rattle.library.specs.Left.{PassLeft, BufferLeft, TargetsLeft}
 use Rattle.library.proofs.staran_run as staran_run
 use Rattle.library.proofs.staran_step as staran_step
 use Rattle.library.proofs.staran_pass as staran_pass
@@ -83,6 +88,7 @@ use Rattle.library.proofs.staran_read_content as staran_read_content
 use Rattle.library.proofs.staran_write_content as staran_write_content
 use Rattle.library.proofs.staran_read_picture as staran_read_picture
 use Rattle.library.proofs.staran_write_picture as staran_write_picture
+use Rattle.library.proofs.staran_version as staran_version
 use Rattle.report.proofs.report as report
 use Rattle.session.specs.declared.Counts.{Counts}
 use Rattle.session.proofs.session as session
@@ -112,37 +118,38 @@ module _ {M : Type 1} (𝓤 : URA M) (H : Heap 𝓤) (A : Atoms 𝓤) (memory : 
     -- `network::wired_pass`
     pub wiredPass : OneOutcome 𝓤 wired_pass.ended (wired_pass.clauses 𝓤 H A memory runs) (λ κs r e. r)
     -- `module::run`
-    pub run : OneOutcome 𝓤 run.ended (run.clauses 𝓤 H A memory runs) {O = Left} (λ κs r e. record { mem = now (e .0); regs = now (e .1 .0); out = now (e .1 .1 .1 .1 .0); answer = r })
+    pub run : OneOutcome 𝓤 run.ended (run.clauses 𝓤 H A memory runs) {O = Left (List ℕ) Answer} (λ κs r e. record { memory = now (e .0); registers = now (e .1 .0); out = now (e .1 .1 .1 .1 .0); answer = r })
     -- `module::step`
-    pub step : OneOutcome 𝓤 step.ended (step.clauses 𝓤 H A memory runs) {O = Updated} (λ κs r e. record { mem = now (e .0); regs = now (e .1 .0); out = now (e .1 .1 .1 .0); answer = r })
+    pub step : OneOutcome 𝓤 step.ended (step.clauses 𝓤 H A memory runs) {O = Left Registers Answer} (λ κs r e. record { memory = now (e .0); registers = now (e .1 .0); out = now (e .1 .1 .1 .1 .0); answer = r })
     -- `module::advance`
-    pub advance : OneOutcome 𝓤 advance.ended (advance.clauses 𝓤 H A memory runs) {O = Updated} (λ κs r e. record { mem = now (e .0); regs = r .regs; out = now (e .1 .0); answer = r .answer })
+    pub advance : OneOutcome 𝓤 advance.ended (advance.clauses 𝓤 H A memory runs) {O = Left Registers Answer} (λ κs r e. record { memory = now (e .0); registers = r .regs; out = now (e .1 .1 .1 .1 .0); answer = r .answer })
     -- `builders::sum_list`
     pub sumList : OneOutcome 𝓤 sum_list.ended (sum_list.clauses 𝓤 H A memory runs) {O = Buffer} (λ κs r e. record { answer = r; list = now (e .1 .1 .1 .1 .0) })
     -- `builders::difference_list`
     pub differenceList : OneOutcome 𝓤 difference_list.ended (difference_list.clauses 𝓤 H A memory runs) {O = Buffer} (λ κs r e. record { answer = r; list = now (e .1 .1 .1 .1 .0) })
-    -- `pictures::read_content`
-    pub readContent : OneOutcome 𝓤 read_content.ended (read_content.clauses 𝓤 H A memory runs) {O = Moved × List ℕ} (λ κs r e. (r, now (e .1 .1 .0)))
-    -- `pictures::write_content`
-    pub writeContent : OneOutcome 𝓤 write_content.ended (write_content.clauses 𝓤 H A memory runs) {O = Moved × List ℕ} (λ κs r e. (r, now (e .1 .1 .0)))
+    -- `contents::read_content`
+    pub readContent : OneOutcome 𝓤 read_content.ended (read_content.clauses 𝓤 H A memory runs) {O = ContentLeft} (λ κs r e. record { answer = r; buffer = now (e .1 .1 .0) })
+    -- `contents::write_content`
+    pub writeContent : OneOutcome 𝓤 write_content.ended (write_content.clauses 𝓤 H A memory runs) {O = ContentLeft} (λ κs r e. record { answer = r; buffer = now (e .1 .1 .0) })
     -- `pictures::read_picture`
-    pub readPicture : OneOutcome 𝓤 read_picture.ended (read_picture.clauses 𝓤 H A memory runs) {O = Moved × List ℕ × List ℕ} (λ κs r e. (r, now (e .1 .1 .0), now (e .1 .1 .1 .0)))
+    pub readPicture : OneOutcome 𝓤 read_picture.ended (read_picture.clauses 𝓤 H A memory runs) {O = PictureLeft} (λ κs r e. record { answer = r; memory = now (e .1 .1 .0); registers = now (e .1 .1 .1 .0) })
     -- `pictures::write_picture`
-    pub writePicture : OneOutcome 𝓤 write_picture.ended (write_picture.clauses 𝓤 H A memory runs) {O = Moved × List ℕ} (λ κs r e. (r, now (e .1 .1 .1 .0)))
+    pub writePicture : OneOutcome 𝓤 write_picture.ended (write_picture.clauses 𝓤 H A memory runs) {O = ContentLeft} (λ κs r e. record { answer = r; buffer = now (e .1 .1 .1 .0) })
 
   -- ---- the library for C
 
   pub record Library : Type 2 where
-    pub run : OneOutcome 𝓤 staran_run.ended (staran_run.clauses 𝓤 H A memory runs) {O = RunLeft} (λ κs r e. record { memory = now (e .0); registers = now (e .1 .0); out = now (e .1 .1 .1 .1 .0); answer = now (e .1 .1 .1 .1 .1 .0) })
-    pub step : OneOutcome 𝓤 staran_step.ended (staran_step.clauses 𝓤 H A memory runs) {O = StepLeft} (λ κs r e. record { memory = now (e .0); registers = now (e .1 .0); out = now (e .1 .1 .1 .0); answer = now (e .1 .1 .1 .1 .1 .0) })
+    pub run : OneOutcome 𝓤 staran_run.ended (staran_run.clauses 𝓤 H A memory runs) {O = Left (List ℕ) (List ℕ)} (λ κs r e. record { memory = now (e .0); registers = now (e .1 .0); out = now (e .1 .1 .1 .1 .0); answer = now (e .1 .1 .1 .1 .1 .0) })
+    pub step : OneOutcome 𝓤 staran_step.ended (staran_step.clauses 𝓤 H A memory runs) {O = Left Registers (List ℕ)} (λ κs r e. record { memory = now (e .0); registers = now (e .1 .0); out = now (e .1 .1 .1 .1 .0); answer = now (e .1 .1 .1 .1 .1 .0) })
     pub pass : OneOutcome 𝓤 staran_pass.ended (staran_pass.clauses 𝓤 H A memory runs) {O = PassLeft} (λ κs r e. record { passed = now (e .1 .1 .1 .0); answer = now (e .1 .1 .1 .1 .0) })
     pub wiredPass : OneOutcome 𝓤 staran_wired_pass.ended (staran_wired_pass.clauses 𝓤 H A memory runs) {O = PassLeft} (λ κs r e. record { passed = now (e .1 .1 .1 .0); answer = now (e .1 .1 .1 .1 .0) })
     pub sumList : OneOutcome 𝓤 staran_sum_list.ended (staran_sum_list.clauses 𝓤 H A memory runs) {O = BufferLeft} (λ κs r e. record { buffer = now (e .1 .1 .1 .1 .0); answer = now (e .1 .1 .1 .1 .1 .0) })
     pub differenceList : OneOutcome 𝓤 staran_difference_list.ended (staran_difference_list.clauses 𝓤 H A memory runs) {O = BufferLeft} (λ κs r e. record { buffer = now (e .1 .1 .1 .1 .0); answer = now (e .1 .1 .1 .1 .1 .0) })
     pub readContent : OneOutcome 𝓤 staran_read_content.ended (staran_read_content.clauses 𝓤 H A memory runs) {O = BufferLeft} (λ κs r e. record { buffer = now (e .1 .1 .0); answer = now (e .1 .1 .1 .0) })
     pub writeContent : OneOutcome 𝓤 staran_write_content.ended (staran_write_content.clauses 𝓤 H A memory runs) {O = BufferLeft} (λ κs r e. record { buffer = now (e .1 .1 .0); answer = now (e .1 .1 .1 .0) })
-    pub readPicture : OneOutcome 𝓤 staran_read_picture.ended (staran_read_picture.clauses 𝓤 H A memory runs) {O = PictureLeft} (λ κs r e. record { memory = now (e .1 .1 .0); registers = now (e .1 .1 .1 .0); answer = now (e .1 .1 .1 .1 .0) })
+    pub readPicture : OneOutcome 𝓤 staran_read_picture.ended (staran_read_picture.clauses 𝓤 H A memory runs) {O = TargetsLeft} (λ κs r e. record { memory = now (e .1 .1 .0); registers = now (e .1 .1 .1 .0); answer = now (e .1 .1 .1 .1 .0) })
     pub writePicture : OneOutcome 𝓤 staran_write_picture.ended (staran_write_picture.clauses 𝓤 H A memory runs) {O = BufferLeft} (λ κs r e. record { buffer = now (e .1 .1 .1 .0); answer = now (e .1 .1 .1 .1 .0) })
+    pub version : OneOutcome 𝓤 staran_version.ended (staran_version.clauses 𝓤 H A memory runs) {O = ℕ} (λ κs r e. r)
 
   -- ---- the program: all of it but the system's calls, and its printed lines
 
@@ -170,6 +177,11 @@ module _ {M : Type 1} (𝓤 : URA M) (H : Heap 𝓤) (A : Atoms 𝓤) (memory : 
     pub store : OneOutcome 𝓤 store.ended (store.clauses 𝓤 H A memory runs) (λ κs r e. now (e .0))
     pub storeMasked : OneOutcome 𝓤 store_masked.ended (store_masked.clauses 𝓤 H A memory runs) (λ κs r e. now (e .0))
     pub lineMask : OneOutcome 𝓤 line_mask.ended (line_mask.clauses 𝓤 H A memory runs) (λ κs r e. r)
+    pub partner : OneOutcome 𝓤 partner.ended (partner.clauses 𝓤 H A memory runs) (λ κs r e. r)
+    pub readAll : OneOutcome 𝓤 read_all.ended (read_all.clauses 𝓤 H A memory runs) (λ κs r e. r)
+
+  -- `words`
+  pub record OfWords : Type 2 where
     pub wordsOut : OneOutcome 𝓤 words_out.ended (words_out.clauses 𝓤 H A memory runs) (λ κs r e. r)
     pub wordsIn : OneOutcome 𝓤 words-in.ended (words-in.clauses 𝓤 H A memory runs) (λ κs r e. now (e .0))
 
@@ -209,10 +221,10 @@ module _ {M : Type 1} (𝓤 : URA M) (H : Heap 𝓤) (A : Atoms 𝓤) (memory : 
 
   -- `contents`
   pub record OfContents : Type 2 where
-    pub refuse : OneOutcome 𝓤 refuse.ended (refuse.clauses 𝓤 H A memory runs) (λ κs r e. r)
-    pub finish : OneOutcome 𝓤 finish.ended (finish.clauses 𝓤 H A memory runs) (λ κs r e. r)
+    pub refused : OneOutcome 𝓤 refused.ended (refused.clauses 𝓤 H A memory runs) (λ κs r e. r)
+    pub done : OneOutcome 𝓤 done.ended (done.clauses 𝓤 H A memory runs) (λ κs r e. r)
     pub kindRight : OneOutcome 𝓤 kind_right.ended (kind_right.clauses 𝓤 H A memory runs) (λ κs r e. r)
-    pub judge : OneOutcome 𝓤 judge_file.ended (judge_file.clauses 𝓤 H A memory runs) (λ κs r e. r)
+    pub judgeFile : OneOutcome 𝓤 judge_file.ended (judge_file.clauses 𝓤 H A memory runs) (λ κs r e. r)
     pub partOf : OneOutcome 𝓤 part_of.ended (part_of.clauses 𝓤 H A memory runs) (λ κs r e. now (e .1 .1 .0))
     pub putPart : OneOutcome 𝓤 put_part.ended (put_part.clauses 𝓤 H A memory runs) (λ κs r e. now (e .1 .1 .0))
     pub sealAll : OneOutcome 𝓤 seal_all.ended (seal_all.clauses 𝓤 H A memory runs) (λ κs r e. now (e .1 .1 .1 .0))
@@ -227,6 +239,7 @@ module _ {M : Type 1} (𝓤 : URA M) (H : Heap 𝓤) (A : Atoms 𝓤) (memory : 
     pub program : Program
     pub ofBits : OfBits
     pub ofMemory : OfMemory
+    pub ofWords : OfWords
     pub ofNetwork : OfNetwork
     pub ofRegisters : OfRegisters
     pub ofJudge : OfJudge

@@ -10,23 +10,24 @@ use lib.ListN.{length, take, drop, length-append}
 use lib.Seq.{take-at}
 use borrow.Author.Tests.{eq-eqb, lt-ltb, le-ltb, le-leb, ltb-false}
 use Rattle.blocks.specs.Block.{fault}
-use Rattle.contents.specs.declared.Answer.{Answer}
-use Rattle.contents.specs.File.{done, refused, blockAt, contentOf, Verdict, good, bad, verdict, next, judged, kindRight, lengthRight, sizeFits, settled, judge}
-use Rattle.contents.specs.Content.{readAnswer, changed, over, targetFits}
-use Rattle.pictures.specs.Picture.{scrambled, pictureFits}
-use Rattle.contents.proofs.FileLaws.{Stands, judge-stands}
+use Rattle.contents.specs.declared.Moved.{Moved}
+use Rattle.contents.specs.File.{done, refused, blockAt, contentOf, Verdict, good, bad, verdict, next, blocksJudged, kindRight, lengthRight, sizeFits, settled, fileJudged}
+use Rattle.contents.specs.Content.{readAnswer, changed, over, targetFits, ContentLeft, contentRead}
+use Rattle.pictures.specs.Picture.{scrambled, pictureFits, PictureLeft, pictureRead}
+use Rattle.contents.proofs.FileLaws.{Stands, file-stands}
 use Rattle.contents.proofs.OneForm.{size-is, count-is}
-use Rattle.contents.proofs.AnswerLaws.{read-refused, read-done, changed-not, changed-done, refused-not}
+use Rattle.contents.proofs.AnswerLaws.{read-refused, read-done, left-parts, changed-not, changed-done, refused-not}
+use Rattle.pictures.proofs.PictureLaws.{both-parts}
 use Rattle.session.specs.declared.Found.{Found}
 use Rattle.session.specs.declared.Found.the-variants.{Bytes}
 use Rattle.session.specs.Session.{File, absent, failed, bytes, fileOf, read, fileAnswer, pictureAnswer, contentAnswer, contentIn}
 
 -- ---- a reader whose targets fit answers as the judge
 
-pub read-fits : (kind : ℕ) (b : List ℕ) (fits : Bool) → (judge kind b .number ≡ 0 → fits ≡ true) → readAnswer kind b fits ≡ judge kind b
+pub read-fits : (kind : ℕ) (b : List ℕ) (fits : Bool) → (fileJudged kind b .number ≡ 0 → fits ≡ true) → readAnswer kind b fits ≡ fileJudged kind b
 read-fits kind b fits f =
-    elim (ℕ-discrete (judge kind b .number) 0)
-    [ yes z ↦ sym (read-done kind b fits (judge kind b) refl z (f z)) | no u ↦ sym (read-refused kind b fits (judge kind b) refl u) ]
+    elim (ℕ-discrete (fileJudged kind b .number) 0)
+    [ yes z ↦ sym (read-done kind b fits (fileJudged kind b) refl z (f z)) | no u ↦ sym (read-refused kind b fits (fileJudged kind b) refl u) ]
 
 -- ---- by length
 
@@ -34,7 +35,7 @@ read-long : (limit kind : ℕ) (b : List ℕ) → limit < length b → refused 2
 unfolding read
 read-long limit kind b h = simp (lt-ltb limit (length b) h)
 
-pub read-short : (limit kind : ℕ) (b : List ℕ) → length b ≤ limit → judge kind b ≡ read limit kind b
+pub read-short : (limit kind : ℕ) (b : List ℕ) → length b ≤ limit → fileJudged kind b ≡ read limit kind b
 unfolding read
 read-short limit kind b h = simp (le-ltb limit (length b) h)
 
@@ -42,7 +43,7 @@ read-short limit kind b h = simp (le-ltb limit (length b) h)
 pub found-bytes : {f : Found} {n : ℕ} {x : List ℕ} (b : List ℕ) → f ≡ Bytes n → x ≡ take n b → bytes x ≡ fileOf f b
 found-bytes b g e = ap bytes e ∙ sym (ap (λ (f : Found). fileOf f b) g)
 
-pub found-long : {f : Found} {n : ℕ} {x : List ℕ} (none : Answer) (limit kind : ℕ) (b : List ℕ) → f ≡ Bytes n → x ≡ take n b → limit < length x
+pub found-long : {f : Found} {n : ℕ} {x : List ℕ} (none : Moved) (limit kind : ℕ) (b : List ℕ) → f ≡ Bytes n → x ≡ take n b → limit < length x
     → refused 20 0 ≡ fileAnswer none limit kind (fileOf f b)
 found-long {x = x} none limit kind b g e h = read-long limit kind x h ∙ ap (fileAnswer none limit kind) (found-bytes b g e)
 
@@ -52,16 +53,16 @@ content-fits kind b s h = omega (arith, size-is kind b s, count-is kind b s)
 
 -- ---- the place is that of a block
 
-bad-place : (kind : ℕ) (b : List ℕ) (count n c p : ℕ) → judged kind b count n ≡ bad c p → p < n
-unfolding judged
+bad-place : (kind : ℕ) (b : List ℕ) (count n c p : ℕ) → blocksJudged kind b count n ≡ bad c p → p < n
+unfolding blocksJudged
 bad-place kind b count zero c p e = absurd (let q : _≡_ {A = ℕ} 0 1 = cc in omega arith)
-bad-place kind b count (suc n) c p e = go (judged kind b count n) (bad-place kind b count n) refl e
+bad-place kind b count (suc n) c p e = go (blocksJudged kind b count n) (bad-place kind b count n) refl e
   where
     one : (x : ℕ) (t : Bool) → cond t good (bad x n) ≡ bad c p → p < suc n
     one x true f = absurd (let q : _≡_ {A = ℕ} 0 1 = cc in omega arith)
     one x false f = let q : n ≡ p = cc in omega arith
 
-    go : (v : Verdict) → ((c p : ℕ) → judged kind b count n ≡ bad c p → p < n) → judged kind b count n ≡ v
+    go : (v : Verdict) → ((c p : ℕ) → blocksJudged kind b count n ≡ bad c p → p < n) → blocksJudged kind b count n ≡ v
         → next v (verdict (fault (blockAt b n) kind n count) n) ≡ bad c p → p < suc n
     go good ih q f = one (fault (blockAt b n) kind n count) (eqb (fault (blockAt b n) kind n count) 0) f
     go (bad x y) ih q f =
@@ -69,9 +70,9 @@ bad-place kind b count (suc n) c p e = go (judged kind b count n) (bad-place kin
         let r : y ≡ p = cc in
         omega arith
 
-judge-place : (kind : ℕ) (b : List ℕ) → judge kind b .place ≤ length b / 512
-unfolding judge
-judge-place kind b = go (kindRight kind) (lengthRight (length b)) (judged kind b n n) refl
+judged-place : (kind : ℕ) (b : List ℕ) → fileJudged kind b .place ≤ length b / 512
+unfolding fileJudged
+judged-place kind b = go (kindRight kind) (lengthRight (length b)) (blocksJudged kind b n n) refl
   where
     n : ℕ
     n = length b / 512
@@ -83,7 +84,7 @@ judge-place kind b = go (kindRight kind) (lengthRight (length b)) (judged kind b
     fit true = omega arith
     fit false = omega arith
 
-    go : (k l : Bool) (v : Verdict) → judged kind b n n ≡ v → (cond (not k) (refused 22 0) (cond (not l) (refused 20 0) (settled kind size v))) .place ≤ n
+    go : (k l : Bool) (v : Verdict) → blocksJudged kind b n n ≡ v → (cond (not k) (refused 22 0) (cond (not l) (refused 20 0) (settled kind size v))) .place ≤ n
     go true true good e = fit (sizeFits kind size)
     go true true (bad c p) e = let h = bad-place kind b n n c p e in omega arith
     go true false v e = omega arith
@@ -93,67 +94,73 @@ read-place : (limit kind : ℕ) (b : List ℕ) → limit ≤ 8704 → read limit
 unfolding read
 read-place limit kind b h = go (ltb limit (length b)) refl
   where
-    go : (t : Bool) → ltb limit (length b) ≡ t → cond t (refused 20 0) (judge kind b) .place ≤ 17
+    go : (t : Bool) → ltb limit (length b) ≡ t → cond t (refused 20 0) (fileJudged kind b) .place ≤ 17
     go true e = omega arith
-    go false e = omega (arith, ltb-false limit (length b) e, judge-place kind b)
+    go false e = omega (arith, ltb-false limit (length b) e, judged-place kind b)
 
-pub file-place : (none : Answer) (limit kind : ℕ) (f : File) → none .place ≡ 0 → limit ≤ 8704 → fileAnswer none limit kind f .place ≤ 17
+pub file-place : (none : Moved) (limit kind : ℕ) (f : File) → none .place ≡ 0 → limit ≤ 8704 → fileAnswer none limit kind f .place ≤ 17
 file-place none limit kind absent z h = omega arith
 file-place none limit kind failed z h = omega arith
 file-place none limit kind (bytes b) z h = read-place limit kind b h
 
-pub place-small : (none : Answer) (limit kind : ℕ) (f : File) (a : Answer) → a ≡ fileAnswer none limit kind f → none .place ≡ 0 → limit ≤ 8704 → a .place ≤ 17
-place-small none limit kind f a e z h = omega (arith, ap (λ (x : Answer). x .place) e, file-place none limit kind f z h)
+pub place-small : (none : Moved) (limit kind : ℕ) (f : File) (a : Moved) → a ≡ fileAnswer none limit kind f → none .place ≡ 0 → limit ≤ 8704 → a .place ≤ 17
+place-small none limit kind f a e z h = omega (arith, ap (λ (x : Moved). x .place) e, file-place none limit kind f z h)
 
 -- ---- before.pic
 
 -- refused: the targets stay
-pub picture-refused : (file : File) (r : Answer) (m g : List ℕ) → r ≡ refused 20 0 → refused 20 0 ≡ pictureAnswer file
+pub picture-refused : (file : File) (r : Moved) (m g : List ℕ) → r ≡ refused 20 0 → refused 20 0 ≡ pictureAnswer file
     → (r ≡ pictureAnswer file) × ((m ≡ changed r (scrambled (contentIn file)) m) × (g ≡ changed r (drop 8192 (contentIn file)) g))
 picture-refused file r m g e q =
     let u = refused-not r 20 0 e (λ z. omega arith) in
     (e ∙ q, (changed-not r (scrambled (contentIn file)) m u, changed-not r (drop 8192 (contentIn file)) g u))
 
 -- read
-pub picture-taken : (file : File) (b m g m′ g′ : List ℕ) (r : Answer) → bytes b ≡ file → length b ≤ 8704 → length m ≡ 8192 → length g ≡ 96
-    → r ≡ readAnswer 1 b (pictureFits 1 (length m) (length g)) → m′ ≡ changed r (scrambled (contentOf b)) m → g′ ≡ changed r (drop 8192 (contentOf b)) g
+pub picture-taken : (file : File) (b m g m′ g′ : List ℕ) (r : Moved) → bytes b ≡ file → length b ≤ 8704 → length m ≡ 8192 → length g ≡ 96
+    → _≡_ {A = PictureLeft} (record { answer = r; memory = m′; registers = g′ }) (pictureRead 1 b m g)
     → (r ≡ pictureAnswer file) × ((m′ ≡ changed r (scrambled (contentIn file)) m) × (g′ ≡ changed r (drop 8192 (contentIn file)) g))
-picture-taken file b m g m′ g′ r e h lm lg er em eg =
+unfolding pictureRead
+picture-taken file b m g m′ g′ r e h lm lg q =
+    let p = both-parts r _ (scrambled (contentOf b)) m (drop 8192 (contentOf b)) g m′ g′ q in
     let f : pictureFits 1 (length m) (length g) ≡ true = ap₂ _&&_ (eq-eqb (length m) 8192 lm) (eq-eqb (length g) 96 lg) in
     subst (λ (x : File). (r ≡ pictureAnswer x) × ((m′ ≡ changed r (scrambled (contentIn x)) m) × (g′ ≡ changed r (drop 8192 (contentIn x)) g))) e
-    (er ∙ read-fits 1 b (pictureFits 1 (length m) (length g)) (λ z. f) ∙ read-short 8704 1 b h, (em, eg))
+    (p .0 ∙ read-fits 1 b (pictureFits 1 (length m) (length g)) (λ z. f) ∙ read-short 8704 1 b h, (p .1, p .2))
 
 -- ---- run.lst and in.itm
 
 -- What is promised of a target: it begins with the content of a file that is not refused.
-abbrev pub Holds : ℕ → File → Answer → List ℕ → Type 0
+abbrev pub Holds : ℕ → File → Moved → List ℕ → Type 0
 Holds kind file r t = (r ≡ contentAnswer kind file) × (r .number ≡ 0 → (r .bytes ≤ length t) × (take (r .bytes) t ≡ contentIn file))
 
 pub content-absent : (kind : ℕ) (file : File) (t : List ℕ) → absent ≡ file → Holds kind file (done 0) t
 content-absent kind file t e = subst (λ (x : File). Holds kind x (done 0) t) e (refl, λ z. (omega arith, refl))
 
-pub content-refused : (kind : ℕ) (file : File) (r : Answer) (t : List ℕ) → r ≡ refused 20 0 → refused 20 0 ≡ contentAnswer kind file → Holds kind file r t
+pub content-refused : (kind : ℕ) (file : File) (r : Moved) (t : List ℕ) → r ≡ refused 20 0 → refused 20 0 ≡ contentAnswer kind file → Holds kind file r t
 content-refused kind file r t e q = (e ∙ q, λ z. absurd (refused-not r 20 0 e (λ x. omega arith) z))
 
-pub content-taken : (kind : ℕ) (file : File) (b t t′ : List ℕ) (r : Answer) → bytes b ≡ file → 1 < kind → length b ≤ 8192 → length t ≡ 8192
-    → r ≡ readAnswer kind b (targetFits kind b t) → t′ ≡ changed r (over (contentOf b) t) t → Holds kind file r t′
-content-taken kind file b t t′ r e k h lt er et = subst (λ (x : File). Holds kind x r t′) e (j ∙ read-short 8192 kind b h, found)
+pub content-taken : (kind : ℕ) (file : File) (b t t′ : List ℕ) (r : Moved) → bytes b ≡ file → 1 < kind → length b ≤ 8192 → length t ≡ 8192
+    → _≡_ {A = ContentLeft} (record { answer = r; buffer = t′ }) (contentRead kind b t) → Holds kind file r t′
+unfolding contentRead
+content-taken kind file b t t′ r e k h lt q = subst (λ (x : File). Holds kind x r t′) e (j ∙ read-short 8192 kind b h, found)
   where
-    room : judge kind b .number ≡ 0 → length (contentOf b) ≤ 8192
-    room z = content-fits kind b (judge-stands kind b z) h
+    p : (r ≡ readAnswer kind b (targetFits kind b t)) × (t′ ≡ changed r (over (contentOf b) t) t)
+    p = left-parts r _ (over (contentOf b) t) t t′ q
 
-    j : r ≡ judge kind b
+    room : fileJudged kind b .number ≡ 0 → length (contentOf b) ≤ 8192
+    room z = content-fits kind b (file-stands kind b z) h
+
+    j : r ≡ fileJudged kind b
     j =
-        er
+        p .0
         ∙ read-fits kind b (targetFits kind b t) (λ z. let l = room z in ap₂ _&&_ (lt-ltb 1 kind k) (le-leb (length (contentOf b)) (length t) (omega arith)))
 
     found : r .number ≡ 0 → (r .bytes ≤ length t′) × (take (r .bytes) t′ ≡ contentOf b)
     found z =
         let c = contentOf b in
-        let zj : judge kind b .number ≡ 0 = sym (ap (λ (x : Answer). x .number) j) ∙ z in
+        let zj : fileJudged kind b .number ≡ 0 = sym (ap (λ (x : Moved). x .number) j) ∙ z in
         let l = room zj in
-        let n : r .bytes ≡ length c = ap (λ (x : Answer). x .bytes) (j ∙ judge-stands kind b zj .answer) in
-        let w : t′ ≡ over c t = et ∙ sym (changed-done r (over c t) t z) in (
+        let n : r .bytes ≡ length c = ap (λ (x : Moved). x .bytes) (j ∙ file-stands kind b zj .answer) in
+        let w : t′ ≡ over c t = p .1 ∙ sym (changed-done r (over c t) t z) in (
           omega (arith, ap length w, length-append c (drop (length c) t)),
           ap₂ (λ (x : ℕ) (y : List ℕ). take x y) n w ∙ take-at c (drop (length c) t) (length c) refl,
         )

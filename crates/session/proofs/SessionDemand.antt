@@ -9,20 +9,21 @@ use Rattle.contents.specs.Content.{over}
 use Rattle.pictures.specs.Picture.{pictureOf}
 use Rattle.contents.proofs.RoundTrip.{all-length}
 use Rattle.pictures.proofs.PictureLaws.{length-picture}
+use Rattle.judge.specs.declared.Answer.{Answer}
 use Rattle.module.specs.Run.{Left}
 use Rattle.report.proofs.ReportLaws.{report-unique}
 use Rattle.session.specs.declared.Counts.{Counts}
-use Rattle.session.specs.Session.{File, absent, failed, Outcome, contentAnswer, refusal, finished, outcome}
+use Rattle.session.specs.Session.{File, absent, failed, Outcome, contentAnswer, onlyLine, finished, outcome}
 use Rattle.session.specs.Shown.{Shown}
 use Rattle.session.proofs.SessionLaws.{outcome-p, after-none, after-done}
 
 -- ---- absent, and not to be read
 
 -- "An absent before.pic .. refused with 20", whatever the other files are; so is one that cannot be read
-pub absent-picture : (list items : File) → outcome absent list items ≡ refusal 112 (refused 20 0)
+pub absent-picture : (list items : File) → outcome absent list items ≡ onlyLine 112 (refused 20 0)
 absent-picture list items = outcome-p absent list items (refused 20 0) refl (λ z. omega arith)
 
-pub failed-picture : (list items : File) → outcome failed list items ≡ refusal 112 (refused 20 0)
+pub failed-picture : (list items : File) → outcome failed list items ≡ onlyLine 112 (refused 20 0)
 failed-picture list items = outcome-p failed list items (refused 20 0) refl (λ z. omega arith)
 
 -- "An absent run.lst is the empty list and an absent in.itm means no items": both stand, with no bytes
@@ -32,18 +33,18 @@ absent-content kind = refl
 -- ---- after.pic
 
 -- a run that is refused writes none
-pub refused-run : (s : Left) → (s .answer .number ≡ 0 → ⊥) → finished s .after ≡ []
+pub refused-run : (s : Left (List ℕ) Answer) → (s .answer .number ≡ 0 → ⊥) → finished s .after ≡ []
 unfolding finished
-refused-run s u = after-none (s .answer .number) (s .mem) (s .regs) u
+refused-run s u = after-none (s .answer .number) (s .memory) (s .registers) u
 
 -- a run that is done writes the picture of the memory and the registers that it left: 17 blocks
-pub done-run : (s : Left) → s .answer .number ≡ 0 → finished s .after ≡ blocksOf 1 (pictureOf (s .mem) (s .regs))
+pub done-run : (s : Left (List ℕ) Answer) → s .answer .number ≡ 0 → finished s .after ≡ blocksOf 1 (pictureOf (s .memory) (s .registers))
 unfolding finished
-done-run s z = after-done (s .answer .number) (s .mem) (s .regs) z
+done-run s z = after-done (s .answer .number) (s .memory) (s .registers) z
 
-pub done-size : (s : Left) → s .answer .number ≡ 0 → length (s .regs) ≡ 96 → length (finished s .after) ≡ 8704
+pub done-size : (s : Left (List ℕ) Answer) → s .answer .number ≡ 0 → length (s .registers) ≡ 96 → length (finished s .after) ≡ 8704
 done-size s z l =
-    ap length (done-run s z) ∙ all-length 1 (pictureOf (s .mem) (s .regs)) ∙ ap (λ (k : ℕ). 512 * blockCount k) (length-picture (s .mem) (s .regs) l)
+    ap length (done-run s z) ∙ all-length 1 (pictureOf (s .memory) (s .registers)) ∙ ap (λ (k : ℕ). 512 * blockCount k) (length-picture (s .memory) (s .registers) l)
 
 -- where none is written its buffer stays
 pub no-picture : (o : Outcome) (before : List ℕ) → o .after ≡ [] → over (o .after) before ≡ before

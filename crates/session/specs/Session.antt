@@ -4,10 +4,11 @@ use mathlib.Core.List.{List, [], replicate}
 use Prim.Native.Nat.{ℕ}
 use lib.Dec.{eqb, ltb}
 use lib.ListN.{length, take, drop}
-use Rattle.contents.specs.declared.Answer.{Answer}
-use Rattle.contents.specs.File.{done, refused, contentOf, judge, blocksOf}
+use Rattle.contents.specs.declared.Moved.{Moved}
+use Rattle.contents.specs.File.{done, refused, contentOf, fileJudged, blocksOf}
 use Rattle.pictures.specs.Picture.{pictureOf, scrambled}
-use Rattle.module.specs.Run.{Left, ran}
+use Rattle.judge.specs.declared.Answer.{Answer}
+use Rattle.module.specs.Run.{Lent, Left, ran}
 use Rattle.report.specs.Report.{printed}
 use Rattle.session.specs.declared.Found.{Found}
 use Rattle.session.specs.declared.Found.the-variants.{Absent, Failed, Bytes}
@@ -27,20 +28,20 @@ fileOf Failed buffer = failed
 fileOf (Bytes n) buffer = bytes (take n buffer)
 
 -- "A file that is there with no bytes, a picture file over 17 blocks and either of the others over 16 are refused with 20": by its length alone, before any block is judged. Else it is judged as in Blocks on disk.
-unfoldable pub read : ℕ → ℕ → List ℕ → Answer
-read limit kind b = cond (ltb limit (length b)) (refused 20 0) (judge kind b)
+unfoldable pub read : ℕ → ℕ → List ℕ → Moved
+read limit kind b = cond (ltb limit (length b)) (refused 20 0) (fileJudged kind b)
 
 -- The answer on a file, where `none` is that on an absent one. One that cannot be read is refused as 20 is (docs/DECISIONS.md).
-abbrev pub fileAnswer : Answer → ℕ → ℕ → File → Answer
+abbrev pub fileAnswer : Moved → ℕ → ℕ → File → Moved
 fileAnswer none limit kind absent = none
 fileAnswer none limit kind failed = refused 20 0
 fileAnswer none limit kind (bytes b) = read limit kind b
 
 -- "An absent before.pic .. refused with 20." "An absent run.lst is the empty list and an absent in.itm means no items." 17 blocks are 8,704 bytes, 16 are 8,192.
-abbrev pub pictureAnswer : File → Answer
+abbrev pub pictureAnswer : File → Moved
 pictureAnswer = fileAnswer (refused 20 0) 8704 1
 
-abbrev pub contentAnswer : ℕ → File → Answer
+abbrev pub contentAnswer : ℕ → File → Moved
 contentAnswer kind = fileAnswer (done 0) 8192 kind
 
 -- The content of a file that is not refused.
@@ -57,29 +58,40 @@ pub record Outcome : Type 0 where
   pub after : List ℕ
 
 -- "The first refused file gives the only line, p, l or i, with zeros for the counts."
-abbrev pub refusal : ℕ → Answer → Outcome
-refusal letter a = record { text = printed letter (a .number) (a .place) 0 0 0 []; after = [] }
+abbrev pub onlyLine : ℕ → Moved → Outcome
+onlyLine letter a = record { text = printed letter (a .number) (a .place) 0 0 0 []; after = [] }
 
 -- "If done writes after.pic": the picture of memory and registers after the run, and nothing where the number is not 0.
 unfoldable pub afterOf : ℕ → List ℕ → List ℕ → List ℕ
 afterOf number mem regs = cond (eqb number 0) (blocksOf 1 (pictureOf mem regs)) []
 
 -- "Otherwise there is one r line. After a run that is done, each given item follows": a run that is refused has given none.
-unfoldable pub finished : Left → Outcome
+unfoldable pub finished : Left (List ℕ) Answer → Outcome
 finished s =
     record {
       text = printed 114 (s .answer .number) (s .answer .place) (s .answer .steps) (s .answer .taken) (s .answer .given) (s .out);
-      after = afterOf (s .answer .number) (s .mem) (s .regs);
+      after = afterOf (s .answer .number) (s .memory) (s .registers);
     }
 
 -- "Has 8,192 out bytes."
 unfoldable pub outBytes : List ℕ
 outBytes = replicate 8192 0
 
+-- What the run is lent: the contents of the three files, and those out bytes.
+abbrev pub lentBy : File → File → File → Lent (List ℕ)
+lentBy picture list items =
+    record {
+      memory = scrambled (contentIn picture);
+      registers = drop 8192 (contentIn picture);
+      list = contentIn list;
+      items = contentIn items;
+      out = outBytes;
+    }
+
 -- "It reads before.pic, run.lst and in.itm in that order", and runs: the letters are p, l and i.
 unfoldable pub outcome : File → File → File → Outcome
 outcome picture list items =
-    cond (not (eqb (pictureAnswer picture .number) 0)) (refusal 112 (pictureAnswer picture))
-    (cond (not (eqb (contentAnswer 2 list .number) 0)) (refusal 108 (contentAnswer 2 list))
-    (cond (not (eqb (contentAnswer 3 items .number) 0)) (refusal 105 (contentAnswer 3 items))
-    (finished (ran (scrambled (contentIn picture)) (drop 8192 (contentIn picture)) (contentIn list) (contentIn items) outBytes))))
+    cond (not (eqb (pictureAnswer picture .number) 0)) (onlyLine 112 (pictureAnswer picture))
+    (cond (not (eqb (contentAnswer 2 list .number) 0)) (onlyLine 108 (contentAnswer 2 list))
+    (cond (not (eqb (contentAnswer 3 items .number) 0)) (onlyLine 105 (contentAnswer 3 items))
+    (finished (ran (lentBy picture list items)))))

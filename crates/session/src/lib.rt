@@ -1,5 +1,6 @@
-// All of the program but the system's calls: what it prints and writes, from what was found of its three files. Document 01, The program.
-use contents::Answer;
+// All of the program but the system's calls: what it prints and writes, from what was found of its three files.
+// Document 01, The program.
+use contents::Moved;
 ghost use mathlib.Core.Path.{_≡_};
 ghost use mathlib.Core.List.{_++_};
 ghost use Prim.Native.Nat.{_<_, _≤_};
@@ -9,11 +10,13 @@ ghost use Rattle.pictures.specs.Picture.{scrambled};
 ghost use Rattle.contents.specs.Content.{changed, over};
 ghost use Rattle.module.specs.Run.{ran};
 ghost use Rattle.report.specs.Report.{printed};
-ghost use Rattle.session.specs.Session.{fileOf, pictureAnswer, contentAnswer, contentIn, refusal, afterOf, finished, outBytes, outcome};
+ghost use Rattle.session.specs.Session.{fileOf, pictureAnswer, contentAnswer, contentIn};
+ghost use Rattle.session.specs.Session.{onlyLine, afterOf, finished, outBytes, outcome};
 ghost use Rattle.session.specs.Shown.{Shown};
 ghost use Rattle.session.specs.Steps.{Small};
 
-// What was found of a file: nothing of its name; one that could not be opened or read; or so many bytes, at the start of the buffer that was lent for it.
+// What was found of a file: nothing of its name; one that could not be opened or read; or so many bytes, at the start of the
+// buffer that was lent for it.
 pub enum Found {
     Absent,
     Failed,
@@ -44,10 +47,10 @@ fn front(buffer: &[u8], n: usize) -> &[u8]
 }
 
 // "20": a file that is absent, cannot be read or is too long.
-fn refused() -> Answer
+fn unread() -> Moved
     ensures { λ r. ⌜ r ≡ refused 20 0 ⌝ }
 {
-    Answer {
+    Moved {
         number: 20,
         place: 0,
         bytes: 0,
@@ -55,19 +58,21 @@ fn refused() -> Answer
 }
 
 // before.pic, read into memory and registers.
-fn take_picture(found: Found, buffer: &[u8], memory: &mut [u8], registers: &mut [u8]) -> Answer
+fn take_picture(found: Found, buffer: &[u8], memory: &mut [u8], registers: &mut [u8]) -> Moved
     requires { ⌜ (length (now memory) ≡ 8192) × (length (now registers) ≡ 96) ⌝ }
     ensures answer { λ r. ⌜ r ≡ pictureAnswer (fileOf found (now (buffer .entry))) ⌝ }
-    ensures memory { λ r. ⌜ now (memory .exit) ≡ changed r (scrambled (contentIn (fileOf found (now (buffer .entry))))) (now (memory .entry)) ⌝ }
-    ensures registers { λ r. ⌜ now (registers .exit) ≡ changed r (drop 8192 (contentIn (fileOf found (now (buffer .entry))))) (now (registers .entry)) ⌝ }
+    ensures memory { λ r. ⌜ now (memory .exit)
+        ≡ changed r (scrambled (contentIn (fileOf found (now (buffer .entry))))) (now (memory .entry)) ⌝ }
+    ensures registers { λ r. ⌜ now (registers .exit)
+        ≡ changed r (drop 8192 (contentIn (fileOf found (now (buffer .entry))))) (now (registers .entry)) ⌝ }
 {
     match found {
-        Found::Absent => refused(),
-        Found::Failed => refused(),
+        Found::Absent => unread(),
+        Found::Failed => unread(),
         Found::Bytes(n) => {
             let bytes = front(buffer, n);
             if bytes.len() > 8704 {
-                return refused();
+                return unread();
             }
             pictures::read_picture(1, bytes, memory, registers)
         }
@@ -75,22 +80,23 @@ fn take_picture(found: Found, buffer: &[u8], memory: &mut [u8], registers: &mut 
 }
 
 // run.lst or in.itm, read into its buffer.
-fn take_content(found: Found, kind: usize, buffer: &[u8], target: &mut [u8]) -> Answer
+fn take_content(found: Found, kind: usize, buffer: &[u8], target: &mut [u8]) -> Moved
     requires { ⌜ (1 < kind) × (length (now target) ≡ 8192) ⌝ }
     ensures answer { λ r. ⌜ r ≡ contentAnswer kind (fileOf found (now (buffer .entry))) ⌝ }
-    ensures target { λ r. ⌜ (r .number ≡ 0 → (r .bytes ≤ length (now (target .exit))) × (take (r .bytes) (now (target .exit)) ≡ contentIn (fileOf found (now (buffer .entry))))) ⌝ }
+    ensures target { λ r. ⌜ (r .number ≡ 0 → (r .bytes ≤ length (now (target .exit)))
+        × (take (r .bytes) (now (target .exit)) ≡ contentIn (fileOf found (now (buffer .entry))))) ⌝ }
 {
     match found {
-        Found::Absent => Answer {
+        Found::Absent => Moved {
             number: 0,
             place: 0,
             bytes: 0,
         },
-        Found::Failed => refused(),
+        Found::Failed => unread(),
         Found::Bytes(n) => {
             let bytes = front(buffer, n);
             if bytes.len() > 8192 {
-                return refused();
+                return unread();
             }
             contents::read_content(kind, bytes, target)
         }
@@ -98,9 +104,9 @@ fn take_content(found: Found, kind: usize, buffer: &[u8], target: &mut [u8]) -> 
 }
 
 // The line of a refused file.
-fn refuse(letter: u8, a: Answer, text: &mut [u8]) -> Counts
+fn print_line(letter: u8, a: Moved, text: &mut [u8]) -> Counts
     requires { ⌜ (a .place ≤ 17) × (57 ≤ length (now text)) ⌝ }
-    ensures { λ r. ⌜ Shown (refusal letter a) r (now (text .entry)) (now (text .exit)) ⌝ }
+    ensures { λ r. ⌜ Shown (onlyLine letter a) r (now (text .entry)) (now (text .exit)) ⌝ }
 {
     let none = [0u8; 1];
     let n = report::report(
@@ -120,8 +126,10 @@ fn refuse(letter: u8, a: Answer, text: &mut [u8]) -> Counts
 fn print_run(a: judge::Answer, out: &[u8], text: &mut [u8]) -> usize
     requires { ⌜ Small a (length (now out)) × (length (now out) ≡ 8192) × (16697 ≤ length (now text)) ⌝ }
     ensures room { λ r. ⌜ r ≤ length (now (text .exit)) ⌝ }
-    ensures count { λ r. ⌜ r ≡ length (printed 114 (a .number) (a .place) (a .steps) (a .taken) (a .given) (now (out .entry))) ⌝ }
-    ensures text { λ r. ⌜ now (text .exit) ≡ printed 114 (a .number) (a .place) (a .steps) (a .taken) (a .given) (now (out .entry)) ++ drop r (now (text .entry)) ⌝ }
+    ensures count { λ r. ⌜ r
+        ≡ length (printed 114 (a .number) (a .place) (a .steps) (a .taken) (a .given) (now (out .entry))) ⌝ }
+    ensures text { λ r. ⌜ now (text .exit)
+        ≡ printed 114 (a .number) (a .place) (a .steps) (a .taken) (a .given) (now (out .entry)) ++ drop r (now (text .entry)) ⌝ }
 {
     report::report(
         b'r',
@@ -138,7 +146,8 @@ fn print_run(a: judge::Answer, out: &[u8], text: &mut [u8]) -> usize
 // The picture after a run that is done, and its size; nothing after one that is not.
 fn keep(number: u8, memory: &[u8], registers: &[u8], after: &mut [u8]) -> usize
     requires { ⌜ (length (now memory) ≡ 8192) × (length (now registers) ≡ 96) × (length (now after) ≡ 8704) ⌝ }
-    ensures { λ r. ⌜ (r ≤ 8704) × (r ≡ length (afterOf number (now (memory .entry)) (now (registers .entry)))) × (now (after .exit) ≡ over (afterOf number (now (memory .entry)) (now (registers .entry))) (now (after .entry))) ⌝ }
+    ensures { λ r. ⌜ (r ≤ 8704) × (r ≡ length (afterOf number (now (memory .entry)) (now (registers .entry))))
+        × (now (after .exit) ≡ over (afterOf number (now (memory .entry)) (now (registers .entry))) (now (after .entry))) ⌝ }
 {
     if number != 0 {
         return 0;
@@ -158,8 +167,15 @@ fn finish(
     text: &mut [u8],
 ) -> Counts
     requires { ⌜ (length (now memory) ≡ 8192) × (length (now registers) ≡ 96) × (length (now out) ≡ 8192) × (length (now after) ≡ 8704) × (16697 ≤ length (now text)) ⌝ }
-    ensures text { λ r. ⌜ Shown (finished (ran (now (memory .entry)) (now (registers .entry)) (now (list .entry)) (now (items .entry)) (now (out .entry)))) r (now (text .entry)) (now (text .exit)) ⌝ }
-    ensures after { λ r. ⌜ now (after .exit) ≡ over (finished (ran (now (memory .entry)) (now (registers .entry)) (now (list .entry)) (now (items .entry)) (now (out .entry))) .after) (now (after .entry)) ⌝ }
+    ensures text { λ r. ⌜
+        Shown (finished (ran (record { memory = now (memory .entry); registers = now (registers .entry); list = now (list .entry); items = now (items .entry); out = now (out .entry) })))
+        r (now (text .entry)) (now (text .exit))
+        ⌝ }
+    ensures after { λ r. ⌜
+        now (after .exit)
+        ≡ over (finished (ran (record { memory = now (memory .entry); registers = now (registers .entry); list = now (list .entry); items = now (items .entry); out = now (out .entry) })) .after)
+        (now (after .entry))
+        ⌝ }
 {
     let a = module::run(memory, registers, list, items, out);
     let n = print_run(a, out, text);
@@ -167,7 +183,9 @@ fn finish(
     Counts { text: n, after: w }
 }
 
-// The program, from what was found of before.pic, run.lst and in.itm and the buffers that they were read into: the text to print, and the bytes of after.pic. What stands behind either stays, and all of after.pic's buffer where it is not to be written.
+// The program, from what was found of before.pic, run.lst and in.itm and the buffers that they were read into: the text to
+// print, and the bytes of after.pic. What stands behind either stays, and all of after.pic's buffer where it is not to be
+// written.
 pub fn session(
     p: Found,
     l: Found,
@@ -179,24 +197,26 @@ pub fn session(
     text: &mut [u8],
 ) -> Counts
     requires { ⌜ (length (now after) ≡ 8704) × (16697 ≤ length (now text)) ⌝ }
-    ensures text { λ r. ⌜ Shown (outcome (fileOf p (now (picture .entry))) (fileOf l (now (list .entry))) (fileOf i (now (items .entry)))) r (now (text .entry)) (now (text .exit)) ⌝ }
-    ensures after { λ r. ⌜ now (after .exit) ≡ over (outcome (fileOf p (now (picture .entry))) (fileOf l (now (list .entry))) (fileOf i (now (items .entry))) .after) (now (after .entry)) ⌝ }
+    ensures text { λ r. ⌜ Shown (outcome (fileOf p (now (picture .entry))) (fileOf l (now (list .entry)))
+        (fileOf i (now (items .entry)))) r (now (text .entry)) (now (text .exit)) ⌝ }
+    ensures after { λ r. ⌜ now (after .exit) ≡ over (outcome (fileOf p (now (picture .entry))) (fileOf l (now (list .entry)))
+        (fileOf i (now (items .entry))) .after) (now (after .entry)) ⌝ }
 {
     let mut memory = blank();
     let mut registers = [0u8; 96];
     let read_p = take_picture(p, picture, &mut memory, &mut registers);
     if read_p.number != 0 {
-        return refuse(b'p', read_p, text);
+        return print_line(b'p', read_p, text);
     }
     let mut instructions = blank();
     let read_l = take_content(l, 2, list, &mut instructions);
     if read_l.number != 0 {
-        return refuse(b'l', read_l, text);
+        return print_line(b'l', read_l, text);
     }
     let mut lent = blank();
     let read_i = take_content(i, 3, items, &mut lent);
     if read_i.number != 0 {
-        return refuse(b'i', read_i, text);
+        return print_line(b'i', read_i, text);
     }
     let n = read_l.bytes;
     let m = read_i.bytes;

@@ -80,7 +80,7 @@ fn call_step(
         return only(0);
     }
     let old = registers::rows::registers_of(registers);
-    let r = advance(memory, out, items, old, instruction);
+    let r = advance(memory, old, instruction, items, out);
     let answer = r.answer;
     let regs = r.regs;
     registers::rows::write_registers(registers, regs);
@@ -166,7 +166,7 @@ fn call_both(
 }
 
 // What an entry of the disk answered.
-fn of_disk(r: contents::Answer) -> Five {
+fn of_disk(r: contents::Moved) -> Five {
     Five {
         a: r.number as u32,
         b: narrow(r.place),

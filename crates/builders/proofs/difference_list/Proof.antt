@@ -2,7 +2,7 @@
 use borrow.Author.Needs.{needs}
 use denote.Ref.{now}
 use Rattle.builders.specs.Lists.{encoded}
-use Rattle.builders.specs.Fields.{differenceList, differenceBuilt}
+use Rattle.builders.specs.Sums.{differenceList, differenceBuilt}
 use Rattle.builders.proofs.ListLaws.{difference-length}
 use Rattle.builders.proofs.Refusals.{sound, built-refused, built-done}
 use Rattle.builders.proofs.difference_list.Statement.{statement}

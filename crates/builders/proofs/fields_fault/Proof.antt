@@ -3,7 +3,7 @@ use mathlib.Core.Path.{_≡_, refl, ap, ap₂, _∙_}
 use mathlib.Core.Bool.{Bool, cond, _||_}
 use Prim.Native.Nat.{ℕ}
 use lib.Dec.{ltb}
-use Rattle.builders.specs.Fields.{wrongWidth, fieldsFault}
+use Rattle.builders.specs.Sums.{wrongWidth, fieldsFault}
 use borrow.Author.Needs.{needs}
 use Rattle.builders.proofs.fields_fault.Statement.{statement}
 use Rattle.builders.proofs.fields_fault.Tie as tie

@@ -2,7 +2,7 @@
 use borrow.Author.Needs.{needs}
 use denote.Ref.{now}
 use Rattle.builders.specs.Lists.{encoded}
-use Rattle.builders.specs.Fields.{sumList, sumBuilt}
+use Rattle.builders.specs.Sums.{sumList, sumBuilt}
 use Rattle.builders.proofs.ListLaws.{sum-length}
 use Rattle.builders.proofs.Refusals.{sound, built-refused, built-done}
 use Rattle.builders.proofs.sum_list.Statement.{statement}

@@ -10,10 +10,10 @@ use borrow.Author.Needs.{needs}
 use borrow.Rule.Slice.PartMut.{mid-len}
 use denote.Ref.{now}
 use Rattle.contents.specs.File.{contentOf}
-use Rattle.contents.proofs.FileLaws.{Stands, judge-stands}
+use Rattle.contents.proofs.FileLaws.{Stands, file-stands}
 use Rattle.contents.proofs.PayloadLaws.{payloads-room, content-read}
-use Rattle.contents.specs.Content.{targetFits}
-use Rattle.contents.proofs.AnswerLaws.{read-refused, read-26, read-done, changed-not, changed-done, refused-not}
+use Rattle.contents.specs.Content.{targetFits, contentRead}
+use Rattle.contents.proofs.AnswerLaws.{read-refused, read-26, read-done, left-old, left-new, refused-not}
 use Rattle.contents.proofs.read_content.Statement.{statement}
 use Rattle.contents.proofs.read_content.Tie as tie
 
@@ -21,43 +21,44 @@ use Rattle.contents.proofs.read_content.Tie as tie
 stands : (c : tie.Else3) → (let a = c .before .before .before .before .before .before .args in Stands (a .kind) (now (a .bytes)))
 stands c =
     let a = c .before .before .before .before .before .before .args in
-    judge-stands (a .kind) (now (a .bytes)) (sym (ap (λ x. x .number) (c .before .before .before .judge .ensures)) ∙ c .before .before .if1 .left)
+    file-stands (a .kind) (now (a .bytes)) (sym (ap (λ x. x .number) (c .before .before .before .judge-file .ensures)) ∙ c .before .before .if1 .left)
 
-judge-requires : tie.Need-judge-requires
-judge-requires c κs = search needs
+judge-file-requires : tie.Need-judge-file-requires
+judge-file-requires c κs = search needs
 
 returns : tie.Need-returns
+unfolding contentRead
 returns c =
     let a = c .before .before .before .before .args in
-    let j = c .before .judge in
-    (read-refused (a .kind) (now (a .bytes)) _ (j .result) (j .ensures) (c .if1 .taken), changed-not (j .result) _ (now (a .target)) (c .if1 .taken))
+    let j = c .before .judge-file in
+    left-old (j .result) _ _ _ (read-refused (a .kind) (now (a .bytes)) _ (j .result) (j .ensures) (c .if1 .taken)) (c .if1 .taken)
 
-refuse-requires : tie.Need-refuse-requires
-refuse-requires c κs = search needs
+refused-requires : tie.Need-refused-requires
+refused-requires c κs = search needs
 
 returns-2 : tie.Need-returns-2
+unfolding contentRead
 returns-2 c =
     let a = c .before .before .before .before .before .before .args in
-    let j = c .before .before .before .judge in
-    let f : targetFits (a .kind) (now (a .bytes)) (now (a .target)) ≡ false = ap (λ (t : Bool). t && leb (length (contentOf (now (a .bytes)))) (length (now (a .target)))) (le-ltb 1 (a .kind) (c .before .if2 .taken)) in (
-      c .refuse .ensures ∙ read-26 (a .kind) (now (a .bytes)) _ (j .result) (j .ensures) (c .before .before .if1 .left) f,
-      changed-not (c .refuse .result) _ (now (a .target)) (refused-not (c .refuse .result) 26 0 (c .refuse .ensures) (λ x. omega arith)),
-    )
+    let j = c .before .before .before .judge-file in
+    let f : targetFits (a .kind) (now (a .bytes)) (now (a .target)) ≡ false = ap (λ (t : Bool). t && leb (length (contentOf (now (a .bytes)))) (length (now (a .target)))) (le-ltb 1 (a .kind) (c .before .if2 .taken)) in
+    left-old (c .refused .result) _ _ _ (c .refused .ensures ∙ read-26 (a .kind) (now (a .bytes)) _ (j .result) (j .ensures) (c .before .before .if1 .left) f)
+    (refused-not (c .refused .result) 26 0 (c .refused .ensures) (λ x. omega arith))
 
-refuse-requires-2 : tie.Need-refuse-requires-2
-refuse-requires-2 c κs = search needs
+refused-requires-2 : tie.Need-refused-requires-2
+refused-requires-2 c κs = search needs
 
 returns-3 : tie.Need-returns-3
+unfolding contentRead
 returns-3 c =
     let a = c .before .before .before .before .before .before .before .args in
-    let j = c .before .before .before .before .judge in
+    let j = c .before .before .before .before .judge-file in
     let b = now (a .bytes) in
-    let s = judge-stands (a .kind) b (sym (ap (λ x. x .number) (j .ensures)) ∙ c .before .before .before .if1 .left) in
+    let s = file-stands (a .kind) b (sym (ap (λ x. x .number) (j .ensures)) ∙ c .before .before .before .if1 .left) in
     let l : length (now (a .target)) < length (contentOf b) = omega (arith, ap (λ x. x .bytes) (j .ensures ∙ s .answer), c .before .if3 .taken) in
-    let f : targetFits (a .kind) b (now (a .target)) ≡ false = ap₂ _&&_ (lt-ltb 1 (a .kind) (c .before .before .if2 .left)) (lt-leb (length (contentOf b)) (length (now (a .target))) l) in (
-      c .refuse2 .ensures ∙ read-26 (a .kind) b _ (j .result) (j .ensures) (c .before .before .before .if1 .left) f,
-      changed-not (c .refuse2 .result) _ (now (a .target)) (refused-not (c .refuse2 .result) 26 0 (c .refuse2 .ensures) (λ x. omega arith)),
-    )
+    let f : targetFits (a .kind) b (now (a .target)) ≡ false = ap₂ _&&_ (lt-ltb 1 (a .kind) (c .before .before .if2 .left)) (lt-leb (length (contentOf b)) (length (now (a .target))) l) in
+    left-old (c .refused2 .result) _ _ _ (c .refused2 .ensures ∙ read-26 (a .kind) b _ (j .result) (j .ensures) (c .before .before .before .if1 .left) f)
+    (refused-not (c .refused2 .result) 26 0 (c .refused2 .ensures) (λ x. omega arith))
 
 sub-part-of : tie.Need-sub-part-of
 sub-part-of c = search needs
@@ -71,7 +72,7 @@ part-part-of-end c = search needs
 part-of-requires : tie.Need-part-of-requires
 part-of-requires c κs =
     let a = c .before .before .before .before .before .before .before .args in
-    let j = c .before .before .before .before .judge in
+    let j = c .before .before .before .before .judge-file in
     let t = now (a .target) in
     let size = j .result .bytes in
     let s = stands (c .before) in
@@ -81,29 +82,29 @@ same-length : tie.Need-same-length
 same-length c = search needs
 
 returns-4 : tie.Need-returns-4
+unfolding contentRead
 returns-4 c =
     let e = c .before .before .before .before in
     let a = e .before .before .before .before .before .before .args in
-    let j = e .before .before .before .judge in
+    let j = e .before .before .before .judge-file in
     let b = now (a .bytes) in
     let t = now (a .target) in
     let z = e .before .before .if1 .left in
     let s = stands e in
     let n : j .result .bytes ≡ length (contentOf b) = ap (λ x. x .bytes) (j .ensures ∙ s .answer) in
-    let f : targetFits (a .kind) b t ≡ true = ap₂ _&&_ (lt-ltb 1 (a .kind) (e .before .if2 .left)) (le-leb (length (contentOf b)) (length t) (omega (arith, n, e .if3 .left))) in (
-      read-done (a .kind) b _ (j .result) (j .ensures) z f,
-      content-read (a .kind) b s t _ (j .result .bytes) n (e .if3 .left) (c .before .before .part-of .ensures) ∙ changed-done (j .result) _ t z,
-    )
+    let f : targetFits (a .kind) b t ≡ true = ap₂ _&&_ (lt-ltb 1 (a .kind) (e .before .if2 .left)) (le-leb (length (contentOf b)) (length t) (omega (arith, n, e .if3 .left))) in
+    left-new (j .result) _ _ _ (read-done (a .kind) b _ (j .result) (j .ensures) z f) _
+    (content-read (a .kind) b s t _ (j .result .bytes) n (e .if3 .left) (c .before .before .part-of .ensures)) z
 
 pub read-content-spec : {M : Type 1} → statement M
 read-content-spec =
     tie.close
     (tie.spec
-    judge-requires
+    judge-file-requires
     returns
-    refuse-requires
+    refused-requires
     returns-2
-    refuse-requires-2
+    refused-requires-2
     returns-3
     sub-part-of
     part-part-of-start

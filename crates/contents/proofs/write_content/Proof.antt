@@ -9,11 +9,11 @@ use borrow.Author.Tests.{le-ltb, lt-ltb, not-true, not-false}
 use borrow.Author.Needs.{needs}
 use denote.Ref.{now}
 use Rattle.contents.specs.File.{kindRight, sizeFits, done, blockCount, blocksOf}
-use Rattle.contents.specs.Content.{over, contentFits}
+use Rattle.contents.specs.Content.{over, contentFits, contentWritten}
 use Rattle.contents.specs.Payloads.{payloads}
 use Rattle.contents.proofs.FileLaws.{size-le, kind-le}
 use Rattle.contents.proofs.PayloadLaws.{laid-sealed}
-use Rattle.contents.proofs.AnswerLaws.{write-22, write-26, write-27, write-done, changed-not, changed-done, refused-not}
+use Rattle.contents.proofs.AnswerLaws.{write-22, write-26, write-27, write-done, left-old, left-new, refused-not}
 use Rattle.contents.proofs.write_content.Statement.{statement}
 use Rattle.contents.proofs.write_content.Tie as tie
 
@@ -29,37 +29,43 @@ both c = ap₂ _&&_ (lt-ltb 1 (c .before .before .before .before .before .before
 kind-right-requires : tie.Need-kind-right-requires
 kind-right-requires c κs = search needs
 
-refuse-requires : tie.Need-refuse-requires
-refuse-requires c κs = search needs
+refused-requires : tie.Need-refused-requires
+refused-requires c κs = search needs
 
 returns : tie.Need-returns
+unfolding contentWritten
 returns c =
     let a = c .before .before .before .before .before .args in
-    let r = c .refuse in
-    (r .ensures ∙ write-22 (a .kind) _ _ _ (sym (c .before .before .kind-right .ensures) ∙ not-true _ (c .before .if1 .taken)), changed-not (r .result) _ (now (a .out)) (refused-not (r .result) 22 0 (r .ensures) (λ x. omega arith)))
+    let r = c .refused in
+    left-old (r .result) _ _ _ (r .ensures ∙ write-22 (a .kind) _ _ _ (sym (c .before .before .kind-right .ensures) ∙ not-true _ (c .before .if1 .taken)))
+    (refused-not (r .result) 22 0 (r .ensures) (λ x. omega arith))
 
-refuse-requires-2 : tie.Need-refuse-requires-2
-refuse-requires-2 c κs = search needs
+refused-requires-2 : tie.Need-refused-requires-2
+refused-requires-2 c κs = search needs
 
 returns-2 : tie.Need-returns-2
+unfolding contentWritten
 returns-2 c =
     let a = c .before .before .before .before .before .before .args in
-    let r = c .refuse2 in
+    let r = c .refused2 in
     let f : contentFits (a .kind) (now (a .content)) ≡ false = ap (λ (t : Bool). t && sizeFits (a .kind) (length (now (a .content)))) (le-ltb 1 (a .kind) (c .before .if2 .taken)) in
-    (r .ensures ∙ write-26 (a .kind) _ _ _ (kind-ok (c .before .before)) f, changed-not (r .result) _ (now (a .out)) (refused-not (r .result) 26 0 (r .ensures) (λ x. omega arith)))
+    left-old (r .result) _ _ _ (r .ensures ∙ write-26 (a .kind) _ _ _ (kind-ok (c .before .before)) f)
+    (refused-not (r .result) 26 0 (r .ensures) (λ x. omega arith))
 
 size-fits-requires : tie.Need-size-fits-requires
 size-fits-requires c κs = search needs
 
-refuse-requires-3 : tie.Need-refuse-requires-3
-refuse-requires-3 c κs = search needs
+refused-requires-3 : tie.Need-refused-requires-3
+refused-requires-3 c κs = search needs
 
 returns-3 : tie.Need-returns-3
+unfolding contentWritten
 returns-3 c =
     let a = c .before .before .before .before .before .before .before .before .args in
-    let r = c .refuse3 in
+    let r = c .refused3 in
     let f : contentFits (a .kind) (now (a .content)) ≡ false = ap₂ _&&_ (lt-ltb 1 (a .kind) (c .before .before .before .if2 .left)) (sym (c .before .before .size-fits .ensures) ∙ not-true _ (c .before .if3 .taken)) in
-    (r .ensures ∙ write-26 (a .kind) _ _ _ (kind-ok (c .before .before .before .before)) f, changed-not (r .result) _ (now (a .out)) (refused-not (r .result) 26 0 (r .ensures) (λ x. omega arith)))
+    left-old (r .result) _ _ _ (r .ensures ∙ write-26 (a .kind) _ _ _ (kind-ok (c .before .before .before .before)) f)
+    (refused-not (r .result) 26 0 (r .ensures) (λ x. omega arith))
 
 block-count-requires : tie.Need-block-count-requires
 block-count-requires c κs = size-le (c .before .before .before .before .before .before .before .args .kind) _ (fit-ok c)
@@ -67,15 +73,17 @@ block-count-requires c κs = size-le (c .before .before .before .before .before 
 mul-if4 : tie.Need-mul-if4
 mul-if4 c = search needs
 
-refuse-requires-4 : tie.Need-refuse-requires-4
-refuse-requires-4 c κs = search needs
+refused-requires-4 : tie.Need-refused-requires-4
+refused-requires-4 c κs = search needs
 
 returns-4 : tie.Need-returns-4
+unfolding contentWritten
 returns-4 c =
     let a = c .before .before .before .before .before .before .before .before .before .before .args in
-    let r = c .refuse4 in
+    let r = c .refused4 in
     let h : length (now (a .out)) < 512 * blockCount (length (now (a .content))) = omega (arith, c .before .before .block-count .ensures, c .before .if4 .taken) in
-    (r .ensures ∙ write-27 (a .kind) _ _ _ (kind-ok (c .before .before .before .before .before .before)) (both (c .before .before .before)) h, changed-not (r .result) _ (now (a .out)) (refused-not (r .result) 27 0 (r .ensures) (λ x. omega arith)))
+    left-old (r .result) _ _ _ (r .ensures ∙ write-27 (a .kind) _ _ _ (kind-ok (c .before .before .before .before .before .before)) (both (c .before .before .before)) h)
+    (refused-not (r .result) 27 0 (r .ensures) (λ x. omega arith))
 
 put-part-requires : tie.Need-put-part-requires
 put-part-requires c κs = omega (arith, c .before .before .block-count .ensures, c .before .if4 .left)
@@ -89,49 +97,50 @@ seal-all-requires c κs =
     let n = e .before .block-count .ensures in
     (omega arith, omega arith, n, omega arith)
 
-mul-finish : tie.Need-mul-finish
-mul-finish c = search needs
+mul-done : tie.Need-mul-done
+mul-done c = search needs
 
-finish-requires : tie.Need-finish-requires
-finish-requires c κs = search needs
+done-requires : tie.Need-done-requires
+done-requires c κs = search needs
 
 same-length : tie.Need-same-length
 same-length c = search needs
 
 returns-5 : tie.Need-returns-5
+unfolding contentWritten
 returns-5 c =
     let d = c .before .before .before .before .before .before .before .before .before in
     let a = d .before .before .before .before .before .before .before .before .before .args in
-    let r = c .finish in
+    let r = c .done in
     let e : d .before .block-count .result ≡ blockCount (length (now (a .content))) = d .before .block-count .ensures in
     let h : 512 * blockCount (length (now (a .content))) ≤ length (now (a .out)) = omega (arith, e, d .if4 .left) in
-    let p = c .before .before .before .before .before .before .before .put-part in (
-      r .ensures ∙ ap (λ (k : ℕ). done (512 * k)) e ∙ write-done (a .kind) _ _ _ (kind-ok (d .before .before .before .before .before)) (both (d .before .before)) h,
-      c .before .before .before .seal-all .ensures
-          ∙ ap (λ (l : List ℕ). over (blocksOf (a .kind) (payloads l 0 (length (now (a .content))))) l) (p .ensures)
-          ∙ laid-sealed (now (a .content)) (now (a .out)) h (a .kind)
-          ∙ changed-done (r .result) _ (now (a .out)) (ap (λ x. x .number) (r .ensures)),
-    )
+    let p = c .before .before .before .before .before .before .before .put-part in
+    left-new (r .result) _ _ _
+    (r .ensures ∙ ap (λ (k : ℕ). done (512 * k)) e ∙ write-done (a .kind) _ _ _ (kind-ok (d .before .before .before .before .before)) (both (d .before .before)) h) _
+    (c .before .before .before .seal-all .ensures
+    ∙ ap (λ (l : List ℕ). over (blocksOf (a .kind) (payloads l 0 (length (now (a .content))))) l) (p .ensures)
+    ∙ laid-sealed (now (a .content)) (now (a .out)) h (a .kind))
+    (ap (λ x. x .number) (r .ensures))
 
 pub write-content-spec : {M : Type 1} → statement M
 write-content-spec =
     tie.close
     (tie.spec
     kind-right-requires
-    refuse-requires
+    refused-requires
     returns
-    refuse-requires-2
+    refused-requires-2
     returns-2
     size-fits-requires
-    refuse-requires-3
+    refused-requires-3
     returns-3
     block-count-requires
     mul-if4
-    refuse-requires-4
+    refused-requires-4
     returns-4
     put-part-requires
     seal-all-requires
-    mul-finish
-    finish-requires
+    mul-done
+    done-requires
     same-length
     returns-5)

@@ -8,7 +8,7 @@ use Rattle.bits.specs.Search.{first}
 use Rattle.bits.proofs.Search.{count-le}
 use Rattle.judge.specs.declared.Answer.{Answer}
 use Rattle.judge.specs.Judge.{instructionAt, takes, gives, faultOf, faulty, refusal, done}
-use Rattle.judge.proofs.Verdicts.{list-bad, list-item, list-room, list-done}
+use Rattle.judge.proofs.Numbers.{list-bad, list-item, list-room, list-done}
 use Rattle.judge.proofs.Shortage.{enough, lacking, tally-place, tally-whole}
 use borrow.Author.Needs.{needs}
 use Rattle.judge.proofs.judge_list.Statement.{statement}
@@ -40,7 +40,7 @@ returns c =
     c .refused .ensures
     ∙ ap (λ (v : ℕ). refusal v (d .tally .result .place)) (c .before .fault .ensures ∙ ap faultOf (c .before .before .decode .ensures))
     ∙ ap (λ (k : ℕ). refusal (faultOf (instructionAt list k)) k) p
-    ∙ sym (list-bad list (a .items) (a .out) (omega arith))
+    ∙ sym (list-bad (a .l) list (omega arith))
 
 mul-if2 : tie.Need-mul-if2
 mul-if2 c =
@@ -56,17 +56,17 @@ refused-requires-2 c κs = search needs
 
 returns-2 : tie.Need-returns-2
 returns-2 c =
-    let e = c .before .before .before .before in
+    let e = c .before .before .before .before .before in
     let a = e .before .before .before .args in
     let list = now (a .list) in
     let w = whole e in
-    let l = lacking takes list (a .items) (length list / 8) (omega arith) in
-    c .refused2 .ensures ∙ ap (refusal 12) (c .before .shortage .ensures) ∙ sym (list-item list (a .items) (a .out) (w .0) l)
+    let l = lacking takes list (a .l .items) (length list / 8) (omega arith) in
+    c .refused2 .ensures ∙ ap (refusal 12) (c .before .shortage .ensures) ∙ sym (list-item (a .l) list (w .0) l)
 
 mul-if3 : tie.Need-mul-if3
 mul-if3 c =
-    let list = now (c .before .before .before .before .before .before .args .list) in
-    let w = whole (c .before .before .before) in
+    let list = now (c .before .before .before .before .before .before .before .args .list) in
+    let w = whole (c .before .before .before .before) in
     omega (arith, count-le (λ k. gives (instructionAt list k)) (length list / 8))
 
 shortage-requires-2 : tie.Need-shortage-requires-2
@@ -77,24 +77,24 @@ refused-requires-3 c κs = search needs
 
 returns-3 : tie.Need-returns-3
 returns-3 c =
+    let e = c .before .before .before .before .before .before .before .before in
+    let a = e .before .before .before .args in
+    let list = now (a .list) in
+    let w = whole e in
+    let f = enough takes list (a .l .items) (length list / 8) (omega arith) in
+    let l = lacking gives list (a .l .out) (length list / 8) (omega arith) in
+    c .refused3 .ensures ∙ ap (refusal 13) (c .before .shortage2 .ensures) ∙ sym (list-room (a .l) list (w .0) f l)
+
+returns-4 : tie.Need-returns-4
+returns-4 c =
     let e = c .before .before .before .before .before .before in
     let a = e .before .before .before .args in
     let list = now (a .list) in
     let w = whole e in
-    let f = enough takes list (a .items) (length list / 8) (omega arith) in
-    let l = lacking gives list (a .out) (length list / 8) (omega arith) in
-    c .refused3 .ensures ∙ ap (refusal 13) (c .before .shortage2 .ensures) ∙ sym (list-room list (a .items) (a .out) (w .0) f l)
-
-returns-4 : tie.Need-returns-4
-returns-4 c =
-    let e = c .before .before .before .before in
-    let a = e .before .before .before .args in
-    let list = now (a .list) in
-    let w = whole e in
-    let f = enough takes list (a .items) (length list / 8) (omega arith) in
-    let g = enough gives list (a .out) (length list / 8) (omega arith) in
+    let f = enough takes list (a .l .items) (length list / 8) (omega arith) in
+    let g = enough gives list (a .l .out) (length list / 8) (omega arith) in
     ap₂ {A = ℕ} {B = ℕ} {C = Answer} (λ (x y : ℕ). record { number = 0; place = 0; steps = length list / 8; taken = x; given = y }) (w .1) (w .2)
-    ∙ sym (list-done list (a .items) (a .out) (w .0) f g)
+    ∙ sym (list-done (a .l) list (w .0) f g)
 
 pub judge-list-spec : {M : Type 1} → statement M
 judge-list-spec =

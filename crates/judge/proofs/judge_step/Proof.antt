@@ -1,36 +1,27 @@
--- `judge::judge_step`: by the length of the instruction. Assumes nothing.
-use mathlib.Core.Path.{_≡_, sym, ap, _∙_}
-use mathlib.Core.Bool.{Bool, cond}
-use mathlib.Core.List.{List}
+-- `judge::judge_step`: what a step is lent, then its instruction. Assumes nothing.
+use mathlib.Core.Path.{_≡_, refl, sym, ap, _∙_}
 use Prim.Native.Nat.{ℕ}
 use denote.Ref.{now}
-use Rattle.judge.specs.declared.Answer.{Answer}
-use Rattle.judge.specs.Judge.{refusal, judged, judgedStep}
+use Rattle.bits.proofs.Rows.{number-none}
+use Rattle.judge.specs.Judge.{stepRows, refusal, orElse, judgedList, judgedBy}
+use Rattle.judge.proofs.Accepted.{step-fit}
 use borrow.Author.Needs.{needs}
 use Rattle.judge.proofs.judge_step.Statement.{statement}
 use Rattle.judge.proofs.judge_step.Tie as tie
 
--- the answer by the test
-by-test : ℕ → List ℕ → ℕ → ℕ → Bool → Answer
-by-test mem instruction items out t = cond t (refusal 3 0) (judged mem 96 instruction items out)
+step-fault-requires : tie.Need-step-fault-requires
+step-fault-requires c κs = search needs
 
-refused-requires : tie.Need-refused-requires
-refused-requires c κs = search needs
+judge-by-requires : tie.Need-judge-by-requires
+judge-by-requires c κs =
+    let a = c .before .before .args in
+    λ z. step-fit (a .l) (now (a .instruction)) (number-none (stepRows (a .l) (now (a .instruction))) refl (sym (c .step-fault .ensures) ∙ z))
 
 returns : tie.Need-returns
-unfolding judgedStep by-test
+unfolding judgedBy
 returns c =
     let a = c .before .before .before .args in
-    c .refused .ensures ∙ sym (ap (by-test (a .memory) (now (a .instruction)) (a .items) (a .out)) (c .before .if1 .taken))
-
-judge-requires : tie.Need-judge-requires
-judge-requires c κs = search needs
-
-returns-2 : tie.Need-returns-2
-unfolding judgedStep by-test
-returns-2 c =
-    let a = c .before .before .before .args in
-    c .judge .ensures ∙ sym (ap (by-test (a .memory) (now (a .instruction)) (a .items) (a .out)) (c .before .if1 .left))
+    c .judge-by .ensures ∙ ap (λ (n : ℕ). orElse (refusal n 0) (judgedList (a .l) (now (a .instruction)))) (c .before .step-fault .ensures)
 
 pub judge-step-spec : {M : Type 1} → statement M
-judge-step-spec = tie.close (tie.spec refused-requires returns judge-requires returns-2)
+judge-step-spec = tie.close (tie.spec step-fault-requires judge-by-requires returns)

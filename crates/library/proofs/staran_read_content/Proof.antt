@@ -9,15 +9,14 @@ read-content-requires c κs = search needs
 
 three-requires : tie.Need-three-requires
 three-requires c κs =
-    read-small _ _ _ _ (c .before .before .read-content .ensures .0)
+    read-small _ _ _ _ (c .before .before .read-content .ensures)
 
 same-length : tie.Need-same-length
 same-length c = search needs
 
 returns : tie.Need-returns
 returns c =
-    let k = c .before .before .before in
-    read-left _ _ _ _ _ _ (k .read-content .ensures .0) (k .read-content .ensures .1) (c .three .ensures)
+    read-left _ _ _ _ (c .before .before .before .read-content .ensures) _ (c .three .ensures)
 
 pub staran-read-content-spec : {M : Type 1} → statement M
 staran-read-content-spec =

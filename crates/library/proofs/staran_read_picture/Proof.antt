@@ -1,6 +1,6 @@
 -- `staran_read_picture`: what the entry leaves, and its answer as three numbers. Assumes nothing.
 use borrow.Author.Needs.{needs}
-use Rattle.library.proofs.LeftLaws.{read-small, read-picture-left}
+use Rattle.library.proofs.LeftLaws.{read-picture-small, read-picture-left}
 use Rattle.library.proofs.staran_read_picture.Statement.{statement}
 use Rattle.library.proofs.staran_read_picture.Tie as tie
 
@@ -9,7 +9,7 @@ read-picture-requires c κs = search needs
 
 three-requires : tie.Need-three-requires
 three-requires c κs =
-    read-small _ _ _ _ (c .before .before .before .before .read-picture .ensures .0)
+    read-picture-small _ _ _ _ _ (c .before .before .before .before .read-picture .ensures)
 
 same-length : tie.Need-same-length
 same-length c = search needs
@@ -19,8 +19,7 @@ same-length-2 c = search needs
 
 returns : tie.Need-returns
 returns c =
-    let k = c .before .before .before .before .before in
-    read-picture-left _ _ _ _ _ _ _ _ (k .read-picture .ensures .0) (k .read-picture .ensures .1 .0) (k .read-picture .ensures .1 .1) (c .three .ensures)
+    read-picture-left _ _ _ _ _ (c .before .before .before .before .before .read-picture .ensures) _ (c .three .ensures)
 
 pub staran-read-picture-spec : {M : Type 1} → statement M
 staran-read-picture-spec =

@@ -9,7 +9,7 @@ run-requires c κs = search needs
 
 five-requires : tie.Need-five-requires
 five-requires c κs =
-    ran-small _ _ _ _ _ _ (c .before .before .before .before .before .before .run .ensures)
+    ran-small _ _ (c .before .before .before .before .before .before .run .ensures)
 
 same-length : tie.Need-same-length
 same-length c = search needs
@@ -22,7 +22,7 @@ same-length-3 c = search needs
 
 returns : tie.Need-returns
 returns c =
-    run-left _ _ _ _ _ _ _ (c .before .before .before .before .before .before .before .run .ensures) (c .five .ensures)
+    run-left _ _ _ (c .before .before .before .before .before .before .before .run .ensures) (c .five .ensures)
 
 pub staran-run-spec : {M : Type 1} → statement M
 staran-run-spec =

@@ -1,5 +1,4 @@
 -- `staran_write_content`: what the entry leaves, and its answer as three numbers. Assumes nothing.
-use denote.Ref.{now}
 use borrow.Author.Needs.{needs}
 use Rattle.library.proofs.LeftLaws.{write-small, write-left}
 use Rattle.library.proofs.staran_write_content.Statement.{statement}
@@ -10,16 +9,14 @@ write-content-requires c κs = search needs
 
 three-requires : tie.Need-three-requires
 three-requires c κs =
-    let k = c .before .before in
-    write-small _ (now (k .before .before .before .before .args .content)) _ _ (k .write-content .ensures .0)
+    write-small _ _ _ _ (c .before .before .write-content .ensures)
 
 same-length : tie.Need-same-length
 same-length c = search needs
 
 returns : tie.Need-returns
 returns c =
-    let k = c .before .before .before in
-    write-left _ _ _ _ _ _ (k .write-content .ensures .0) (k .write-content .ensures .1) (c .three .ensures)
+    write-left _ _ _ _ (c .before .before .before .write-content .ensures) _ (c .three .ensures)
 
 pub staran-write-content-spec : {M : Type 1} → statement M
 staran-write-content-spec =

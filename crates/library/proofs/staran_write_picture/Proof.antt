@@ -9,15 +9,14 @@ write-picture-requires c κs = search needs
 
 three-requires : tie.Need-three-requires
 three-requires c κs =
-    write-picture-small _ _ _ _ (c .before .before .write-picture .ensures .0)
+    write-picture-small _ _ _ _ _ (c .before .before .write-picture .ensures)
 
 same-length : tie.Need-same-length
 same-length c = search needs
 
 returns : tie.Need-returns
 returns c =
-    let k = c .before .before .before in
-    write-picture-left _ _ _ _ _ _ _ (k .write-picture .ensures .0) (k .write-picture .ensures .1) (c .three .ensures)
+    write-picture-left _ _ _ _ _ (c .before .before .before .write-picture .ensures) _ (c .three .ensures)
 
 pub staran-write-picture-spec : {M : Type 1} → statement M
 staran-write-picture-spec =

@@ -1,10 +1,23 @@
 -- `run`: judged first; then either nothing moves, or the record goes through the list and back. Assumes nothing.
 use mathlib.Core.Path.{_≡_}
+use mathlib.Core.List.{List}
+use Prim.Native.Nat.{ℕ}
 use denote.Ref.{now}
-use Rattle.module.proofs.RunLaws.{run-accepted, list-accepted, ran-done, steps-done, ran-still}
+use Rattle.module.specs.Run.{Lent}
+use Rattle.module.proofs.RunLaws.{registers-long, list-accepted, ran-done, steps-done, ran-still}
 use borrow.Author.Needs.{needs}
 use Rattle.module.proofs.run.Statement.{statement}
 use Rattle.module.proofs.run.Tie as tie
+
+-- what is lent, at the judge's answer
+abbrev lent : tie.After-judge → Lent (List ℕ)
+lent c =
+    let a = c .before .before .before .before .before .before .args in
+    record { memory = now (a .mem); registers = now (a .regs); list = now (a .list); items = now (a .items); out = now (a .out) }
+
+-- a run with steps is done
+done : (c : tie.Then1) → c .before .before .judge .result .number ≡ 0
+done c = let j = c .before .before .judge in steps-done (lent (c .before .before)) (j .result) (j .ensures) (c .if1 .taken)
 
 judge-requires : tie.Need-judge-requires
 judge-requires c κs = search needs
@@ -13,25 +26,19 @@ registers-of-requires : tie.Need-registers-of-requires
 registers-of-requires c κs =
     let t = c .before in
     let j = t .before .before .judge in
-    let a = t .before .before .before .before .before .before .before .before .args in
-    let z : j .result .number ≡ 0 = steps-done (now (a .mem)) (now (a .regs)) (now (a .list)) (now (a .items)) (now (a .out)) (j .result) (j .ensures) (t .if1 .taken) in
-    run-accepted (now (a .mem)) (now (a .regs)) (now (a .list)) (now (a .items)) (now (a .out)) (j .result) (j .ensures) z .registers
+    registers-long (lent (t .before .before)) (j .result) (j .ensures) (done t)
 
 run-list-requires : tie.Need-run-list-requires
 run-list-requires c κs =
     let t = c .before .before .before .before in
     let j = t .before .before .judge in
-    let a = t .before .before .before .before .before .before .before .before .args in
-    let z : j .result .number ≡ 0 = steps-done (now (a .mem)) (now (a .regs)) (now (a .list)) (now (a .items)) (now (a .out)) (j .result) (j .ensures) (t .if1 .taken) in
-    list-accepted (now (a .mem)) (now (a .regs)) (now (a .list)) (now (a .items)) (now (a .out)) (j .result) (j .ensures) z
+    list-accepted (lent (t .before .before)) (j .result) (j .ensures) (done t) (c .before .before .registers-of .result)
 
 write-registers-requires : tie.Need-write-registers-requires
 write-registers-requires c κs =
     let t = c .before .before .before .before .before .before .before .before .before .before .before in
     let j = t .before .before .judge in
-    let a = t .before .before .before .before .before .before .before .before .args in
-    let z : j .result .number ≡ 0 = steps-done (now (a .mem)) (now (a .regs)) (now (a .list)) (now (a .items)) (now (a .out)) (j .result) (j .ensures) (t .if1 .taken) in
-    run-accepted (now (a .mem)) (now (a .regs)) (now (a .list)) (now (a .items)) (now (a .out)) (j .result) (j .ensures) z .registers
+    registers-long (lent (t .before .before)) (j .result) (j .ensures) (done t)
 
 same-length : tie.Need-same-length
 same-length c = search needs
@@ -48,15 +55,13 @@ returns c =
     let r = c .before .before .before .before .before .before .before .before .before .before .before .before .registers-of in
     let t = c .before .before .before .before .before .before .before .before .before .before .before .before .before .before in
     let j = t .before .before .judge in
-    let a = t .before .before .before .before .before .before .before .before .args in
-    let z : j .result .number ≡ 0 = steps-done (now (a .mem)) (now (a .regs)) (now (a .list)) (now (a .items)) (now (a .out)) (j .result) (j .ensures) (t .if1 .taken) in
-    ran-done (now (a .mem)) (now (a .regs)) (now (a .list)) (now (a .items)) (now (a .out)) (j .result) (j .ensures) z (r .result) _ _ (r .ensures) (l .ensures) (c .before .before .write-registers .ensures)
+    ran-done (lent (t .before .before)) (j .result) (j .ensures) (done t) (r .result) _ _ (r .ensures) (l .ensures)
+    (c .before .before .write-registers .ensures)
 
 returns-2 : tie.Need-returns-2
 returns-2 c =
     let j = c .before .before .judge in
-    let a = c .before .before .before .before .before .before .before .before .args in
-    ran-still (now (a .mem)) (now (a .regs)) (now (a .list)) (now (a .items)) (now (a .out)) (j .result) (j .ensures) (c .if1 .left)
+    ran-still (lent (c .before .before)) (j .result) (j .ensures) (c .if1 .left)
 
 pub run-spec : {M : Type 1} → statement M
 run-spec =

@@ -1,25 +1,32 @@
 -- `run_list`: the state after k instructions is what `ranBy` says, and the counts are those of the list so far. Assumes nothing.
 use mathlib.Core.Path.{_≡_, refl, ap, _∙_}
-use Prim.Native.Nat.{_≤_, _-_, _/_}
+use mathlib.Core.List.{List}
+use Prim.Native.Nat.{ℕ, _≤_, _-_, _/_}
 use denote.Ref.{now}
 use lib.ListN.{length}
 use Rattle.bits.specs.Search.{count}
+use Rattle.registers.specs.declared.Registers.{Registers}
 use Rattle.judge.specs.Judge.{takes, gives}
 use Rattle.module.specs.Act.{State}
-use Rattle.module.specs.Run.{begun, ranBy}
+use Rattle.module.specs.Run.{Lent, begun, ranBy}
 use Rattle.module.proofs.RunLaws.{usedBy, ready-at, more-run, more-taken, more-given}
 use borrow.Author.Needs.{needs}
 use native.Mathlib.Omega.{arith}
 use Rattle.module.proofs.run_list.Statement.{statement}
 use Rattle.module.proofs.run_list.Tie as tie
 
+-- what is lent
+abbrev lent : List ℕ → Registers → List ℕ → List ℕ → List ℕ → Lent Registers
+lent mem r list items out = record { memory = mem; registers = r; list = list; items = items; out = out }
+
 abbrev Inv-loop : tie.InvT-loop
-Inv-loop mem₀ out₀ items list n s₀ taken₀ given₀ k₀ mem out s taken given k =
+Inv-loop mem₀ list items out₀ n s₀ taken₀ given₀ k₀ mem out s taken given k =
     (k ≤ n) × (length mem ≡ length mem₀) × (length out ≡ length out₀) × (taken ≡ usedBy takes list k) × (given ≡ usedBy gives list k)
-    × (_≡_ {A = State} (record { mem = mem; out = out; regs = s; taken = taken; given = given }) (ranBy list items (begun mem₀ out₀ s₀) k))
+    × (_≡_ {A = State} (record { mem = mem; out = out; regs = s; taken = taken; given = given })
+    (ranBy list items (begun (lent mem₀ s₀ list items out₀) s₀) k))
 
 abbrev μ-loop : tie.MeasureT-loop
-μ-loop mem₀ out₀ items list n s₀ taken₀ given₀ k₀ mem out s taken given k = n - k
+μ-loop mem₀ list items out₀ n s₀ taken₀ given₀ k₀ mem out s taken given k = n - k
 
 loop-holds : tie.Need-loop-holds Inv-loop μ-loop
 unfolding ranBy count
@@ -31,9 +38,10 @@ decode-requires c κs = omega arith
 act-requires : tie.Need-act-requires Inv-loop μ-loop
 act-requires c κs =
     let l = c .before .before .before .before .loop in
-    let a = c .before .before .before .before .before .before .before .before .before .args in
-    ready-at (now (a .list)) (now (a .mem)) (now (a .out)) (now (a .items)) (l .mem) (l .out) (l .k) (c .decode .result) (l .taken) (l .given) (c .before .before .before .before .before .before .before .before .before .pre) (omega arith)
-    (c .decode .ensures) (l .inv .1) (l .inv .2) (l .inv .3) (l .inv .4)
+    let s = c .before .before .before .before .before .before .before .before .before in
+    let a = s .args in
+    ready-at (lent (now (a .mem)) (a .r) (now (a .list)) (now (a .items)) (now (a .out))) (l .mem) (l .out) (l .k) (c .before .decode .result) (l .taken) (l .given)
+    (s .pre) (omega arith) (c .before .decode .ensures) (l .inv .1) (l .inv .2) (l .inv .3) (l .inv .4)
 
 add-k : tie.Need-add-k Inv-loop μ-loop
 add-k c = omega arith
@@ -46,14 +54,14 @@ loop-again c =
     let d = c .before .before .before .before .before in
     let l = d .before .before .before .before .before .loop in
     let a = d .before .before .before .before .before .before .before .before .before .before .args in
-    let e = d .before .decode .ensures in
+    let e = d .before .before .decode .ensures in
     let old : State = record { mem = l .mem; out = l .out; regs = l .s; taken = l .taken; given = l .given } in (
       omega arith,
       omega arith,
       omega arith,
       more-taken (now (a .list)) (now (a .items)) (l .k) _ e old _ (d .act .ensures) (l .inv .3),
       more-given (now (a .list)) (now (a .items)) (l .k) _ e old _ (d .act .ensures) (l .inv .4),
-      more-run (now (a .list)) (now (a .items)) (l .k) _ e old _ (d .act .ensures) (begun (now (a .mem)) (now (a .out)) (a .r)) (l .inv .5),
+      more-run (now (a .list)) (now (a .items)) (l .k) _ e old _ (d .act .ensures) (begun (lent (now (a .mem)) (a .r) (now (a .list)) (now (a .items)) (now (a .out))) (a .r)) (l .inv .5),
     )
 
 same-length : tie.Need-same-length Inv-loop μ-loop
@@ -67,7 +75,7 @@ returns c =
     let l = c .before .loop in
     let a = c .before .before .before .before .before .before .args in
     let e : l .k ≡ length (now (a .list)) / 8 = omega arith in
-    l .inv .5 ∙ ap (ranBy (now (a .list)) (now (a .items)) (begun (now (a .mem)) (now (a .out)) (a .r))) e
+    l .inv .5 ∙ ap (ranBy (now (a .list)) (now (a .items)) (begun (lent (now (a .mem)) (a .r) (now (a .list)) (now (a .items)) (now (a .out))) (a .r))) e
 
 pub run-list-spec : {M : Type 1} → statement M
 run-list-spec =

@@ -41,8 +41,9 @@ use denote.Triple.Table.{entered, cited}
 use denote.Triple.Walked.{says, Stays, stay-ref, stay-dropped, gave-slice, walkOf, AllGo, goes-ref, goes-dropped, goes-gave-slice, Walks, ends-at, walked, walk-meets}
 use denote.Triple.Clauses.{ensured, lasts}
 use denote.Exit.{yes}
-use Rattle.module.specs.Run.{Updated, stepped}
+use Rattle.module.specs.Run.{Lent, Left, stepped}
 use Rattle.registers.specs.declared.Registers.{Registers}
+use Rattle.judge.specs.declared.Answer.{Answer}
 use Rattle.module.specs.declared.Stepped.{Stepped}
 use Rattle.registers.proofs.Registers as T
 use Rattle.registers.proofs.Registers.Laws as T′
@@ -69,7 +70,7 @@ B = plain (λ _. u8)
 
 -- the record is still had at exit; the buffers were given to `advance`; of the items and the instruction nothing is needed
 abbrev stayed : Stays (step.ended .signature .params) (step.ended .kept)
-stayed = (gave-slice (0 ∷ []) tt B, (stay-ref (1 ∷ []) tt (plain (λ _. R)), (stay-dropped (shrSliceOf (2 ∷ []) tt B) yes, (gave-slice (3 ∷ []) tt B, (stay-dropped (shrSliceOf (4 ∷ []) tt B) yes, tt)))))
+stayed = (gave-slice (0 ∷ []) tt B, (stay-ref (1 ∷ []) tt (plain (λ _. R)), (stay-dropped (shrSliceOf (2 ∷ []) tt B) yes, (stay-dropped (shrSliceOf (3 ∷ []) tt B) yes, (gave-slice (4 ∷ []) tt B, tt)))))
 
 abbrev vals : Registers → List Val
 vals = LL.vals T.the-type T′.the-laws
@@ -84,53 +85,53 @@ val x = sliceVal (x .ptr) (length (x .now))
 abbrev Advance : {M : Type 1} (𝓤 : URA M) (H : Heap 𝓤) (A : Atoms 𝓤) (mem : Memory → SProp 𝓤) (run : Routine → Fun 𝓤) → Contract 𝓤
 Advance 𝓤 H A mem run = tripleOf 𝓤 H A advance.signature (advance.spec 𝓤 H A mem run)
 
-module _ {M : Type 1} (𝓤 : URA M) (H : Heap 𝓤) (A : Atoms 𝓤) (W : Given 𝓤 H A) (at-mem : Memory → SProp 𝓤) (run : Routine → Fun 𝓤) (κm κr κi κo κn : Lft) (qm qr qi qo qn : Share) (b o : ℕ) (γ : GName) (h : Registers) (xm xi xo xn : Bytes) where
+module _ {M : Type 1} (𝓤 : URA M) (H : Heap 𝓤) (A : Atoms 𝓤) (W : Given 𝓤 H A) (at-mem : Memory → SProp 𝓤) (run : Routine → Fun 𝓤) (κm κr κn κi κo : Lft) (qm qr qn qi qo : Share) (b o : ℕ) (γ : GName) (h : Registers) (xm xn xi xo : Bytes) where
   abbrev Arg : Type 0
   Arg = Bytes × (RefT Registers × (Bytes × (Bytes × (Bytes × Unit {0}))))
 
   abbrev a : Arg
-  a = (xm, (record { ptr = (b, o); name = γ; now = h }, (xi, (xo, (xn, tt)))))
+  a = (xm, (record { ptr = (b, o); name = γ; now = h }, (xn, (xi, (xo, tt)))))
 
   abbrev Vs : Type 0
   Vs = List Val × (List Val × (List Val × (List Val × (List Val × Unit {0}))))
 
   abbrev at : Vs
-  at = (slice-vals xm, (vptr b o ∷ [], (slice-vals xi, (slice-vals xo, (slice-vals xn, tt)))))
+  at = (slice-vals xm, (vptr b o ∷ [], (slice-vals xn, (slice-vals xi, (slice-vals xo, tt)))))
 
-  abbrev new : Updated
-  new = stepped (xm .now) h (xn .now) (xi .now) (xo .now)
+  abbrev lent : Lent Registers
+  lent = record { memory = xm .now; registers = h; list = xn .now; items = xi .now; out = xo .now }
 
   abbrev Post : Val → SProp 𝓤
-  Post = walkOf 𝓤 H A step.ended stayed (step.clauses 𝓤 H A at-mem run) .post (((κm, (κr, (κi, (κo, (κn, tt))))), (qm, (qr, (qi, (qo, (qn, tt))))), tt, a, at), tt)
+  Post = walkOf 𝓤 H A step.ended stayed (step.clauses 𝓤 H A at-mem run) .post (((κm, (κr, (κn, (κi, (κo, tt))))), (qm, (qr, (qn, (qi, (qo, tt))))), tt, a, at), tt)
 
   -- what `advance` is passed, and the tokens of its lifetimes
   abbrev Passed : Type 0
-  Passed = Bytes × (Bytes × (Bytes × (Registers × (Bytes × Unit {0}))))
+  Passed = Bytes × (Registers × (Bytes × (Bytes × (Bytes × Unit {0}))))
 
   abbrev p : Passed
-  p = (xm, (xo, (xi, (h, (xn, tt)))))
+  p = (xm, (h, (xn, (xi, (xo, tt)))))
 
   abbrev pv : Vs
-  pv = (slice-vals xm, (slice-vals xo, (slice-vals xi, (vals h, (slice-vals xn, tt)))))
+  pv = (slice-vals xm, (vals h, (slice-vals xn, (slice-vals xi, (slice-vals xo, tt)))))
 
   abbrev Toks : Item 𝓤
-  Toks = ‵ (flft κm qm) ⊛ ‵ (flft κo qo) ⊛ ‵ (flft κi qi) ⊛ ‵ (flft κn qn) ⊛ ‵ ftrue
+  Toks = ‵ (flft κm qm) ⊛ ‵ (flft κn qn) ⊛ ‵ (flft κi qi) ⊛ ‵ (flft κo qo) ⊛ ‵ ftrue
 
   abbrev to : Advance 𝓤 H A at-mem run .Ghost
-  to = (((κm, (κo, (κi, (κn, tt)))), (qm, (qo, (qi, (qn, tt)))), tt, p, pv), tt)
+  to = (((κm, (κn, (κi, (κo, tt)))), (qm, (qn, (qi, (qo, tt)))), tt, p, pv), tt)
 
   abbrev Owns : Fml
-  Owns = owns (MutSlice (named 0) κm u8 ∷ MutSlice (named 1) κo u8 ∷ ShrSlice (named 2) κi u8 ∷ R ∷ ShrSlice (named 3) κn u8 ∷ []) p pv
+  Owns = owns (MutSlice (named 0) κm u8 ∷ R ∷ ShrSlice (named 1) κn u8 ∷ ShrSlice (named 2) κi u8 ∷ MutSlice (named 3) κo u8 ∷ []) p pv
 
   asked : ent 𝓤 (⋆ 𝓤 H A (Toks ∷ ‵ Owns ∷ [])) (Advance 𝓤 H A at-mem run .pre to)
   asked = qed W (Toks ∷ ‵ Owns ∷ []) ∵ join ! $ frame ! $ done !
 
   -- what `advance` ensures of its result and of the last lists
   abbrev Said : Stepped → List ℕ → List ℕ → Type 0
-  Said r zm zo = _≡_ {A = Updated} (record { mem = zm; regs = r .regs; out = zo; answer = r .answer }) new
+  Said r zm zo = _≡_ {A = Left Registers Answer} (record { memory = zm; registers = r .regs; out = zo; answer = r .answer }) (stepped lent)
 
   abbrev Lasts : Type 0
-  Lasts = List ℕ × (List ℕ × (Unit {0} × (Unit {0} × (Unit {0} × Unit {0}))))
+  Lasts = List ℕ × (Unit {0} × (Unit {0} × (Unit {0} × (List ℕ × Unit {0}))))
 
   -- what whoever holds a `Stepped` knows of its fields
   is-regs : (r : Stepped) (u : Val) → Is D.the-row r (u ∷ []) → Is R (r .regs) (vals (r .regs))
@@ -154,49 +155,47 @@ module _ {M : Type 1} (𝓤 : URA M) (H : Heap 𝓤) (A : Atoms 𝓤) (W : Given
       → ent 𝓤 (⋆ 𝓤 H A (‵ (fobs γ (R .coded .code (stands r (is-done r)))) ∷ ‵ (fbor κr (Body (mem R) b o γ)) ∷ ‵ (flft κr qr) ∷ Toks ∷ ‵ (finally u8 (xo .name) zo) ∷ ‵ (finally u8 (xm .name) zm) ∷ [])) (Post (LL.val N.the-type N′.the-laws (r .answer)))
   exits r u is zm zo lm lo e =
       qed W (‵ (fobs γ (R .coded .code (stands r (is-done r)))) ∷ ‵ (fbor κr (Body (mem R) b o γ)) ∷ ‵ (flft κr qr) ∷ Toks ∷ ‵ (finally u8 (xo .name) zo) ∷ ‵ (finally u8 (xm .name) zm) ∷ []) ∵
-      suffices ! _ (ends-at 𝓤 H A step.ended stayed (step.clauses 𝓤 H A at-mem run) W (((κm, (κr, (κi, (κo, (κn, tt))))), (qm, (qr, (qi, (qo, (qn, tt))))), tt, a, at), tt) (LL.val N.the-type N′.the-laws (r .answer)) (r .answer)
-      (zm, (stands r (is-done r), (tt, (zo, (tt, tt))))) (lm, (tt, (tt, (lo, (tt, tt)))))) $ says ! (stored-if-done (xm .now) h (xn .now) (xi .now) (xo .now) _ e) $
+      suffices ! _ (ends-at 𝓤 H A step.ended stayed (step.clauses 𝓤 H A at-mem run) W (((κm, (κr, (κn, (κi, (κo, tt))))), (qm, (qr, (qn, (qi, (qo, tt))))), tt, a, at), tt) (LL.val N.the-type N′.the-laws (r .answer)) (r .answer)
+      (zm, (stands r (is-done r), (tt, (tt, (zo, tt))))) (lm, (tt, (tt, (tt, (lo, tt)))))) $ says ! (stored-if-done lent _ e) $
       -- the tokens, in this function's order
-      move ! (3 ∷ []) $ split ! $ move ! (1 ∷ []) $ split ! $ move ! (1 ∷ []) $ split ! $
-      move ! (2 ∷ 1 ∷ []) $ join ! $ move ! (1 ∷ 0 ∷ []) $ join ! $ move ! (4 ∷ 0 ∷ []) $ join ! $ move ! (1 ∷ 0 ∷ []) $ join ! $ frame ! $
+      move ! (3 ∷ []) $ split ! $ move ! (4 ∷ 1 ∷ []) $ join ! $ move ! (1 ∷ 0 ∷ []) $ join ! $ frame ! $
       -- [obs; the borrow; out's last; mem's last]
-      nothing ! $ nothing ! $ fjoin ! $ move ! (3 ∷ 0 ∷ []) $ fjoin ! $ nothing ! $ fjoin ! $ move ! (1 ∷ 2 ∷ []) $ feqI ! (List Val) (vptr b o ∷ []) (vptr b o ∷ []) refl $ fjoin3 ! $ fjoin ! $ move ! (1 ∷ 0 ∷ []) $ fjoin ! $
+      nothing ! $ move ! (3 ∷ 0 ∷ []) $ fjoin ! $ nothing ! $ fjoin ! $ nothing ! $ fjoin ! $ move ! (1 ∷ 2 ∷ []) $ feqI ! (List Val) (vptr b o ∷ []) (vptr b o ∷ []) refl $ fjoin3 ! $ fjoin ! $ move ! (1 ∷ 0 ∷ []) $ fjoin ! $
       frame ! $ owned ! N.the-row (Is N.the-row) (LL.makes N.the-type N′.the-plain 𝓤 H A) (r .answer) _ (is-answer r u is) $ done !
 
-  module _ (C : Calls 𝓤 H) (Λ : Loops 𝓤 H) (fm : FmC 𝓤 H (W .laws) C) (known : Triple 𝓤 (C #module·advance) (Advance 𝓤 H A at-mem run)) (roomm : Room u8 (length (xm .now))) (roomi : Room u8 (length (xi .now))) (roomo : Room u8 (length (xo .now))) (roomn : Room u8 (length (xn .now))) where
-    walk : ent 𝓤 (onEntry 𝓤 H A step.signature (κm, (κr, (κi, (κo, (κn, tt))))) (qm, (qr, (qi, (qo, (qn, tt))))) a at) (WpFn 𝓤 H C Λ code.function (val xm ∷ vptr b o ∷ val xi ∷ val xo ∷ val xn ∷ []) Post)
+  module _ (C : Calls 𝓤 H) (Λ : Loops 𝓤 H) (fm : FmC 𝓤 H (W .laws) C) (known : Triple 𝓤 (C #module·advance) (Advance 𝓤 H A at-mem run)) (roomm : Room u8 (length (xm .now))) (roomn : Room u8 (length (xn .now))) (roomi : Room u8 (length (xi .now))) (roomo : Room u8 (length (xo .now))) where
+    walk : ent 𝓤 (onEntry 𝓤 H A step.signature (κm, (κr, (κn, (κi, (κo, tt))))) (qm, (qr, (qn, (qi, (qo, tt))))) a at) (WpFn 𝓤 H C Λ code.function (val xm ∷ vptr b o ∷ val xn ∷ val xi ∷ val xo ∷ []) Post)
     walk =
-        qed W ((‵ (flft κm qm) ⊛ ‵ (flft κr qr) ⊛ ‵ (flft κi qi) ⊛ ‵ (flft κo qo) ⊛ ‵ (flft κn qn) ⊛ ‵ ftrue) ∷ ‵ (owns (MutSlice (named 0) κm u8 ∷ MutRef (named 1) κr R ∷ ShrSlice (named 2) κi u8 ∷ MutSlice (named 3) κo u8 ∷ ShrSlice (named 4) κn u8 ∷ []) a at) ∷ []) ∵
-        enter ! C Λ code.function (val xm ∷ vptr b o ∷ val xi ∷ val xo ∷ val xn ∷ []) _ $
+        qed W ((‵ (flft κm qm) ⊛ ‵ (flft κr qr) ⊛ ‵ (flft κn qn) ⊛ ‵ (flft κi qi) ⊛ ‵ (flft κo qo) ⊛ ‵ ftrue) ∷ ‵ (owns (MutSlice (named 0) κm u8 ∷ MutRef (named 1) κr R ∷ ShrSlice (named 2) κn u8 ∷ ShrSlice (named 3) κi u8 ∷ MutSlice (named 4) κo u8 ∷ []) a at) ∷ []) ∵
+        enter ! C Λ code.function (val xm ∷ vptr b o ∷ val xn ∷ val xi ∷ val xo ∷ []) _ $
         alloc1 ! (λ l₀. alloc1 ! (λ l₁. alloc1 ! (λ l₂. alloc1 ! (λ l₃. alloc1 ! (λ l₄. alloc1 ! (λ l₅. alloc1 ! (λ l₆. alloc1 ! (λ l₇. alloc1 ! (λ l₈. alloc1 ! (λ l₉. alloc1 ! (λ l₁₀. alloc1 ! (λ l₁₁. alloc1 ! (λ l₁₂. alloc1 ! (λ l₁₃. alloc0 ! $ params1 ! $
-        pass1 ! (init ! 24 refl (tt, (tt, (record { fits = roomm .0 }, tt)))) $ pass1 ! (init ! 22 refl (tt, tt)) $ pass1 ! (init ! 20 refl (tt, (tt, (record { fits = roomi .0 }, tt)))) $
-        pass1 ! (init ! 18 refl (tt, (tt, (record { fits = roomo .0 }, tt)))) $ pass1 ! (init ! 16 refl (tt, (tt, (record { fits = roomn .0 }, tt)))) $ pass0 ! $
+        pass1 ! (init ! 24 refl (tt, (tt, (record { fits = roomm .0 }, tt)))) $ pass1 ! (init ! 22 refl (tt, tt)) $ pass1 ! (init ! 20 refl (tt, (tt, (record { fits = roomn .0 }, tt)))) $
+        pass1 ! (init ! 18 refl (tt, (tt, (record { fits = roomi .0 }, tt)))) $ pass1 ! (init ! 16 refl (tt, (tt, (record { fits = roomo .0 }, tt)))) $ pass0 ! $
         -- [_13; …; _12; …; and so on to _0; …; the tokens; what the parameters own]
         move ! (29 ∷ []) $ fsplit ! $ move ! (1 ∷ []) $ fsplit ! $ move ! (1 ∷ []) $ fsplit ! $ move ! (1 ∷ []) $ fsplit ! $ move ! (1 ∷ []) $ fsplit ! $ move ! (1 ∷ []) $ drop ! $
-        -- [ins; out; items; r; mem; _13; …; the tokens]
+        -- [out; items; ins; r; mem; _13; …; the tokens]
         move ! (3 ∷ []) $ fsplit3 ! $ drop ! $
-        -- [obs; the borrow; ins; out; items; mem; _13; …; the tokens]: the tokens, in `advance`'s order, and this function's own
-        move ! (34 ∷ []) $ split ! $ move ! (1 ∷ []) $ split ! $ move ! (1 ∷ []) $ split ! $ move ! (1 ∷ []) $ split ! $
-        move ! (2 ∷ 1 ∷ []) $ join ! $ move ! (1 ∷ 0 ∷ []) $ join ! $ move ! (2 ∷ 0 ∷ []) $ join ! $
-        -- [`advance`'s tokens; r's token; obs; the borrow; ins; out; items; mem; _13; …]
+        -- [obs; the borrow; out; items; ins; mem; _13; …; the tokens]: the tokens, in `advance`'s order, and this function's own
+        move ! (34 ∷ []) $ split ! $ move ! (1 ∷ []) $ split ! $ move ! (2 ∷ 1 ∷ []) $ join ! $
+        -- [`advance`'s tokens; r's token; obs; the borrow; out; items; ins; mem; _13; …]
         move ! (2 ∷ 3 ∷ 1 ∷ []) $
         opens ! tt R {h = h} b o (λ vs. spelt ! R (Is R) (shows 𝓤 H A R) vals (LL.tells T.the-type T′.the-laws) fullShare h vs b o $
         move ! (1 ∷ []) $ peeks ! R (Is R) (shows 𝓤 H A R) h (vals h) (λ was. move ! (1 ∷ 0 ∷ []) $
-        -- [the cell; what the record owns; the open borrow; obs; auth; `advance`'s tokens; ins; out; items; mem; _13 (10); …]
+        -- [the cell; what the record owns; the open borrow; obs; auth; `advance`'s tokens; out; items; ins; mem; _13 (10); …]
         assigns ! (of-opd ! (load ! (from ! (hop ! (look ! 32 refl) (stop !))) (look-raw ! 0 refl))) (from ! (stop !)) (init ! 24 refl (LL.lawful T.the-type T′.the-laws 𝓤 H A W .typed h _ was .0)) $
         assigns ! (addr ! (from ! (fld ! refl (hop ! (look-in ! 34 (sub ! 0 refl (whole !))) (stop !))))) (from ! (stop !)) (init ! 18 refl (tt, tt)) $
         assigns ! (agg ! (and-then ! (local ! 36 refl) (and-then ! (load ! (from ! (fld ! refl (stop !))) (look-in ! 34 (sub ! 1 refl (whole !)))) (no-more !)))) (from ! (stop !)) (init ! 16 refl (tt, (tt, (record { fits = roomm .0 }, tt)))) $
-        assigns ! (addr ! (from ! (fld ! refl (hop ! (look-in ! 28 (sub ! 0 refl (whole !))) (stop !))))) (from ! (stop !)) (init ! 14 refl (tt, tt)) $
-        assigns ! (agg ! (and-then ! (local ! 36 refl) (and-then ! (load ! (from ! (fld ! refl (stop !))) (look-in ! 28 (sub ! 1 refl (whole !)))) (no-more !)))) (from ! (stop !)) (init ! 12 refl (tt, (tt, (record { fits = roomo .0 }, tt)))) $
+        assigns ! (addr ! (from ! (fld ! refl (hop ! (look-in ! 26 (sub ! 0 refl (whole !))) (stop !))))) (from ! (stop !)) (init ! 14 refl (tt, tt)) $
+        assigns ! (agg ! (and-then ! (local ! 36 refl) (and-then ! (load ! (from ! (fld ! refl (stop !))) (look-in ! 26 (sub ! 1 refl (whole !)))) (no-more !)))) (from ! (stop !)) (init ! 12 refl (tt, (tt, (record { fits = roomo .0 }, tt)))) $
         -- what `advance` asks is put together
-        nothing ! $ move ! (7 ∷ 0 ∷ []) $ fjoin ! $ owned ! R (Is R) (LL.makes T.the-type T′.the-plain 𝓤 H A) h _ was $ fjoin ! $ move ! (8 ∷ 0 ∷ []) $ fjoin ! $ move ! (7 ∷ 0 ∷ []) $ fjoin ! $ move ! (7 ∷ 0 ∷ []) $ fjoin ! $
+        nothing ! $ move ! (7 ∷ 0 ∷ []) $ fjoin ! $ move ! (7 ∷ 0 ∷ []) $ fjoin ! $ move ! (7 ∷ 0 ∷ []) $ fjoin ! $ owned ! R (Is R) (LL.makes T.the-type T′.the-plain 𝓤 H A) h _ was $ fjoin ! $ move ! (7 ∷ 0 ∷ []) $ fjoin ! $
         move ! (6 ∷ 0 ∷ []) $ use2 W (raw (Advance 𝓤 H A at-mem run .pre to)) asked $
         -- [what is asked; the cell; what the record owns; the open borrow; obs; auth; _13 (6); …]
         calls-at ! fm (Advance 𝓤 H A at-mem run) known to (and-then ! (local ! 32 refl) (and-then ! (local ! 32 refl) (and-then ! (local ! 32 refl) (and-then ! (local ! 32 refl) (and-then ! (local ! 32 refl) (no-more !)))))) (λ u.
-        use1 W (later (some (λ (r : Stepped). (Toks ⊛ ‵ (D.the-row .own r (u ∷ []))) ⊛ raw (ensured 𝓤 H A advance.ended (advance.clauses 𝓤 H A at-mem run) (κm, (κo, (κi, (κn, tt)))) p tt r)))) (id⊢ 𝓤 _) $ await ! tt $ pick ! (λ r.
+        use1 W (later (some (λ (r : Stepped). (Toks ⊛ ‵ (D.the-row .own r (u ∷ []))) ⊛ raw (ensured 𝓤 H A advance.ended (advance.clauses 𝓤 H A at-mem run) (κm, (κn, (κi, (κo, tt)))) p tt r)))) (id⊢ 𝓤 _) $ await ! tt $ pick ! (λ r.
         -- what `advance` ensures, at some last lists
-        split ! $ move ! (1 ∷ []) $ use1 W (some (λ (zs : Lasts). ‵ (lasts advance.ended (κm, (κo, (κi, (κn, tt)))) p zs) ⊛ raw (fact 𝓤 (Said r (zs .0) (zs .1 .0))))) (id⊢ 𝓤 _) $ pick ! (λ zs.
-        split ! $ move ! (1 ∷ []) $ heard ! (Said r (zs .0) (zs .1 .0)) (λ e. fsplit ! $ fsplit ! $ move ! (1 ∷ []) $ feqL ! (λ lm. move ! (1 ∷ []) $ fsplit ! $ fsplit ! $ move ! (1 ∷ []) $ feqL ! (λ lo. move ! (1 ∷ []) $ drop ! $
+        split ! $ move ! (1 ∷ []) $ use1 W (some (λ (zs : Lasts). ‵ (lasts advance.ended (κm, (κn, (κi, (κo, tt)))) p zs) ⊛ raw (fact 𝓤 (Said r (zs .0) (zs .1 .1 .1 .1 .0))))) (id⊢ 𝓤 _) $ pick ! (λ zs.
+        split ! $ move ! (1 ∷ []) $ heard ! (Said r (zs .0) (zs .1 .1 .1 .1 .0)) (λ e. fsplit ! $ fsplit ! $ move ! (1 ∷ []) $ feqL ! (λ lm. move ! (1 ∷ []) $ fsplit ! $ drop ! $ fsplit ! $ drop ! $ fsplit ! $ drop ! $ fsplit ! $ fsplit ! $ move ! (1 ∷ []) $ feqL ! (λ lo. move ! (1 ∷ []) $ drop ! $
         -- [out's last; mem's last; the tokens and the result; the cell; what the record owned; the open borrow; obs; auth; _13; …]
         move ! (2 ∷ []) $ split ! $ move ! (1 ∷ []) $ peeks ! D.the-row (Is D.the-row) (shows 𝓤 H A D.the-row) r (u ∷ []) (λ is.
         -- [the result; the tokens; out's last; mem's last; the cell; what the record owned; the open borrow; obs; auth; _13 (9); …]
@@ -211,17 +210,17 @@ module _ {M : Type 1} (𝓤 : URA M) (H : Heap 𝓤) (A : Atoms 𝓤) (W : Given
         returns ! (look ! 32 refl) $ forget ! 6 refl $ forget ! 8 refl $ forget ! 10 refl $ forget ! 12 refl $ forget ! 14 refl $ forget ! 16 refl $ forget ! 18 refl $ forget ! 20 refl $ forget ! 22 refl $ forget ! 24 refl $ forget ! 26 refl $ forget ! 28 refl $ forget ! 30 refl $ forget ! 32 refl $
         move ! (32 ∷ 33 ∷ []) $ free1 ! $ move ! (30 ∷ 31 ∷ []) $ free1 ! $ move ! (28 ∷ 29 ∷ []) $ free1 ! $ move ! (26 ∷ 27 ∷ []) $ free1 ! $ move ! (24 ∷ 25 ∷ []) $ free1 ! $ move ! (22 ∷ 23 ∷ []) $ free1 ! $ move ! (20 ∷ 21 ∷ []) $ free1 ! $
         move ! (18 ∷ 19 ∷ []) $ free1 ! $ move ! (16 ∷ 17 ∷ []) $ free1 ! $ move ! (14 ∷ 15 ∷ []) $ free1 ! $ move ! (12 ∷ 13 ∷ []) $ free1 ! $ move ! (10 ∷ 11 ∷ []) $ free1 ! $ move ! (8 ∷ 9 ∷ []) $ free1 ! $ move ! (6 ∷ 7 ∷ []) $ free1 ! $ free0 ! $
-        by ! (exits r u is (zs .0) (zs .1 .0) lm lo e))))))))))))))))))))))))
+        by ! (exits r u is (zs .0) (zs .1 .1 .1 .1 .0) lm lo e))))))))))))))))))))))))
 
 module _ {M : Type 1} (𝓤 : URA M) (H : Heap 𝓤) (A : Atoms 𝓤) (W : Given 𝓤 H A) (at-mem : Memory → SProp 𝓤) (run : Routine → Fun 𝓤) where
   step-walks : (C : Calls 𝓤 H) (Λ : Loops 𝓤 H) → FmC 𝓤 H (W .laws) C → Triple 𝓤 (C #module·advance) (Advance 𝓤 H A at-mem run) → Walks 𝓤 H A step.ended stayed (WpFn 𝓤 H C Λ code.function) (step.clauses 𝓤 H A at-mem run)
   step-walks C Λ fm known = walked 𝓤 H A step.ended stayed (step.clauses 𝓤 H A at-mem run) (WpFn 𝓤 H C Λ code.function) (λ κs. (slice-vals, (ptr-vals, (slice-vals, (slice-vals, (slice-vals, tt))))))
-      (λ κs. (mut-slice-tells (named 0) (κs .0) u8, (mut-tells (named 1) (κs .1 .0) R, (shr-slice-tells (named 2) (κs .1 .1 .0) u8, (mut-slice-tells (named 3) (κs .1 .1 .1 .0) u8, (shr-slice-tells (named 4) (κs .1 .1 .1 .1 .0) u8, tt))))))
+      (λ κs. (mut-slice-tells (named 0) (κs .0) u8, (mut-tells (named 1) (κs .1 .0) R, (shr-slice-tells (named 2) (κs .1 .1 .0) u8, (shr-slice-tells (named 3) (κs .1 .1 .1 .0) u8, (mut-slice-tells (named 4) (κs .1 .1 .1 .1 .0) u8, tt))))))
       (λ κs qs bounds a _ are. via 𝓤 _ (fst∗ 𝓤 _ (emp 𝓤)) (walk 𝓤 H A W at-mem run (κs .0) (κs .1 .0) (κs .1 .1 .0) (κs .1 .1 .1 .0) (κs .1 .1 .1 .1 .0) (qs .0) (qs .1 .0) (qs .1 .1 .0) (qs .1 .1 .1 .0) (qs .1 .1 .1 .1 .0)
       (a .1 .0 .ptr .0) (a .1 .0 .ptr .1) (a .1 .0 .name) (a .1 .0 .now) (a .0) (a .1 .1 .0) (a .1 .1 .1 .0) (a .1 .1 .1 .1 .0) C Λ fm known (are .0 .0 .1) (are .1 .1 .0 .0 .1) (are .1 .1 .1 .0 .0 .1) (are .1 .1 .1 .1 .0 .0 .1)))
 
   goes : AllGo 𝓤 H A W 5 (step.signature .params) (step.ended .kept) stayed
-  goes = (goes-gave-slice 𝓤 H A W 5 0 tt B, (goes-ref 𝓤 H A W 5 1 tt (plain (λ _. R)), (goes-dropped 𝓤 H A W 5 (shrSliceOf (2 ∷ []) tt B) yes (λ κs x f. refl), (goes-gave-slice 𝓤 H A W 5 3 tt B, (goes-dropped 𝓤 H A W 5 (shrSliceOf (4 ∷ []) tt B) yes (λ κs x f. refl), tt)))))
+  goes = (goes-gave-slice 𝓤 H A W 5 0 tt B, (goes-ref 𝓤 H A W 5 1 tt (plain (λ _. R)), (goes-dropped 𝓤 H A W 5 (shrSliceOf (2 ∷ []) tt B) yes (λ κs x f. refl), (goes-dropped 𝓤 H A W 5 (shrSliceOf (3 ∷ []) tt B) yes (λ κs x f. refl), (goes-gave-slice 𝓤 H A W 5 4 tt B, tt)))))
 
 step-meets : {M : Type 1} (𝓤 : URA M) (H : Heap 𝓤) (A : Atoms 𝓤) → Given 𝓤 H A → (at-mem : Memory → SProp 𝓤) (run : Routine → Fun 𝓤) (𝓣 : Tables 𝓤 H) → Triple 𝓤 (𝓣 .C #module·advance) (Advance 𝓤 H A at-mem run)
     → Meets 𝓤 H A step.signature (WpFn 𝓤 H (𝓣 .C) (𝓣 .Λ) code.function) (step.spec 𝓤 H A at-mem run)

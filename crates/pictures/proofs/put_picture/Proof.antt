@@ -5,7 +5,7 @@ use native.Mathlib.Omega.{arith}
 use lib.ListN.{length, take}
 use denote.Ref.{now}
 use Rattle.bits.specs.Steps.{written}
-use Rattle.memory.proofs.PlainLaws.{length-plain}
+use Rattle.words.proofs.PlainLaws.{length-plain}
 use Rattle.contents.specs.Payloads.{laid}
 use Rattle.pictures.specs.Picture.{plainWords}
 use Rattle.pictures.proofs.PictureLaws.{words-laid, picture-laid, picture-sealed}

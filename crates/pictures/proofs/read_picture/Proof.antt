@@ -6,10 +6,10 @@ use lib.ListN.{length}
 use borrow.Author.Tests.{not-true, not-false}
 use borrow.Author.Needs.{needs}
 use denote.Ref.{now}
-use Rattle.contents.specs.File.{done, judge}
-use Rattle.pictures.specs.Picture.{pictureFits}
-use Rattle.contents.proofs.AnswerLaws.{changed-not, changed-done, refused-not, read-refused, read-26, read-done}
-use Rattle.pictures.proofs.PictureLaws.{fits-are, picture-judged}
+use Rattle.contents.specs.File.{done, fileJudged}
+use Rattle.pictures.specs.Picture.{pictureFits, pictureRead}
+use Rattle.contents.proofs.AnswerLaws.{refused-not, read-refused, read-26, read-done}
+use Rattle.pictures.proofs.PictureLaws.{fits-are, picture-judged, both-old, both-new}
 use Rattle.pictures.proofs.read_picture.Statement.{statement}
 use Rattle.pictures.proofs.read_picture.Tie as tie
 
@@ -22,45 +22,37 @@ lengths c =
     let a = c .before .before .before .before .before .before .before .args in
     fits-are (a .kind) (length (now (a .memory))) (length (now (a .registers))) (fits-ok c)
 
-judged-ok : (c : tie.Else2) → judge 1 (now (c .before .before .before .before .before .before .before .args .bytes)) ≡ done 8288
+judged-ok : (c : tie.Else2) → fileJudged 1 (now (c .before .before .before .before .before .before .before .args .bytes)) ≡ done 8288
 judged-ok c =
     let a = c .before .before .before .before .before .before .before .args in
-    let j = c .before .before .before .judge in
+    let j = c .before .before .before .judge-file in
     picture-judged (a .kind) (now (a .bytes)) (lengths c .0) (sym (ap (λ x. x .number) (j .ensures)) ∙ c .before .before .if1 .left)
 
-judge-requires : tie.Need-judge-requires
-judge-requires c κs = search needs
+judge-file-requires : tie.Need-judge-file-requires
+judge-file-requires c κs = search needs
 
 returns : tie.Need-returns
+unfolding pictureRead
 returns c =
     let a = c .before .before .before .before .before .args in
-    let j = c .before .judge in (
-      read-refused (a .kind) (now (a .bytes)) _ (j .result) (j .ensures) (c .if1 .taken),
-      (
-        changed-not (j .result) _ (now (a .memory)) (c .if1 .taken),
-        changed-not (j .result) _ (now (a .registers)) (c .if1 .taken),
-      ),
-    )
+    let j = c .before .judge-file in
+    both-old (j .result) _ _ _ _ _ (read-refused (a .kind) (now (a .bytes)) _ (j .result) (j .ensures) (c .if1 .taken)) (c .if1 .taken)
 
 picture-fits-requires : tie.Need-picture-fits-requires
 picture-fits-requires c κs = search needs
 
-refuse-requires : tie.Need-refuse-requires
-refuse-requires c κs = search needs
+refused-requires : tie.Need-refused-requires
+refused-requires c κs = search needs
 
 returns-2 : tie.Need-returns-2
+unfolding pictureRead
 returns-2 c =
     let a = c .before .before .before .before .before .before .before .before .args in
-    let j = c .before .before .before .before .judge in
-    let r = c .refuse in
+    let j = c .before .before .before .before .judge-file in
+    let r = c .refused in
     let f : pictureFits (a .kind) (length (now (a .memory))) (length (now (a .registers))) ≡ false = sym (c .before .before .picture-fits .ensures) ∙ not-true _ (c .before .if2 .taken) in
-    let u = refused-not (r .result) 26 0 (r .ensures) (λ x. omega arith) in (
-      r .ensures ∙ read-26 (a .kind) (now (a .bytes)) _ (j .result) (j .ensures) (c .before .before .before .if1 .left) f,
-      (
-        changed-not (r .result) _ (now (a .memory)) u,
-        changed-not (r .result) _ (now (a .registers)) u,
-      ),
-    )
+    both-old (r .result) _ _ _ _ _ (r .ensures ∙ read-26 (a .kind) (now (a .bytes)) _ (j .result) (j .ensures) (c .before .before .before .if1 .left) f)
+    (refused-not (r .result) 26 0 (r .ensures) (λ x. omega arith))
 
 unload-picture-requires : tie.Need-unload-picture-requires
 unload-picture-requires c κs =
@@ -74,27 +66,23 @@ same-length-2 : tie.Need-same-length-2
 same-length-2 c = search needs
 
 returns-3 : tie.Need-returns-3
+unfolding pictureRead
 returns-3 c =
     let e = c .before .before .before .before .before .before .before in
     let a = e .before .before .before .before .before .before .before .args in
-    let j = e .before .before .before .judge in
+    let j = e .before .before .before .judge-file in
     let z = e .before .before .if1 .left in
-    let t = c .before .before .before .before .unload-picture in (
-      read-done (a .kind) (now (a .bytes)) _ (j .result) (j .ensures) z (fits-ok e),
-      (
-        t .ensures .0 ∙ changed-done (j .result) _ (now (a .memory)) z,
-        t .ensures .1 ∙ changed-done (j .result) _ (now (a .registers)) z,
-      ),
-    )
+    let t = c .before .before .before .before .unload-picture in
+    both-new (j .result) _ _ _ _ _ (read-done (a .kind) (now (a .bytes)) _ (j .result) (j .ensures) z (fits-ok e)) _ _ (t .ensures .0) (t .ensures .1) z
 
 pub read-picture-spec : {M : Type 1} → statement M
 read-picture-spec =
     tie.close
     (tie.spec
-    judge-requires
+    judge-file-requires
     returns
     picture-fits-requires
-    refuse-requires
+    refused-requires
     returns-2
     unload-picture-requires
     same-length

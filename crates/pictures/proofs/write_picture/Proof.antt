@@ -9,8 +9,8 @@ use borrow.Author.Needs.{needs}
 use denote.Ref.{now}
 use Rattle.contents.specs.File.{kindRight, blocksOf}
 use Rattle.contents.specs.Content.{over}
-use Rattle.pictures.specs.Picture.{pictureOf, pictureFits}
-use Rattle.contents.proofs.AnswerLaws.{changed-not, changed-done, refused-not, write-22, write-26, write-27, write-done}
+use Rattle.pictures.specs.Picture.{pictureOf, pictureFits, pictureWritten}
+use Rattle.contents.proofs.AnswerLaws.{left-old, left-new, refused-not, write-22, write-26, write-27, write-done}
 use Rattle.pictures.proofs.PictureLaws.{fits-are}
 use Rattle.pictures.proofs.write_picture.Statement.{statement}
 use Rattle.pictures.proofs.write_picture.Tie as tie
@@ -30,71 +30,78 @@ lengths c =
 kind-right-requires : tie.Need-kind-right-requires
 kind-right-requires c κs = search needs
 
-refuse-requires : tie.Need-refuse-requires
-refuse-requires c κs = search needs
+refused-requires : tie.Need-refused-requires
+refused-requires c κs = search needs
 
 returns : tie.Need-returns
+unfolding pictureWritten
 returns c =
     let a = c .before .before .before .before .before .before .args in
-    let r = c .refuse in
-    (r .ensures ∙ write-22 (a .kind) _ _ _ (sym (c .before .before .kind-right .ensures) ∙ not-true _ (c .before .if1 .taken)), changed-not (r .result) _ (now (a .out)) (refused-not (r .result) 22 0 (r .ensures) (λ x. omega arith)))
+    let r = c .refused in
+    left-old (r .result) _ _ _ (r .ensures ∙ write-22 (a .kind) _ _ _ (sym (c .before .before .kind-right .ensures) ∙ not-true _ (c .before .if1 .taken)))
+    (refused-not (r .result) 22 0 (r .ensures) (λ x. omega arith))
 
 picture-fits-requires : tie.Need-picture-fits-requires
 picture-fits-requires c κs = search needs
 
-refuse-requires-2 : tie.Need-refuse-requires-2
-refuse-requires-2 c κs = search needs
+refused-requires-2 : tie.Need-refused-requires-2
+refused-requires-2 c κs = search needs
 
 returns-2 : tie.Need-returns-2
+unfolding pictureWritten
 returns-2 c =
     let a = c .before .before .before .before .before .before .before .before .args in
-    let r = c .refuse2 in
+    let r = c .refused2 in
     let f : pictureFits (a .kind) (length (now (a .memory))) (length (now (a .registers))) ≡ false = sym (c .before .before .picture-fits .ensures) ∙ not-true _ (c .before .if2 .taken) in
-    (r .ensures ∙ write-26 (a .kind) _ _ _ (kind-ok (c .before .before .before)) f, changed-not (r .result) _ (now (a .out)) (refused-not (r .result) 26 0 (r .ensures) (λ x. omega arith)))
+    left-old (r .result) _ _ _ (r .ensures ∙ write-26 (a .kind) _ _ _ (kind-ok (c .before .before .before)) f)
+    (refused-not (r .result) 26 0 (r .ensures) (λ x. omega arith))
 
-refuse-requires-3 : tie.Need-refuse-requires-3
-refuse-requires-3 c κs = search needs
+refused-requires-3 : tie.Need-refused-requires-3
+refused-requires-3 c κs = search needs
 
 returns-3 : tie.Need-returns-3
+unfolding pictureWritten
 returns-3 c =
     let a = c .before .before .before .before .before .before .before .before .before .args in
-    let r = c .refuse3 in
-    (r .ensures ∙ write-27 (a .kind) _ 8288 _ (kind-ok (c .before .before .before .before)) (fits-ok (c .before .before)) (c .before .if3 .taken), changed-not (r .result) _ (now (a .out)) (refused-not (r .result) 27 0 (r .ensures) (λ x. omega arith)))
+    let r = c .refused3 in
+    left-old (r .result) _ _ _ (r .ensures ∙ write-27 (a .kind) _ 8288 _ (kind-ok (c .before .before .before .before)) (fits-ok (c .before .before)) (c .before .if3 .taken))
+    (refused-not (r .result) 27 0 (r .ensures) (λ x. omega arith))
 
 put-picture-requires : tie.Need-put-picture-requires
 put-picture-requires c κs =
     let n = lengths (c .before .before) in
     (n .1, n .2, c .before .if3 .left)
 
-finish-requires : tie.Need-finish-requires
-finish-requires c κs = search needs
+done-requires : tie.Need-done-requires
+done-requires c κs = search needs
 
 same-length : tie.Need-same-length
 same-length c = search needs
 
 returns-4 : tie.Need-returns-4
+unfolding pictureWritten
 returns-4 c =
     let a = c .before .before .before .before .before .before .before .before .before .before .before .before .before .args in
-    let r = c .finish in (
-      r .ensures ∙ write-done (a .kind) _ 8288 _ (kind-ok (c .before .before .before .before .before .before .before .before)) (fits-ok (c .before .before .before .before .before .before)) (c .before .before .before .before .before .if3 .left),
-      c .before .before .before .put-picture .ensures
-          ∙ ap (λ (k : ℕ). over (blocksOf k (pictureOf (now (a .memory)) (now (a .registers)))) (now (a .out))) (sym (lengths (c .before .before .before .before .before .before) .0))
-          ∙ changed-done (r .result) _ (now (a .out)) (ap (λ x. x .number) (r .ensures)),
-    )
+    let r = c .done in
+    let e = c .before .before .before .before .before .before in
+    left-new (r .result) _ _ _ (r .ensures ∙ write-done (a .kind) _ 8288 _ (kind-ok (e .before .before)) (fits-ok e) (c .before .before .before .before .before .if3 .left)) _
+    (c .before .before .before .put-picture .ensures
+    ∙ ap (λ (k : ℕ). over (blocksOf k (pictureOf (now (a .memory)) (now (a .registers)))) (now (a .out))) (sym (lengths e .0)))
+    (ap (λ x. x .number) (r .ensures))
 
 pub write-picture-spec : {M : Type 1} → statement M
 write-picture-spec =
     tie.close
     (tie.spec
     kind-right-requires
-    refuse-requires
+    refused-requires
     returns
     picture-fits-requires
-    refuse-requires-2
+    refused-requires-2
     returns-2
-    refuse-requires-3
+    refused-requires-3
     returns-3
     put-picture-requires
-    finish-requires
+    done-requires
     same-length
     returns-4)

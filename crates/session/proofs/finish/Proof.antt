@@ -1,12 +1,19 @@
 -- `finish`: what the run leaves goes into the lines and the picture, and `finished-shown` puts them together.
 use mathlib.Core.Path.{refl, ap, _∙_}
 use denote.Ref.{now}
-use Rattle.module.specs.Run.{Left, ran}
+use mathlib.Core.List.{List}
+use Prim.Native.Nat.{ℕ}
+use Rattle.judge.specs.declared.Answer.{Answer}
+use Rattle.module.specs.Run.{Lent, Left, ran}
 use Rattle.session.proofs.SessionLaws.{run-small, finished-shown}
 use Rattle.session.specs.Session.{finished}
 use borrow.Author.Needs.{needs}
 use Rattle.session.proofs.finish.Statement.{statement}
 use Rattle.session.proofs.finish.Tie as tie
+
+-- what the run is lent
+abbrev lent : List ℕ → List ℕ → List ℕ → List ℕ → List ℕ → Lent (List ℕ)
+lent memory registers list items out = record { memory = memory; registers = registers; list = list; items = items; out = out }
 
 run-requires : tie.Need-run-requires
 run-requires c κs = search needs
@@ -16,8 +23,12 @@ print-run-requires c κs =
     let s = c .before .before .before .before .before .before .before .before .before .before .before .before .before .before .before .before .before .before .before in
     let a = s .args in
     let r = c .before .before .before .before .before .before .before .before .run in
-    let l = r .kept .1 .1 .1 .1 .0 in
-    (run-small (now (a .memory)) (now (a .registers)) (now (a .list)) (now (a .items)) (now (a .out)) (r .last .1 .1 .1 .1 .0) (r .result) (ap (λ (x : Left). x .answer) (r .ensures)) l, l ∙ s .pre .2, s .pre .4)
+    let l = r .kept .1 .1 .1 .1 .0 in (
+      run-small (lent (now (a .memory)) (now (a .registers)) (now (a .list)) (now (a .items)) (now (a .out))) (r .last .1 .1 .1 .1 .0) (r .result)
+          (ap (λ (x : Left (List ℕ) Answer). x .answer) (r .ensures)) l,
+      l ∙ s .pre .2,
+      s .pre .4,
+    )
 
 keep-requires : tie.Need-keep-requires
 keep-requires c κs = search needs
@@ -42,7 +53,7 @@ returns c =
     let p = c .before .before .before .before .before .before .before .before in
     let q = p .before .before .before .before .before .before .before .before .before in
     let a = q .before .before .before .before .before .before .before .before .before .before .before .args in
-    let s = ran (now (a .memory)) (now (a .registers)) (now (a .list)) (now (a .items)) (now (a .out)) in
+    let s = ran (lent (now (a .memory)) (now (a .registers)) (now (a .list)) (now (a .items)) (now (a .out))) in
     let k = c .before .before .keep in
     let t = p .print-run in
     finished-shown (finished s) s _ _ _ (q .run .result) (t .result) (k .result) (now (a .text)) (t .last .1 .1 .0) (now (a .after)) (k .last .1 .1 .1 .0) refl (q .run .ensures) (t .ensures .0) (t .ensures .1 .0) (t .ensures .1 .1) (k .ensures .0) (k .ensures .1) (k .ensures .2)

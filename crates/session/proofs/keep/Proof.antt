@@ -27,7 +27,7 @@ returns-2 c =
     let s = c .before .before .before .before .before .before .before .before in
     let a = s .args in
     let w = c .before .before .write-picture in
-    kept (a .number) (now (a .memory)) (now (a .registers)) (now (a .after)) (w .last .1 .1 .1 .0) (w .result) (c .before .before .before .before .if1 .left) (s .pre .0) (s .pre .1) (s .pre .2) (w .ensures .0) (w .ensures .1)
+    kept (a .number) (now (a .memory)) (now (a .registers)) (now (a .after)) (w .last .1 .1 .1 .0) (w .result) (c .before .before .before .before .if1 .left) (s .pre .0) (s .pre .1) (s .pre .2) (w .ensures)
 
 pub keep-spec : {M : Type 1} → statement M
 keep-spec = tie.close (tie.spec returns write-picture-requires same-length returns-2)

@@ -3,12 +3,12 @@ use mathlib.Core.Path.{_≡_, refl, sym, ap, _∙_}
 use native.Mathlib.Omega.{arith}
 use denote.Ref.{now}
 use lib.Seq.{length-take-le}
-use Rattle.contents.specs.declared.Answer.{Answer}
+use Rattle.contents.specs.declared.Moved.{Moved}
 use Rattle.contents.specs.File.{done, refused}
 use Rattle.contents.proofs.AnswerLaws.{changed-done}
 use Rattle.session.specs.Session.{fileOf, pictureAnswer, contentAnswer}
 use Rattle.session.proofs.FileLaws.{place-small}
-use Rattle.session.proofs.SessionLaws.{outcome-p, outcome-l, outcome-i, outcome-r, refusal-shown, finished-as}
+use Rattle.session.proofs.SessionLaws.{outcome-p, outcome-l, outcome-i, outcome-r, line-shown, finished-as}
 use borrow.Author.Needs.{needs}
 use Rattle.session.proofs.session.Statement.{statement}
 use Rattle.session.proofs.session.Tie as tie
@@ -16,13 +16,13 @@ use Rattle.session.proofs.session.Tie as tie
 -- ---- the places where a file is known to be good: its answer's number is 0
 
 picture-good : (c : tie.Else1) → (let a = c .before .before .before .before .before .before .before .before .before .before .before .before .before .args in pictureAnswer (fileOf (a .p) (now (a .picture))) .number ≡ 0)
-picture-good c = sym (ap (λ (x : Answer). x .number) (c .before .before .before .before .take-picture .ensures .0)) ∙ c .if1 .left
+picture-good c = sym (ap (λ (x : Moved). x .number) (c .before .before .before .before .take-picture .ensures .0)) ∙ c .if1 .left
 
 list-good : (c : tie.Else2) → (let a = c .before .before .before .before .before .before .before .before .before .before .before .before .before .before .before .before .before .before .before .args in contentAnswer 2 (fileOf (a .l) (now (a .list))) .number ≡ 0)
-list-good c = sym (ap (λ (x : Answer). x .number) (c .before .before .before .take-content .ensures .0)) ∙ c .if2 .left
+list-good c = sym (ap (λ (x : Moved). x .number) (c .before .before .before .take-content .ensures .0)) ∙ c .if2 .left
 
 items-good : (c : tie.Else3) → (let a = c .before .before .before .before .before .before .before .before .before .before .before .before .before .before .before .before .before .before .before .before .before .before .before .before .before .args in contentAnswer 3 (fileOf (a .i) (now (a .items))) .number ≡ 0)
-items-good c = sym (ap (λ (x : Answer). x .number) (c .before .before .before .take-content2 .ensures .0)) ∙ c .if3 .left
+items-good c = sym (ap (λ (x : Moved). x .number) (c .before .before .before .take-content2 .ensures .0)) ∙ c .if3 .left
 
 blank-requires : tie.Need-blank-requires
 blank-requires c κs = search needs
@@ -36,8 +36,8 @@ slice-aggregate-take-picture-2 c = search needs
 take-picture-requires : tie.Need-take-picture-requires
 take-picture-requires c κs = search needs
 
-refuse-requires : tie.Need-refuse-requires
-refuse-requires c κs =
+print-line-requires : tie.Need-print-line-requires
+print-line-requires c κs =
     let s = c .before .before .before .before .before .before .before .before .before .before .before .before .before .before in
     let a = s .args in
     let t = c .before .before .before .before .before .take-picture in
@@ -50,8 +50,8 @@ returns : tie.Need-returns
 returns c =
     let a = c .before .before .before .before .before .before .before .before .before .before .before .before .before .before .before .before .before .args in
     let t = c .before .before .before .before .before .before .before .before .take-picture in
-    let r = c .before .before .refuse in
-    refusal-shown _ 112 (t .result) (r .result) (now (a .text)) _ (now (a .after)) (outcome-p _ (fileOf (a .l) (now (a .list))) (fileOf (a .i) (now (a .items))) (t .result) (t .ensures .0) (c .before .before .before .before .if1 .taken)) (r .ensures)
+    let r = c .before .before .print-line in
+    line-shown _ 112 (t .result) (r .result) (now (a .text)) _ (now (a .after)) (outcome-p _ (fileOf (a .l) (now (a .list))) (fileOf (a .i) (now (a .items))) (t .result) (t .ensures .0) (c .before .before .before .before .if1 .taken)) (r .ensures)
 
 blank-requires-2 : tie.Need-blank-requires-2
 blank-requires-2 c κs = search needs
@@ -62,8 +62,8 @@ slice-aggregate-take-content c = search needs
 take-content-requires : tie.Need-take-content-requires
 take-content-requires c κs = search needs
 
-refuse-requires-2 : tie.Need-refuse-requires-2
-refuse-requires-2 c κs =
+print-line-requires-2 : tie.Need-print-line-requires-2
+print-line-requires-2 c κs =
     let s = c .before .before .before .before .before .before .before .before .before .before .before .before .before .before .before .before .before .before .before .before in
     let a = s .args in
     let t = c .before .before .before .before .take-content in
@@ -76,8 +76,8 @@ returns-2 : tie.Need-returns-2
 returns-2 c =
     let a = c .before .before .before .before .before .before .before .before .before .before .before .before .before .before .before .before .before .before .before .before .before .before .before .args in
     let t = c .before .before .before .before .before .before .before .take-content in
-    let r = c .before .before .refuse2 in
-    refusal-shown _ 108 (t .result) (r .result) (now (a .text)) _ (now (a .after)) (outcome-l (fileOf (a .p) (now (a .picture))) _ (fileOf (a .i) (now (a .items))) (picture-good (c .before .before .before .before .before .before .before .before .before .before)) (t .result) (t .ensures .0) (c .before .before .before .before .if2 .taken)) (r .ensures)
+    let r = c .before .before .print-line2 in
+    line-shown _ 108 (t .result) (r .result) (now (a .text)) _ (now (a .after)) (outcome-l (fileOf (a .p) (now (a .picture))) _ (fileOf (a .i) (now (a .items))) (picture-good (c .before .before .before .before .before .before .before .before .before .before)) (t .result) (t .ensures .0) (c .before .before .before .before .if2 .taken)) (r .ensures)
 
 blank-requires-3 : tie.Need-blank-requires-3
 blank-requires-3 c κs = search needs
@@ -88,8 +88,8 @@ slice-aggregate-take-content-2 c = search needs
 take-content-requires-2 : tie.Need-take-content-requires-2
 take-content-requires-2 c κs = search needs
 
-refuse-requires-3 : tie.Need-refuse-requires-3
-refuse-requires-3 c κs =
+print-line-requires-3 : tie.Need-print-line-requires-3
+print-line-requires-3 c κs =
     let s = c .before .before .before .before .before .before .before .before .before .before .before .before .before .before .before .before .before .before .before .before .before .before .before .before .before .before in
     let a = s .args in
     let t = c .before .before .before .before .take-content2 in
@@ -102,8 +102,8 @@ returns-3 : tie.Need-returns-3
 returns-3 c =
     let a = c .before .before .before .before .before .before .before .before .before .before .before .before .before .before .before .before .before .before .before .before .before .before .before .before .before .before .before .before .before .args in
     let t = c .before .before .before .before .before .before .before .take-content2 in
-    let r = c .before .before .refuse3 in
-    refusal-shown _ 105 (t .result) (r .result) (now (a .text)) _ (now (a .after)) (outcome-i (fileOf (a .p) (now (a .picture))) (fileOf (a .l) (now (a .list))) _ (picture-good (c .before .before .before .before .before .before .before .before .before .before .before .before .before .before .before .before)) (list-good (c .before .before .before .before .before .before .before .before .before .before)) (t .result) (t .ensures .0) (c .before .before .before .before .if3 .taken)) (r .ensures)
+    let r = c .before .before .print-line3 in
+    line-shown _ 105 (t .result) (r .result) (now (a .text)) _ (now (a .after)) (outcome-i (fileOf (a .p) (now (a .picture))) (fileOf (a .l) (now (a .list))) _ (picture-good (c .before .before .before .before .before .before .before .before .before .before .before .before .before .before .before .before)) (list-good (c .before .before .before .before .before .before .before .before .before .before)) (t .result) (t .ensures .0) (c .before .before .before .before .if3 .taken)) (r .ensures)
 
 blank-requires-4 : tie.Need-blank-requires-4
 blank-requires-4 c κs = search needs
@@ -165,19 +165,19 @@ session-spec =
     slice-aggregate-take-picture
     slice-aggregate-take-picture-2
     take-picture-requires
-    refuse-requires
+    print-line-requires
     same-length
     returns
     blank-requires-2
     slice-aggregate-take-content
     take-content-requires
-    refuse-requires-2
+    print-line-requires-2
     same-length-2
     returns-2
     blank-requires-3
     slice-aggregate-take-content-2
     take-content-requires-2
-    refuse-requires-3
+    print-line-requires-3
     same-length-3
     returns-3
     blank-requires-4

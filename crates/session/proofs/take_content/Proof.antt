@@ -15,8 +15,8 @@ enum-told c = search needs
 enum-told-2 : tie.Need-enum-told-2
 enum-told-2 c = search needs
 
-refused-requires : tie.Need-refused-requires
-refused-requires c κs = search needs
+unread-requires : tie.Need-unread-requires
+unread-requires c κs = search needs
 
 enum-known-found : tie.Need-enum-known-found
 enum-known-found c = search needs
@@ -24,15 +24,15 @@ enum-known-found c = search needs
 front-requires : tie.Need-front-requires
 front-requires c κs = search needs
 
-refused-requires-2 : tie.Need-refused-requires-2
-refused-requires-2 c κs = search needs
+unread-requires-2 : tie.Need-unread-requires-2
+unread-requires-2 c κs = search needs
 
 returns : tie.Need-returns
 returns c =
     let w = c .before .before in
     let a = w .before .before .before .before .before .before .args in
     let b = now (a .buffer) in
-    content-refused (a .kind) (fileOf (a .found) b) (c .refused2 .result) _ (c .refused2 .ensures)
+    content-refused (a .kind) (fileOf (a .found) b) (c .unread2 .result) _ (c .unread2 .ensures)
     (found-long (done 0) 8192 (a .kind) b (w .before .before .found .given .1) (w .front .ensures) (c .before .if1 .taken))
 
 read-content-requires : tie.Need-read-content-requires
@@ -48,7 +48,7 @@ returns-3 : tie.Need-returns-3
 returns-3 c =
     let a = c .before .before .before .before .before .args in
     let b = now (a .buffer) in
-    content-refused (a .kind) (fileOf (a .found) b) (c .refused .result) _ (c .refused .ensures) (sym (ap (λ (f : Found). contentAnswer (a .kind) (fileOf f b)) (c .before .enum-told2 .given .1)))
+    content-refused (a .kind) (fileOf (a .found) b) (c .unread .result) _ (c .unread .ensures) (sym (ap (λ (f : Found). contentAnswer (a .kind) (fileOf f b)) (c .before .enum-told2 .given .1)))
 
 same-length : tie.Need-same-length
 same-length c = search needs
@@ -61,7 +61,7 @@ returns-4 c =
     let b = now (a .buffer) in
     let r = c .before .before .read-content in
     let e = found-bytes b (w .before .before .found .given .1) (w .front .ensures) in
-    content-taken (a .kind) (fileOf (a .found) b) (now (w .front .result)) (now (a .target)) (r .last .1 .1 .0) (r .result) e (s .pre .0) (c .before .before .before .before .if1 .left) (s .pre .1) (r .ensures .0) (r .ensures .1)
+    content-taken (a .kind) (fileOf (a .found) b) (now (w .front .result)) (now (a .target)) (r .last .1 .1 .0) (r .result) e (s .pre .0) (c .before .before .before .before .if1 .left) (s .pre .1) (r .ensures)
 
 pub take-content-spec : {M : Type 1} → statement M
 take-content-spec =
@@ -69,10 +69,10 @@ take-content-spec =
     (tie.spec
     enum-told
     enum-told-2
-    refused-requires
+    unread-requires
     enum-known-found
     front-requires
-    refused-requires-2
+    unread-requires-2
     returns
     read-content-requires
     returns-2

@@ -12,14 +12,14 @@ use Rattle.session.proofs.take_picture.Tie as tie
 enum-told : tie.Need-enum-told
 enum-told c = search needs
 
-refused-requires : tie.Need-refused-requires
-refused-requires c κs = search needs
+unread-requires : tie.Need-unread-requires
+unread-requires c κs = search needs
 
 enum-told-2 : tie.Need-enum-told-2
 enum-told-2 c = search needs
 
-refused-requires-2 : tie.Need-refused-requires-2
-refused-requires-2 c κs = search needs
+unread-requires-2 : tie.Need-unread-requires-2
+unread-requires-2 c κs = search needs
 
 enum-known-found : tie.Need-enum-known-found
 enum-known-found c = search needs
@@ -27,15 +27,15 @@ enum-known-found c = search needs
 front-requires : tie.Need-front-requires
 front-requires c κs = search needs
 
-refused-requires-3 : tie.Need-refused-requires-3
-refused-requires-3 c κs = search needs
+unread-requires-3 : tie.Need-unread-requires-3
+unread-requires-3 c κs = search needs
 
 returns : tie.Need-returns
 returns c =
     let w = c .before .before in
     let a = w .before .before .before .before .before .before .before .args in
     let b = now (a .buffer) in
-    picture-refused (fileOf (a .found) b) (c .refused3 .result) (now (a .memory)) (now (a .registers)) (c .refused3 .ensures)
+    picture-refused (fileOf (a .found) b) (c .unread3 .result) (now (a .memory)) (now (a .registers)) (c .unread3 .ensures)
     (found-long (refused 20 0) 8704 1 b (w .before .before .found .given .1) (w .front .ensures) (c .before .if1 .taken))
 
 read-picture-requires : tie.Need-read-picture-requires
@@ -45,13 +45,13 @@ returns-2 : tie.Need-returns-2
 returns-2 c =
     let a = c .before .before .before .before .before .before .args in
     let b = now (a .buffer) in
-    picture-refused (fileOf (a .found) b) (c .refused .result) (now (a .memory)) (now (a .registers)) (c .refused .ensures) (sym (ap (λ (f : Found). pictureAnswer (fileOf f b)) (c .before .enum-told .given .1)))
+    picture-refused (fileOf (a .found) b) (c .unread .result) (now (a .memory)) (now (a .registers)) (c .unread .ensures) (sym (ap (λ (f : Found). pictureAnswer (fileOf f b)) (c .before .enum-told .given .1)))
 
 returns-3 : tie.Need-returns-3
 returns-3 c =
     let a = c .before .before .before .before .before .before .args in
     let b = now (a .buffer) in
-    picture-refused (fileOf (a .found) b) (c .refused2 .result) (now (a .memory)) (now (a .registers)) (c .refused2 .ensures) (sym (ap (λ (f : Found). pictureAnswer (fileOf f b)) (c .before .enum-told2 .given .1)))
+    picture-refused (fileOf (a .found) b) (c .unread2 .result) (now (a .memory)) (now (a .registers)) (c .unread2 .ensures) (sym (ap (λ (f : Found). pictureAnswer (fileOf f b)) (c .before .enum-told2 .given .1)))
 
 same-length : tie.Need-same-length
 same-length c = search needs
@@ -67,19 +67,19 @@ returns-4 c =
     let b = now (a .buffer) in
     let r = c .before .before .before .before .read-picture in
     let e = found-bytes b (w .before .before .found .given .1) (w .front .ensures) in
-    picture-taken (fileOf (a .found) b) (now (w .front .result)) (now (a .memory)) (now (a .registers)) (r .last .1 .1 .0) (r .last .1 .1 .1 .0) (r .result) e (c .before .before .before .before .before .before .before .if1 .left) (s .pre .0) (s .pre .1) (r .ensures .0) (r .ensures .1 .0) (r .ensures .1 .1)
+    picture-taken (fileOf (a .found) b) (now (w .front .result)) (now (a .memory)) (now (a .registers)) (r .last .1 .1 .0) (r .last .1 .1 .1 .0) (r .result) e (c .before .before .before .before .before .before .before .if1 .left) (s .pre .0) (s .pre .1) (r .ensures)
 
 pub take-picture-spec : {M : Type 1} → statement M
 take-picture-spec =
     tie.close
     (tie.spec
     enum-told
-    refused-requires
+    unread-requires
     enum-told-2
-    refused-requires-2
+    unread-requires-2
     enum-known-found
     front-requires
-    refused-requires-3
+    unread-requires-3
     returns
     read-picture-requires
     returns-2

@@ -3,7 +3,7 @@ use mathlib.Core.Path.{refl}
 use mathlib.Core.List.{[], _∷_}
 use native.Mathlib.Omega.{arith}
 use denote.Ref.{now}
-use Rattle.builders.specs.Fields.{clear, setY, bitRounds, differenceByte}
+use Rattle.builders.specs.Sums.{clear, setY, bitRounds, differenceByte}
 use Rattle.builders.proofs.PutLaws.{put-more}
 use borrow.Author.Needs.{needs}
 use Rattle.builders.proofs.rounds.put_difference.Statement.{statement}

@@ -7,7 +7,7 @@ use denote.Ref.{now}
 use lib.ListN.{length}
 use borrow.Author.Needs.{needs}
 use Rattle.builders.specs.Lists.{logicFrom, logicAt, storeAt}
-use Rattle.builders.specs.Fields.{sumByte, carryByte, moveByte}
+use Rattle.builders.specs.Sums.{sumByte, carryByte, moveByte}
 use Rattle.builders.proofs.PutLaws.{put-more}
 use Rattle.builders.proofs.rounds.put_round.Statement.{statement}
 use Rattle.builders.proofs.rounds.put_round.Tie as tie

@@ -9,7 +9,7 @@ use lib.ListN.{length}
 use Rattle.bits.specs.Steps.{putAt}
 use Rattle.bits.proofs.Puts.{put-nil}
 use Rattle.builders.specs.Lists.{encoded, rounds}
-use Rattle.builders.specs.Fields.{bitRound, bitRounds}
+use Rattle.builders.specs.Sums.{bitRound, bitRounds}
 use Rattle.builders.proofs.ListLaws.{length-bits}
 use Rattle.builders.proofs.PutLaws.{rounds-more}
 use Rattle.builders.proofs.rounds.put_rounds.Statement.{statement}

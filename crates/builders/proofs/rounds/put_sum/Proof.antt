@@ -3,7 +3,7 @@ use mathlib.Core.Path.{refl}
 use mathlib.Core.List.{[], _∷_}
 use native.Mathlib.Omega.{arith}
 use denote.Ref.{now}
-use Rattle.builders.specs.Fields.{clear, bitRounds, sumByte}
+use Rattle.builders.specs.Sums.{clear, bitRounds, sumByte}
 use Rattle.builders.proofs.PutLaws.{put-more}
 use borrow.Author.Needs.{needs}
 use Rattle.builders.proofs.rounds.put_sum.Statement.{statement}

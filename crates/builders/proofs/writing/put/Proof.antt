@@ -1,37 +1,36 @@
--- `builders::writing::put`: the lent part that comes back, by `part-put`. Assumes nothing.
-use mathlib.Core.Path.{_≡_, ap, _∙_}
-use mathlib.Core.List.{List}
-use Prim.Native.Nat.{ℕ, _-_, _+_, _*_}
-use native.Mathlib.Omega.{arith}
-use denote.Ref.{now}
-use lib.ListN.{length}
-use Rattle.bits.specs.Steps.{putAt}
-use Rattle.bits.proofs.Puts.{part-put}
+-- `builders::writing::put`: the lent part that comes back, by `part-copied`. Assumes nothing.
+use mathlib.Core.Path.{refl}
+use Prim.Native.Nat.{_*_}
 use borrow.Author.Needs.{needs}
+use denote.Ref.{now}
 use Rattle.builders.specs.Lists.{encoded}
+use Rattle.builders.proofs.PutLaws.{part-copied}
 use Rattle.builders.proofs.writing.put.Statement.{statement}
 use Rattle.builders.proofs.writing.put.Tie as tie
 
-mul-write-eight : tie.Need-mul-write-eight
-mul-write-eight c = search needs
+mul-write-part : tie.Need-mul-write-part
+mul-write-part c = search needs
 
-mul-write-eight-2 : tie.Need-mul-write-eight-2
-mul-write-eight-2 c = search needs
+mul-write-part-2 : tie.Need-mul-write-part-2
+mul-write-part-2 c = search needs
 
-add-write-eight : tie.Need-add-write-eight
-add-write-eight c = search needs
+add-write-part : tie.Need-add-write-part
+add-write-part c = search needs
 
-sub-write-eight : tie.Need-sub-write-eight
-sub-write-eight c = search needs
+sub-write-part : tie.Need-sub-write-part
+sub-write-part c = search needs
 
-part-write-eight-start : tie.Need-part-write-eight-start
-part-write-eight-start c = search needs
+part-write-part-start : tie.Need-part-write-part-start
+part-write-part-start c = search needs
 
-part-write-eight-end : tie.Need-part-write-eight-end
-part-write-eight-end c = search needs
+part-write-part-end : tie.Need-part-write-part-end
+part-write-part-end c = search needs
 
-write-eight-requires : tie.Need-write-eight-requires
-write-eight-requires c κs = search needs
+slice-aggregate-write-part : tie.Need-slice-aggregate-write-part
+slice-aggregate-write-part c = search needs
+
+write-part-requires : tie.Need-write-part-requires
+write-part-requires c κs = search needs
 
 same-length : tie.Need-same-length
 same-length c = search needs
@@ -40,21 +39,20 @@ returns : tie.Need-returns
 unfolding encoded
 returns c =
     let a = c .before .before .before .before .before .before .args in
-    let w = c .before .before .write-eight in
-    let n : 8 ≡ 8 * a .at + 8 - 8 * a .at = omega arith in
-    part-put (8 * a .at) (8 * a .at + 8) (now (a .list)) (w .last .0) (ap length (w .ensures) ∙ n)
-    ∙ ap (λ (z : List ℕ). putAt (8 * a .at) z (now (a .list))) (w .ensures)
+    let w = c .before .before .write-part in
+    part-copied (8 * a .at) 8 (now (a .list)) (w .last .0) _ refl (w .ensures)
 
 pub put-spec : {M : Type 1} → statement M
 put-spec =
     tie.close
     (tie.spec
-    mul-write-eight
-    mul-write-eight-2
-    add-write-eight
-    sub-write-eight
-    part-write-eight-start
-    part-write-eight-end
-    write-eight-requires
+    mul-write-part
+    mul-write-part-2
+    add-write-part
+    sub-write-part
+    part-write-part-start
+    part-write-part-end
+    slice-aggregate-write-part
+    write-part-requires
     same-length
     returns)

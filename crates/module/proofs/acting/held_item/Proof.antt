@@ -1,6 +1,10 @@
 -- `acting::held_item`: by its source. Assumes nothing.
-use mathlib.Core.Path.{refl}
+use mathlib.Core.Path.{refl, ap, _∙_}
+use Prim.Native.Nat.{ℕ}
 use denote.Ref.{now}
+use Rattle.bits.specs.Bits.{item}
+use Rattle.memory.specs.Access.{readBit}
+use Rattle.memory.specs.Memory.{cell}
 use Rattle.module.specs.Act.{heldItem}
 use native.Mathlib.Omega.{arith}
 use Rattle.module.proofs.ActLaws.{held-y}
@@ -8,12 +12,18 @@ use borrow.Author.Needs.{needs}
 use Rattle.module.proofs.acting.held_item.Statement.{statement}
 use Rattle.module.proofs.acting.held_item.Tie as tie
 
+mode-of-requires : tie.Need-mode-of-requires
+mode-of-requires c κs = search needs
+
 load-requires : tie.Need-load-requires
 load-requires c κs = search needs
 
 returns : tie.Need-returns
 unfolding heldItem
-returns c = rw (c .before .if1 .taken) (c .load .ensures)
+returns c =
+    let a = c .before .before .before .before .before .args in
+    rw (c .before .before .if1 .taken)
+    (c .load .ensures ∙ ap (λ (mode : ℕ). item (readBit (cell (now (a .mem))) mode (a .i .addr))) (c .before .mode-of .ensures))
 
 returns-2 : tie.Need-returns-2
 unfolding heldItem
@@ -30,4 +40,4 @@ returns-4 c =
     held-y (a .i .source) (a .i .mode) (a .i .addr) (now (a .mem)) (a .r) (omega arith)
 
 pub held-item-spec : {M : Type 1} → statement M
-held-item-spec = tie.close (tie.spec load-requires returns returns-2 returns-3 returns-4)
+held-item-spec = tie.close (tie.spec mode-of-requires load-requires returns returns-2 returns-3 returns-4)

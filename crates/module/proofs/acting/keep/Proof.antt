@@ -33,7 +33,7 @@ unfolding memAfter
 returns-2 c =
     let a = c .before .before .before .before .before .before .before .before .before .before .before .args in
     c .before .before .store-masked .ensures
-    ∙ stored-by-mask (now (a .mem)) (a .i .mode) (a .i .addr) (now (a .m)) (now (a .f)) _ (a .i .flip) (omega arith) (c .before .before .before .before .before .line-mask .ensures)
+    ∙ stored-by-mask (now (a .mem)) (a .mode) (a .i .addr) (now (a .m)) (now (a .f)) _ (a .i .flip) (omega arith) (c .before .before .before .before .before .line-mask .ensures)
     ∙ simp (ne-eqb _ _ (c .before .before .before .before .before .before .before .before .if1 .left), eq-eqb _ _ (c .before .before .before .before .before .before .if2 .taken))
 
 returns-3 : tie.Need-returns-3

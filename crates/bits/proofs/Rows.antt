@@ -1,0 +1,94 @@
+-- Laws of a table of numbers: the number that it gives and the first row that holds, both ways; a row by its number, and not by its position. Assumes nothing.
+use mathlib.Core.Path.{_≡_, refl, ap, _∙_}
+use mathlib.Core.Bool.{Bool, true, false, cond, not, _&&_, false≢true}
+use mathlib.Core.List.{List, [], _∷_}
+use mathlib.Core.Logic.{inl, inr}
+use Prim.Native.Nat.{ℕ, _≤_}
+use native.Mathlib.Omega.{arith}
+use lib.Dec.{eqb, leb}
+use borrow.Author.Tests.{eqb-false, leb-true, not-true}
+use Rattle.bits.specs.Rows.{Row, numberOf, NoRow, FirstRow}
+
+-- ---- what is asked of the numbers of a table, as tests: a table that is written out passes them by `refl`
+
+-- none of them is 0
+abbrev pub numbered : List Row → Bool
+numbered [] = true
+numbered (r ∷ rows) = not (eqb (r .number) 0) && numbered rows
+
+-- none of them is over m
+abbrev pub upTo : ℕ → List Row → Bool
+upTo m [] = true
+upTo m (r ∷ rows) = leb (r .number) m && upTo m rows
+
+and-left : (a b : Bool) → (a && b) ≡ true → a ≡ true
+and-left true b e = refl
+and-left false b e = absurd (false≢true e)
+
+and-right : (a b : Bool) → (a && b) ≡ true → b ≡ true
+and-right true b e = e
+and-right false b e = absurd (false≢true e)
+
+-- one of two, whichever a test takes
+taken : {A : Type 0} (P : A → Type 0) (x y : A) (b : Bool) → P x → P y → P (cond b x y)
+taken P x y true p q = p
+taken P x y false p q = q
+
+-- ---- the number, and the rows
+
+pub none-number : (rows : List Row) → NoRow rows → numberOf rows ≡ 0
+none-number [] t = refl
+none-number (r ∷ rows) t = ap (λ (b : Bool). cond b (r .number) (numberOf rows)) (t .0) ∙ none-number rows (t .1)
+
+pub number-none : (rows : List Row) → numbered rows ≡ true → numberOf rows ≡ 0 → NoRow rows
+number-none [] n e = tt
+number-none (r ∷ rows) n e = go (r .holds) refl (number-none rows (and-right (not (eqb (r .number) 0)) _ n)) e
+  where
+    go : (b : Bool) → r .holds ≡ b → (numberOf rows ≡ 0 → NoRow rows) → cond b (r .number) (numberOf rows) ≡ 0 → (r .holds ≡ false) × NoRow rows
+    go true h ih z = absurd (eqb-false (r .number) 0 (not-true (eqb (r .number) 0) (and-left _ (numbered rows) n)) z)
+    go false h ih z = (h, ih z)
+
+pub first-number : (rows : List Row) (n : ℕ) → FirstRow rows n → numberOf rows ≡ n
+first-number [] n f = absurd f
+first-number (r ∷ rows) n (inl (h, e)) = ap (λ (b : Bool). cond b (r .number) (numberOf rows)) h ∙ e
+first-number (r ∷ rows) n (inr (h, f)) = ap (λ (b : Bool). cond b (r .number) (numberOf rows)) h ∙ first-number rows n f
+
+pub number-first : (rows : List Row) (n : ℕ) → (n ≡ 0 → ⊥) → numberOf rows ≡ n → FirstRow rows n
+number-first [] n u e = absurd (u (omega arith))
+number-first (r ∷ rows) n u e = go (r .holds) refl (number-first rows n u) e
+  where
+    go : (b : Bool) → r .holds ≡ b → (numberOf rows ≡ n → FirstRow rows n) → cond b (r .number) (numberOf rows) ≡ n → FirstRow (r ∷ rows) n
+    go true h ih z = inl (h, z)
+    go false h ih z = inr (h, ih z)
+
+-- ---- a row by its number
+
+-- whether the row of number n holds
+abbrev pub rowAt : List Row → ℕ → Bool
+rowAt [] n = false
+rowAt (r ∷ rows) n = cond (eqb (r .number) n) (r .holds) (rowAt rows n)
+
+pub row-off : (rows : List Row) → NoRow rows → (n : ℕ) → rowAt rows n ≡ false
+row-off [] t n = refl
+row-off (r ∷ rows) t n = taken (λ (b : Bool). b ≡ false) (r .holds) (rowAt rows n) (eqb (r .number) n) (t .0) (row-off rows (t .1) n)
+
+-- ---- how high a number can be, and when there is none
+
+pub number-high : (m : ℕ) (rows : List Row) → upTo m rows ≡ true → numberOf rows ≤ m
+number-high m [] t = omega arith
+number-high m (r ∷ rows) t =
+    taken (λ (n : ℕ). n ≤ m) (r .number) (numberOf rows) (r .holds) (leb-true (r .number) m (and-left _ (upTo m rows) t))
+    (number-high m rows (and-right (leb (r .number) m) _ t))
+
+-- no row holds, as a test
+abbrev pub noRow : List Row → Bool
+noRow [] = true
+noRow (r ∷ rows) = not (r .holds) && noRow rows
+
+pub number-test : (rows : List Row) → numbered rows ≡ true → eqb (numberOf rows) 0 ≡ noRow rows
+number-test [] n = refl
+number-test (r ∷ rows) n = go (r .holds) (number-test rows (and-right (not (eqb (r .number) 0)) _ n))
+  where
+    go : (b : Bool) → eqb (numberOf rows) 0 ≡ noRow rows → eqb (cond b (r .number) (numberOf rows)) 0 ≡ (not b && noRow rows)
+    go true ih = not-true (eqb (r .number) 0) (and-left _ (numbered rows) n)
+    go false ih = ih

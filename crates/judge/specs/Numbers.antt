@@ -1,0 +1,53 @@
+-- What the tables of numbers say, in facts, where the page of demand 1 says when each number is given: no contract cites this file. Document 01, Numbers given back.
+use mathlib.Core.Path.{_≡_}
+use mathlib.Core.Bool.{Bool, true}
+use mathlib.Core.List.{List}
+use Prim.Native.Nat.{ℕ, _+_, _*_, _/_, _<_, _≤_}
+use lib.ListN.{length}
+use Rattle.bits.specs.Rows.{Row, NoRow, FirstRow}
+use Rattle.bits.specs.Search.{count}
+use Rattle.judge.specs.declared.Instruction.{Instruction}
+use Rattle.judge.specs.declared.Lengths.{Lengths}
+use Rattle.judge.specs.declared.Answer.{Answer}
+use Rattle.judge.specs.Judge.{instructionAt, takes, gives, instructionRows}
+
+-- Number n, at place k.
+abbrev pub Gives : Answer → ℕ → ℕ → Type 0
+Gives a n k = (a .number ≡ n) × (a .place ≡ k)
+
+-- None of the rows 5 to 11 holds at any instruction before k.
+abbrev pub Formed : List ℕ → ℕ → Type 0
+Formed list k = (j : ℕ) → j < k → NoRow (instructionRows (instructionAt list j))
+
+-- Instruction j has its item, or its room, in a buffer of `have` bytes: 32 beyond what those before it used.
+abbrev pub Has : (Instruction → Bool) → List ℕ → ℕ → ℕ → Type 0
+Has wants list have j = wants (instructionAt list j) ≡ true → 32 * count (λ i. wants (instructionAt list i)) j + 32 ≤ have
+
+-- Each instruction before k has its.
+abbrev pub Served : (Instruction → Bool) → List ℕ → ℕ → ℕ → Type 0
+Served wants list have k = (j : ℕ) → j < k → Has wants list have j
+
+-- Instruction k wants one, and it is not there.
+abbrev pub Lacks : (Instruction → Bool) → List ℕ → ℕ → ℕ → Type 0
+Lacks wants list have k = (wants (instructionAt list k) ≡ true) × (have < 32 * count (λ i. wants (instructionAt list i)) k + 32)
+
+-- When a list is refused with number n at place k, where `rows` judge what is lent. "Order: 1 to 4 (place 0); then each instruction in turn, 5 to 11; then 12; then 13."
+pub data Refused (rows : List Row) (l : Lengths) (list : List ℕ) : ℕ → ℕ → Type 0 where
+  -- row n of what is lent is the first that holds
+  by-lent : (n : ℕ) → FirstRow rows n → Refused rows l list n 0
+  -- nothing is wrong before instruction k, and row n of its table is the first that holds
+  by-instruction : (n k : ℕ) → NoRow rows → k < length list / 8 → Formed list k
+      → FirstRow (instructionRows (instructionAt list k)) n → Refused rows l list n k
+  -- every instruction stands, and k is the first that lacks its item
+  by-item : (k : ℕ) → NoRow rows → Formed list (length list / 8) → k < length list / 8
+      → Served takes list (l .items) k → Lacks takes list (l .items) k → Refused rows l list 12 k
+  -- every instruction stands and has its item, and k is the first that lacks its room
+  by-room : (k : ℕ) → NoRow rows → Formed list (length list / 8) → Served takes list (l .items) (length list / 8) → k < length list / 8
+      → Served gives list (l .out) k → Lacks gives list (l .out) k → Refused rows l list 13 k
+
+-- When it is not: no row holds anywhere, and every instruction has its item and its room.
+pub record Unrefused (rows : List Row) (l : Lengths) (list : List ℕ) : Type 0 where
+  pub lent : NoRow rows
+  pub formed : Formed list (length list / 8)
+  pub items : Served takes list (l .items) (length list / 8)
+  pub room : Served gives list (l .out) (length list / 8)

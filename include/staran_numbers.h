@@ -1,0 +1,134 @@
+/* The numbers that the library gives back, and what each means. tools/numbers.py makes this file from docs/numbers.tsv: change that.
+ *
+ * staran.h includes it; docs/NUMBERS.md is the same table with the order in which numbers are judged. */
+#ifndef STARAN_NUMBERS_H
+#define STARAN_NUMBERS_H
+
+#include <stdint.h>
+
+enum {
+    /* all: done */
+    STARAN_DONE = 0,
+    /* run, step: the memory is not 8,192 bytes */
+    STARAN_REFUSED_MEMORY_LENGTH = 1,
+    /* run: the registers are not 96 bytes */
+    STARAN_REFUSED_REGISTERS_LENGTH = 2,
+    /* run, step: the list is not a multiple of 8 bytes, or over 32,768; a step's instruction is not 8 bytes */
+    STARAN_REFUSED_LIST_LENGTH = 3,
+    /* run, step: the items are not a multiple of 32 bytes, or over 32,768 */
+    STARAN_REFUSED_ITEMS_LENGTH = 4,
+    /* run, step: byte 0, the kind, is over 5 */
+    STARAN_REFUSED_KIND = 5,
+    /* run, step: byte 1, the source: it is over 4; it is memory (0) for a store; it is not 0 for a resolve */
+    STARAN_REFUSED_SOURCE = 6,
+    /* run, step: memory is touched and byte 2, the mode tag, is 0: no mode was given */
+    STARAN_REFUSED_NO_MODE = 7,
+    /* run, step: memory is touched and byte 2, the mode tag, is over 1 */
+    STARAN_REFUSED_MODE_TAG = 8,
+    /* run, step: memory is not touched, and byte 2, 3 or 4 is not 0 */
+    STARAN_REFUSED_MODE_UNUSED = 9,
+    /* run, step, pass: byte 6 is none of the 37 shifts; it is not 0 on a store; byte 5 or 6 is not 0 on a resolve */
+    STARAN_REFUSED_SHIFT = 10,
+    /* run, step: byte 7: the choice is over 4 in logic; it is not 0 in any other kind */
+    STARAN_REFUSED_LOGIC = 11,
+    /* run, step: the items are too few: the place is the first instruction that lacks one */
+    STARAN_REFUSED_ITEMS_TOO_FEW = 12,
+    /* run, step: the out buffer is too short: the place is the first instruction without room for its 32 bytes */
+    STARAN_REFUSED_OUT_TOO_SHORT = 13,
+    /* reading: the file has no bytes, is not a multiple of 512, or is over 34,304; in the program also: before.pic
+       is absent, a file cannot be read (standard error says why), before.pic is over 17 blocks, run.lst or in.itm
+       over 16 */
+    STARAN_REFUSED_FILE_LENGTH = 20,
+    /* reading: the block's sums are not those of its bytes */
+    STARAN_REFUSED_BLOCK_SUMS = 21,
+    /* reading, writing: the block is of another kind than the one asked for; or the kind asked for is not 1 to 3 */
+    STARAN_REFUSED_BLOCK_KIND = 22,
+    /* reading: the block's number is not its place, or its count is not that of the blocks there */
+    STARAN_REFUSED_BLOCK_NUMBER = 23,
+    /* reading: the block's count of used payload is wrong, or a byte is not 0 that must be */
+    STARAN_REFUSED_BLOCK_FORM = 24,
+    /* reading: the content's size does not fit its kind: a picture 8,288; a list a multiple of 8, items a multiple
+       of 32, at most 32,768 */
+    STARAN_REFUSED_CONTENT_SIZE = 25,
+    /* reading, writing: reading: the target is too short, or for a picture not exactly 8,192 and 96 bytes; writing:
+       the content is of a wrong size */
+    STARAN_REFUSED_LENT_LENGTH = 26,
+    /* writing: the output is shorter than the blocks */
+    STARAN_REFUSED_OUTPUT_TOO_SHORT = 27,
+    /* sum and difference lists: the width n is not 1 to 64 */
+    STARAN_REFUSED_WIDTH = 30,
+    /* sum and difference lists: a start plus the width is over 256 */
+    STARAN_REFUSED_FIELD_BEYOND = 31,
+    /* sum and difference lists: S overlaps A or B without having its start */
+    STARAN_REFUSED_FIELDS_CROSS = 32,
+    /* sum and difference lists: the list buffer is under 8(1 + 5n) bytes, or for a difference 8(2 + 5n) */
+    STARAN_REFUSED_LIST_TOO_SHORT = 33
+};
+
+/* What a number means, in words: when it is given. A number that is never given has a sentence too; the pointer is never null.
+ * It is compiled into its caller, so that libstaran.a holds proved functions alone. */
+static inline const char *staran_meaning(uint32_t number)
+{
+    switch (number) {
+    case STARAN_DONE:
+        return "done";
+    case STARAN_REFUSED_MEMORY_LENGTH:
+        return "the memory is not 8,192 bytes";
+    case STARAN_REFUSED_REGISTERS_LENGTH:
+        return "the registers are not 96 bytes";
+    case STARAN_REFUSED_LIST_LENGTH:
+        return "the list is not a multiple of 8 bytes, or over 32,768; a step's instruction is not 8 bytes";
+    case STARAN_REFUSED_ITEMS_LENGTH:
+        return "the items are not a multiple of 32 bytes, or over 32,768";
+    case STARAN_REFUSED_KIND:
+        return "byte 0, the kind, is over 5";
+    case STARAN_REFUSED_SOURCE:
+        return "byte 1, the source: it is over 4; it is memory (0) for a store; it is not 0 for a resolve";
+    case STARAN_REFUSED_NO_MODE:
+        return "memory is touched and byte 2, the mode tag, is 0: no mode was given";
+    case STARAN_REFUSED_MODE_TAG:
+        return "memory is touched and byte 2, the mode tag, is over 1";
+    case STARAN_REFUSED_MODE_UNUSED:
+        return "memory is not touched, and byte 2, 3 or 4 is not 0";
+    case STARAN_REFUSED_SHIFT:
+        return "byte 6 is none of the 37 shifts; it is not 0 on a store; byte 5 or 6 is not 0 on a resolve";
+    case STARAN_REFUSED_LOGIC:
+        return "byte 7: the choice is over 4 in logic; it is not 0 in any other kind";
+    case STARAN_REFUSED_ITEMS_TOO_FEW:
+        return "the items are too few: the place is the first instruction that lacks one";
+    case STARAN_REFUSED_OUT_TOO_SHORT:
+        return "the out buffer is too short: the place is the first instruction without room for its 32 bytes";
+    case STARAN_REFUSED_FILE_LENGTH:
+        return "the file has no bytes, is not a multiple of 512, or is over 34,304; in the program also: before.pic "
+               "is absent, a file cannot be read (standard error says why), before.pic is over 17 blocks, run.lst or"
+               " in.itm over 16";
+    case STARAN_REFUSED_BLOCK_SUMS:
+        return "the block's sums are not those of its bytes";
+    case STARAN_REFUSED_BLOCK_KIND:
+        return "the block is of another kind than the one asked for; or the kind asked for is not 1 to 3";
+    case STARAN_REFUSED_BLOCK_NUMBER:
+        return "the block's number is not its place, or its count is not that of the blocks there";
+    case STARAN_REFUSED_BLOCK_FORM:
+        return "the block's count of used payload is wrong, or a byte is not 0 that must be";
+    case STARAN_REFUSED_CONTENT_SIZE:
+        return "the content's size does not fit its kind: a picture 8,288; a list a multiple of 8, items a multiple "
+               "of 32, at most 32,768";
+    case STARAN_REFUSED_LENT_LENGTH:
+        return "reading: the target is too short, or for a picture not exactly 8,192 and 96 bytes; writing: the "
+               "content is of a wrong size";
+    case STARAN_REFUSED_OUTPUT_TOO_SHORT:
+        return "the output is shorter than the blocks";
+    case STARAN_REFUSED_WIDTH:
+        return "the width n is not 1 to 64";
+    case STARAN_REFUSED_FIELD_BEYOND:
+        return "a start plus the width is over 256";
+    case STARAN_REFUSED_FIELDS_CROSS:
+        return "S overlaps A or B without having its start";
+    case STARAN_REFUSED_LIST_TOO_SHORT:
+        return "the list buffer is under 8(1 + 5n) bytes, or for a difference 8(2 + 5n)";
+    default:
+        return "no such number is ever given";
+    }
+}
+
+#endif

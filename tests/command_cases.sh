@@ -1,0 +1,247 @@
+#!/bin/bash
+# The command ./staran from outside: exit statuses, names of folders, links, several folders, why and numbers; and building, by a stand-in for `rt` in a
+# copy of the command: a stale program, a failed and an interrupted build, a checkout that cannot be written, no python3. Also tests/make_blocks.py.
+# Prints a line for each case, and at last 'N passed, 0 failed'.
+#   tests/command_cases.sh
+set -u
+here=$(cd "$(dirname "$0")/.." && pwd -P)
+work=$(mktemp -d)
+trap 'rm -rf "$work"' EXIT
+passed=0 failed=0
+die() { printf 'tests/command_cases.sh: %s\n' "$*" >&2; exit 2; }
+"$here/staran" --build >"$work/build" 2>&1 || { cat "$work/build" >&2; die "the program cannot be built"; }
+staran=$here/staran
+cd "$work" || die "no temporary folder"
+blocks=$work/blocks
+# shellcheck disable=SC2016
+printf '#!/bin/sh\nexec python3 -B "%s/tests/make_blocks.py" "$@"\n' "$here" >"$blocks"
+chmod +x "$blocks"
+
+# A folder with the printed example of document 01; a second argument is its list.
+folder() { mkdir -p -- "$1"; cp "$here"/crates/program/data/* "./$1"; [ $# -eq 1 ] || "$blocks" --unfit list "./$1/run.lst" "$2"; }
+call() { timeout 60 "$@" >"$work/out" 2>"$work/err"; status=$?; }
+judge() { # NAME CONDITION: counts a case; CONDITION is the status of the test before it
+    if [ "$2" -eq 0 ]; then passed=$((passed + 1)); echo "ok   $1"
+    else failed=$((failed + 1)); echo "FAIL $1 (status $status)"; sed 's/^/     out: /' "$work/out"; sed 's/^/     err: /' "$work/err"; fi
+}
+# NAME STATUS LINE COMMAND..: the status, and the first line printed (empty: nothing is)
+gives() {
+    name=$1 want=$2 line=$3
+    shift 3
+    call "$@"
+    [ "$status" -eq "$want" ] && [ "$(head -n 1 "$work/out")" = "$line" ]
+    judge "$name" $?
+}
+# NAME STATUS SENTENCE COMMAND..: the status, nothing printed, and a line of standard error that has SENTENCE
+complains() {
+    name=$1 want=$2 sentence=$3
+    shift 3
+    call "$@"
+    [ "$status" -eq "$want" ] && [ ! -s "$work/out" ] && grep -qF -- "$sentence" "$work/err" && ! grep -q 'Traceback' "$work/err"
+    judge "$name" $?
+}
+done_line='r 0 0 2 0 1'
+
+# ---- exit statuses
+folder good
+folder bad 02030000FF000000
+gives "0 for a run that is done" 0 "$done_line" "$staran" good
+gives "1 for a run that is refused" 1 'r 7 0 0 0 0' "$staran" bad
+mkdir empty; gives "1 for a file that is refused" 1 'p 20 0 0 0 0' "$staran" empty
+folder blocked; mkdir blocked/after.pic; complains "2 where after.pic cannot be written" 2 'after.pic: Is a directory' "$staran" blocked
+complains "2 where there is no folder" 2 'nowhere: no folder' "$staran" nowhere
+complains "2 for a file" 2 'no folder' "$staran" good/before.pic
+complains "2 for an empty name" 2 'an empty name is no folder' "$staran" ''
+# shellcheck disable=SC2016
+complains "2 for an empty name among others, after the others ran" 2 'an empty name is no folder' sh -c '"$0" good "" >/dev/null' "$staran"
+timeout 60 "$staran" good >/dev/full 2>err; status=$?; : >out
+[ $status -eq 2 ] && grep -qx 'staran: standard output: No space left on device' err; judge "2 for an output that takes nothing, with the reason" $?
+
+# ---- the folder named, whatever its name
+mkdir -p x; folder work; folder x/work FF00000000000000
+CDPATH=x gives "CDPATH leads nowhere else" 0 "$done_line" "$staran" work
+folder -d; gives "a dash in front" 0 "$done_line" "$staran" -d
+folder --odd; gives "two dashes in front" 0 "$done_line" "$staran" --odd
+folder -; gives "a dash alone" 0 "$done_line" "$staran" -
+complains "a dash in front of nothing" 2 'no folder, and no option' "$staran" -nothing
+folder 'two words  and more'; gives "blanks" 0 "$done_line" "$staran" 'two words  and more'
+folder "a'quote\"and \$dollar*"; gives "quotes, a dollar and a star" 0 "$done_line" "$staran" "a'quote\"and \$dollar*"
+ln -s good linked; gives "a link to a folder" 0 "$done_line" "$staran" linked
+# shellcheck disable=SC2016
+gives "the folder one stands in" 0 "$done_line" sh -c 'cd good && exec "$0" .' "$staran"
+gives "a path from the root" 0 "$done_line" "$staran" "$work/good"
+folder why; folder numbers; gives "a folder named as a task, after --" 0 "$done_line" "$staran" -- why
+gives "and by its path" 0 "$done_line" "$staran" ./numbers
+
+# ---- the command called through links
+mkdir -p bin/deep; ln -s "$staran" bin/staran; ln -s ../staran bin/deep/again
+gives "a link to the command" 0 "$done_line" bin/staran good
+gives "a link to a link, relative" 0 "$done_line" bin/deep/again good
+PATH=$work/bin:$PATH gives "found on PATH" 0 "$done_line" staran good
+# shellcheck disable=SC2016
+CDPATH=/ gives "called by a path that CDPATH could lead elsewhere" 0 "$done_line" sh -c 'cd "$1" && exec tests/../staran "$2"' - "$here" "$work/good"
+
+# ---- help, version, numbers
+call "$staran" --help; [ $status -eq 0 ] && grep -q 'Exit status' "$work/out" && ! awk 'length > 100' "$work/out" | grep -q .; judge "--help, in lines that fit" $?
+major=$(sed -n 's/^#define STARAN_VERSION_MAJOR //p' "$here/include/staran.h") minor=$(sed -n 's/^#define STARAN_VERSION_MINOR //p' "$here/include/staran.h")
+gives "--version is the header's" 0 "staran $major.$minor" "$staran" --version
+grep -q "^## $major.$minor" "$here/docs/CHANGELOG.md"; judge "and the newest of docs/CHANGELOG.md" $?
+call "$staran" numbers; [ $status -eq 0 ] && [ "$(grep -cE '^ *[0-9]+  ' "$work/out")" -eq "$(grep -vc '^#' "$here/docs/numbers.tsv")" ]; judge "numbers: every row" $?
+call "$staran" numbers 7; [ $status -eq 0 ] && grep -q 'no mode was given' "$work/out" && [ "$(grep -cE '^ *[0-9]+  ' "$work/out")" -eq 1 ]; judge "numbers 7: one row" $?
+complains "numbers 14: there is none" 2 'the number 14 is never given' "$staran" numbers 14
+
+# ---- why
+call "$staran" why bad
+[ $status -eq 1 ] && [ "$(head -n 1 "$work/out")" = 'r 7 0 0 0 0' ] && grep -q 'no mode was given' "$work/out" && grep -q 'do: give the mode' "$work/out" &&
+    grep -q 'byte 2  00  mode tag: no mode is given.*<-- here' "$work/out" && grep -q 'byte 0  02  kind: store' "$work/out" && [ "$(grep -c 'here$' "$work/out")" -eq 1 ]
+judge "why: a store without a mode" $?
+folder damaged; printf '\001' | dd of=damaged/before.pic bs=1 seek=600 conv=notrunc status=none
+call "$staran" why damaged; [ $status -eq 1 ] && grep -q '^Block 1' "$work/out" && grep -q 's1.*<-- here' "$work/out"; judge "why: a damaged block" $?
+call "$staran" why empty; [ $status -eq 1 ] && grep -q 'before.pic is not there' "$work/out"; judge "why: an absent picture" $?
+call "$staran" why good; [ $status -eq 0 ] && grep -q 'Done' "$work/out"; judge "why: a run that is done" $?
+complains "why: no folder" 2 'one folder' "$staran" why
+# the bytes that each number of 5 to 13 speaks of
+for row in '5:FF00000000000000:0' '6:0200010000000000:1' '8:0203020000000000:2' '9:0002000700000000:3' '10:0002000000000100:6' '10:0500000000010000:5' \
+    '11:0002000000000050:7' '12:0404000000000000:1' '7:0000000000000000:2'; do
+    IFS=: read -r number list byte <<<"$row"
+    folder each "$list"; call "$staran" why each
+    [ $status -eq 1 ] && [ "$(head -n 1 "$work/out")" = "r $number 0 0 0 0" ] && grep -q "^  byte $byte .*<-- here" "$work/out" && [ "$(grep -c 'here$' "$work/out")" -eq 1 ]
+    judge "why: $number in $list" $?
+done
+
+# ---- several folders
+call "$staran" good bad 'two words  and more'
+printf '%s\n' good: "$done_line" "$(sed -n 2p <<<"$("$staran" good)")" bad: 'r 7 0 0 0 0' 'two words  and more:' "$done_line" "$(sed -n 2p <<<"$("$staran" good)")" >want
+[ $status -eq 1 ] && cmp -s want "$work/out" && grep -q '3 of 3 folders' "$work/err"; judge "several: each one's lines under its name, in order, and the worst status" $?
+call "$staran" good work; [ $status -eq 0 ]; judge "several: all done" $?
+call "$staran" good bad nowhere; [ $status -eq 2 ] && grep -qx 'staran: nowhere: no folder' "$work/err" && grep -qx 'r 7 0 0 0 0' "$work/out"; judge "several: one that is no folder" $?
+for k in $(seq 40); do folder "many/$k"; rm -f "many/$k/after.pic"; done
+call "$staran" many/*; [ $status -eq 0 ] && [ "$(grep -cx "$done_line" "$work/out")" -eq 40 ] && [ "$(find many -name after.pic | wc -l)" -eq 40 ]; judge "several: 40 folders" $?
+call "$staran" good good; [ $status -eq 0 ] && [ "$(grep -cx "$done_line" "$work/out")" -eq 2 ]; judge "several: the same one twice" $?
+
+# ---- building, with a stand-in for rt that counts its calls and does as it is told
+copy=$work/copy
+mkdir -p "$copy/docs" "$copy/include" "$copy/tests" stand
+cp -r "$here/staran" "$here/crates.txt" "$here/crates" "$here/demo" "$here/tools" "$copy"
+cp "$here/docs/numbers.tsv" "$copy/docs"; cp "$here/include/staran.h" "$copy/include"; cp "$here/tests/kit.sh" "$here/tests/make_blocks.py" "$copy/tests"
+# shellcheck source=tests/kit.sh
+. "$here/tests/kit.sh"
+cat >stand/rt <<STAND
+#!/bin/sh
+[ "\$*" = 'check program' ] || exit 2
+echo \$\$ >>"$work/calls"
+echo 'note: of the stand-in'
+echo 'rt: bits proved (3 s)'
+[ ! -e "$work/hold" ] || { : >"$work/held"; while [ -e "$work/hold" ]; do sleep 0.05; done; }
+[ ! -e "$work/fail" ] || { echo 'rt: program NOT PROVED'; exit 1; }
+mkdir -p target/bin
+cp "$here/target/bin/program" target/bin/program
+echo 'rt: program proved (1 s)'
+echo 'rt: ok, 2 crates proved'
+STAND
+chmod +x stand/rt
+kit_home=${RATTLE_HOME:-$kit}
+copied() { RATTLE_HOME=$kit_home PATH=$work/stand:$PATH timeout 60 "$copy/staran" "$@"; }
+calls() { if [ -e calls ]; then wc -l <calls; else echo 0; fi; }
+total=$(awk '/^[a-z0-9_]+:/ { name = $1; sub(/:.*/, "", name); sub(/^[^:]*:/, ""); on[name] = $0 }
+    function all(n,   i, k, d) { if (!(n in on) || seen[n]++) return; c++; k = split(on[n], d, " "); for (i = 1; i <= k; i++) all(d[i]) } END { all("program"); print c }' "$here/crates.txt")
+built() { # NAME CALLS STATUS [FOLDER]: a run gives the status, and rt has been called so often by then
+    copied "${4:-good}" >"$work/out" 2>"$work/err"; status=$?
+    [ "$status" -eq "$3" ] && [ "$(calls)" -eq "$2" ]
+    judge "$1" $?
+}
+built "no program: it is built, then run" 1 0
+grep -q 'some three minutes' "$work/err" && grep -qx "staran: 1 of $total crates: bits proved" "$work/err" && ! grep -q 'note:' "$work/err" && grep -q 'note:' "$copy/target/staran.log"
+judge "it says how long that takes and which of how many crates is proved, and keeps the notes" $?
+built "nothing changed: nothing is built" 1 0; [ ! -s "$work/err" ]; judge "and nothing is said" $?
+echo '// more' >>"$copy/crates/bits/src/lib.rt"; built "a source changed: it is built again" 2 0
+touch -d '2001-01-01' "$copy/crates/bits/src/lib.rt"; built "only a time changed: nothing is built" 2 0
+echo '// less' >"$copy/crates/bits/src/lib.rt"; touch -d '2001-01-01' "$copy/crates/bits/src/lib.rt"; built "a source changed under an old time: it is built again" 3 0
+echo >>"$copy/crates/promises/src/lib.rt"; built "a crate that the program does not stand on changed: nothing is built" 3 0
+echo '# an edit' >"$copy/crates/bits/must-fail/another.edit"; built "a must-fail edit changed: nothing is built" 3 0
+echo x >>"$copy/target/bin/program"; built "the program is another than the one built: it is built again" 4 0
+rm "$copy/target/bin/program"; built "the program is gone: it is built again" 5 0
+: >fail; echo '// no' >>"$copy/crates/bits/src/lib.rt"; built "a build that fails: nothing is run" 6 2
+[ ! -s "$work/out" ] && grep -q "what the checker said is in $copy/target/staran.log" "$work/err" && grep -q 'NOT PROVED' "$copy/target/staran.log"; judge "and it says where the checker's notes are" $?
+built "the program of before is not run either" 7 2
+rm fail; built "the next build stands" 8 0
+# two commands at once
+: >hold; rm -f held; echo '// two' >>"$copy/crates/bits/src/lib.rt"
+copied good >out.1 2>/dev/null & one=$!
+for _ in $(seq 400); do [ ! -e held ] || break; sleep 0.02; done
+copied good >out.2 2>/dev/null & two=$!
+sleep 0.3; rm hold; wait $one; first=$?; wait $two; second=$?
+[ $first -eq 0 ] && [ $second -eq 0 ] && cmp -s out.1 out.2 && { ! command -v flock >/dev/null || [ "$(calls)" -eq 9 ]; }; judge "two commands at once: one builds, and both run" $?
+# an interrupted build
+: >calls; : >hold; rm -f held; echo '// more' >>"$copy/crates/bits/src/lib.rt"
+RATTLE_HOME=$kit_home PATH=$work/stand:$PATH "$copy/staran" good >out.1 2>/dev/null & one=$!
+for _ in $(seq 400); do [ ! -e held ] || break; sleep 0.02; done
+kill -TERM $one; wait $one 2>/dev/null; kill -TERM "$(tail -n 1 calls)" 2>/dev/null; rm hold
+[ ! -s out.1 ]; judge "an interrupted build runs nothing" $?
+: >calls; built "after an interrupted build it is built again" 1 0
+# what cannot be written, and what is not there
+rm -rf "$copy/target"; : >"$copy/target"
+copied good >"$work/out" 2>"$work/err"; status=$?
+[ $status -eq 2 ] && [ ! -s "$work/out" ] && grep -q "$copy/target cannot be written" "$work/err" && [ "$(wc -l <"$work/err")" -eq 1 ]; judge "a checkout that cannot be written: a sentence" $?
+rm "$copy/target"; copied good >/dev/null 2>&1
+if [ "$(id -u)" -ne 0 ]; then
+    chmod -R a-w "$copy"; built "a checkout that cannot be written, with its program built: it is run" 2 0; chmod -R u+w "$copy"
+fi
+mkdir few
+for tool in sh dirname readlink cat awk sed find sort sha256sum uname mktemp cp rm mv mkdir paste seq getconf wc head flock chmod sleep; do
+    at=$(command -v $tool) && ln -s "$at" few/$tool
+done
+ln -s "$(command -v timeout)" few/timeout
+ln -s "$(command -v grep)" few/grep
+RATTLE_HOME=$kit_home PATH=$work/few complains "no rt: a sentence" 2 'rt, the command of the Rattle kit, is not on PATH' "$copy/staran" good
+ln -s "$work/stand/rt" few/rt
+bare() { RATTLE_HOME=$kit_home PATH=$work/few "$copy/staran" "$@" >"$work/out" 2>"$work/err"; status=$?; }
+bare good; [ $status -eq 0 ] && [ ! -s "$work/err" ]; judge "no python3: a folder is run" $?
+bare; [ $status -eq 0 ] && grep -qx 'r 0 0 163 1 1' "$work/out" && grep -q 'python3 is not on PATH' "$work/err"; judge "no python3: the demonstration says so" $?
+bare why bad; [ $status -eq 1 ] && grep -q 'no mode was given' "$work/out" && grep -q 'python3 is not on PATH' "$work/err"; judge "no python3: why says what it can, and so" $?
+
+# ---- the list that docs/MACHINE.md works through: its commands as they stand there, and what it says they print
+mkdir page; ln -s "$here/tests" page/tests; ln -s "$staran" page/staran
+sed -n '/^    mkdir first/,/^    .\/staran first/s/^    //p' "$here/docs/MACHINE.md" >page/commands
+awk '/^It prints$/ { on = 1; next } on && /^    / { print substr($0, 5); seen = 1; next } on && seen { exit }' "$here/docs/MACHINE.md" >page/want
+call sh -c 'cd page && sh -eu commands'
+[ $status -eq 0 ] && [ "$(wc -l <page/want)" -eq 4 ] && cmp -s page/want out; judge "the manual's first list" $?
+# the bytes of its table are those of its commands
+# shellcheck disable=SC2016
+grep -oE '^\| [0-9] \| `([0-9A-F]{2} ){7}[0-9A-F]{2}`' "$here/docs/MACHINE.md" | sed 's/.*`\(.*\)`/\1/' | tr -d ' ' >page/bytes
+"$blocks" list page/again "$(cat page/bytes)" && cmp -s page/again page/first/run.lst; judge "and its table" $?
+
+# ---- make_blocks.py
+mkdir made
+call "$blocks" picture made/p; [ $status -eq 0 ] && cp made/p made/q; judge "a picture is made" $?
+complains "a picture is not overwritten" 1 'is not overwritten without --replace' "$blocks" picture made/p
+cmp -s made/p made/q; judge "it is as it was" $?
+call "$blocks" demo good; [ $status -eq 1 ] && cmp -s good/before.pic "$here/crates/program/data/before.pic"; judge "nor by the demonstration's" $?
+call "$blocks" --replace picture made/p; [ $status -eq 0 ]; judge "unless it is told to" $?
+complains "odd hex digits" 1 'no whole bytes' "$blocks" list made/l 000
+complains "no hex digits" 1 "'x' is no hex digit" "$blocks" list made/l 0x00
+complains "half an instruction" 1 'whole instructions of 8 bytes' "$blocks" list made/l 00020000
+complains "an instruction that is refused" 1 'would be refused with 7' "$blocks" list made/l 02030000FF000000
+complains "half an item" 1 'whole items of 32 bytes' "$blocks" items made/i 00
+complains "too many instructions" 1 'at most 992 instructions' "$blocks" list made/l "$(yes 0002000000000000 | head -n 993)"
+complains "a damaged picture has no table" 1 'block 1 is refused with 21' "$blocks" heights damaged
+complains "no folder has no table" 1 'No such file' "$blocks" heights nowhere
+[ ! -e made/l ] && [ ! -e made/i ]; judge "and nothing was written" $?
+call python3 -B -c 'import sys; sys.path.insert(0, sys.argv[1]); import make_blocks; print(len(make_blocks.blocks(2, b"")))' "$here/tests"
+[ $status -eq 0 ] && [ "$(cat "$work/out")" = 512 ]; judge "it can be imported" $?
+folder signed 02040100FF000000
+# word 200 alone is stored: height -1, and word 201 has a bit in no field
+python3 -B - "$here/tests" signed <<'PYTHON'
+import sys
+sys.path.insert(0, sys.argv[1])
+import make_blocks as files
+words = [bytes(32)] * 256
+words[200] = b'\xff' * 4 + bytes(28)
+words[201] = bytes(31) + b'\x80'
+files.write(sys.argv[2] + '/before.pic', files.picture(words))
+PYTHON
+call "$blocks" --signed heights signed; [ $status -eq 0 ] && grep -qE '^ 200 +-1 +0 +0$' "$work/out" && grep -qE '^ 201 +0 +0 +0$' "$work/out" && [ "$(wc -l <"$work/out")" -eq 3 ]; judge "every station that is not all zero, signed" $?
+call "$blocks" heights signed; [ $status -eq 0 ] && grep -qE '^ 200 +4294967295 ' "$work/out"; judge "or unsigned" $?
+
+echo "$passed passed, $failed failed"
+[ "$failed" -eq 0 ]

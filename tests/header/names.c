@@ -1,0 +1,119 @@
+/* Holds the header's names to bytes and numbers that stand here as they stand in document 01, from C and from C++: tests/c/run builds and runs it.
+ * Says each name that does not hold, then every number with its meaning, for tests/c/run to compare with docs/numbers.tsv. */
+#include "staran.h"
+
+#include <stdio.h>
+#include <string.h>
+
+static uint8_t memory[STARAN_MEMORY_BYTES], registers[STARAN_REGISTERS_BYTES], out[64];
+static int wrong;
+
+static void hold(const char *what, int holds)
+{
+    if (!holds) {
+        printf("wrong: %s\n", what);
+        wrong = 1;
+    }
+}
+
+/* Bytes made by macros, and the same in hexadecimal digits. */
+static void bytes(const char *what, const uint8_t *made, size_t length, const char *digits)
+{
+    char text[200];
+    for (size_t i = 0; i < length; i++)
+        snprintf(text + 2 * i, 3, "%02X", made[i]);
+    hold(what, strcmp(text, digits) == 0);
+}
+
+/* The number that a run of one instruction gives. */
+static void refused(const char *what, uint32_t number, const uint8_t *instruction)
+{
+    uint32_t answer[STARAN_RUN_NUMBERS];
+    staran_run(memory, sizeof memory, registers, sizeof registers, instruction, STARAN_INSTRUCTION_BYTES, out, 0, out + 32, 0, answer);
+    hold(what, answer[0] == number);
+}
+
+static void instructions(void)
+{
+    const uint8_t sum[] = {STARAN_LOGIC_FROM(STARAN_SOURCE_X, STARAN_NO_FLIP, STARAN_NO_SHIFT, STARAN_CHOICE_BOTH, STARAN_FUNCTION_CLEAR),
+                           STARAN_LOGIC(STARAN_MODE_SLICE, 0, STARAN_NO_FLIP, STARAN_NO_SHIFT, STARAN_CHOICE_X_WHERE_Y_AND_Y, STARAN_FUNCTION_XOR),
+                           STARAN_LOGIC(STARAN_MODE_SLICE, 1, STARAN_NO_FLIP, STARAN_NO_SHIFT, STARAN_CHOICE_X_WHERE_Y_AND_Y, STARAN_FUNCTION_XOR),
+                           STARAN_STORE(STARAN_SOURCE_Y, STARAN_MODE_SLICE, 2, STARAN_NO_FLIP),
+                           STARAN_LOGIC_FROM(STARAN_SOURCE_X, STARAN_NO_FLIP, STARAN_NO_SHIFT, STARAN_CHOICE_X_WHERE_Y, STARAN_FUNCTION_NOT_OLD),
+                           STARAN_LOGIC_FROM(STARAN_SOURCE_X, STARAN_NO_FLIP, STARAN_NO_SHIFT, STARAN_CHOICE_BOTH, STARAN_FUNCTION_XOR)};
+    const uint8_t printed[] = {STARAN_LOGIC_FROM(STARAN_SOURCE_X, 0, 0, STARAN_CHOICE_Y, STARAN_FUNCTION_SET), STARAN_RESOLVE};
+    const uint8_t others[] = {STARAN_SET_M(7, 45, 90, STARAN_SHIFT(8, 3)), STARAN_SET_M_FROM(STARAN_SOURCE_M, 1, STARAN_SHIFT(3, 0)),
+                              STARAN_MASKED_STORE(STARAN_SOURCE_OUTSIDE, STARAN_MODE_WORD, 13, 5), STARAN_DELIVER(STARAN_MODE_WORD, 13, 0, 0),
+                              STARAN_DELIVER_FROM(STARAN_SOURCE_OUTSIDE, 255, STARAN_SHIFT(8, 7)),
+                              STARAN_LOGIC(0, 1, 2, 0, STARAN_CHOICE_X, STARAN_FUNCTION_ITEM)};
+    uint8_t built[STARAN_SUM_LIST_BYTES(1)];
+    uint32_t answer[STARAN_LIST_NUMBERS];
+    staran_sum_list(0, 1, 2, 1, built, sizeof built, answer);
+    hold("a sum list by macros is the one built", sizeof sum == sizeof built && memcmp(sum, built, sizeof sum) == 0);
+    bytes("its fourth instruction", sum + 24, 8, "0203010002000000");
+    bytes("document 01's printed list", printed, sizeof printed, "000200000000001F0500000000000000");
+    bytes("set M from memory", others, 8, "010001072D5A8300");
+    bytes("set M from M", others + 8, 8, "0101000000013000");
+    bytes("masked store", others + 16, 8, "030401FF0D050000");
+    bytes("deliver", others + 24, 8, "040001FF0D000000");
+    bytes("deliver from outside", others + 32, 8, "0404000000FF8700");
+    bytes("the item into X", others + 40, 8, "000001000102000A");
+}
+
+/* A function of two bits by its meaning: what becomes of old 0, 0, 1, 1 by passed 0, 1, 0, 1. */
+static void function(const char *what, uint8_t number, const char *becomes)
+{
+    char text[5];
+    for (int k = 0; k < 4; k++)
+        text[k] = (char)('0' + (number >> k & 1));
+    text[4] = 0;
+    hold(what, strcmp(text, becomes) == 0);
+}
+
+static void functions(void)
+{
+    function("clear", STARAN_FUNCTION_CLEAR, "0000");
+    function("not old", STARAN_FUNCTION_NOT_OLD, "1100");
+    function("not item", STARAN_FUNCTION_NOT_ITEM, "1010");
+    function("xor", STARAN_FUNCTION_XOR, "0110");
+    function("and", STARAN_FUNCTION_AND, "0001");
+    function("equal", STARAN_FUNCTION_EQUAL, "1001");
+    function("item", STARAN_FUNCTION_ITEM, "0101");
+    function("old", STARAN_FUNCTION_OLD, "0011");
+    function("or", STARAN_FUNCTION_OR, "0111");
+    function("set", STARAN_FUNCTION_SET, "1111");
+}
+
+static void refusals(void)
+{
+    const uint8_t kind[] = {STARAN_INSTRUCTION(6, 0, 0, 0, 0, 0, 0, 0)}, source[] = {STARAN_STORE(STARAN_SOURCE_MEMORY, 0, 0, 0)};
+    const uint8_t no_mode[] = {STARAN_INSTRUCTION(STARAN_KIND_STORE, STARAN_SOURCE_Y, 0, 255, 0, 0, 0, 0)};
+    const uint8_t tag[] = {STARAN_INSTRUCTION(STARAN_KIND_STORE, STARAN_SOURCE_Y, 2, 255, 0, 0, 0, 0)};
+    const uint8_t unused[] = {STARAN_INSTRUCTION(STARAN_KIND_LOGIC, STARAN_SOURCE_X, 1, 0, 0, 0, 0, 0)};
+    const uint8_t shift[] = {STARAN_LOGIC_FROM(STARAN_SOURCE_X, 0, STARAN_SHIFT(8, 8), 0, 0)};
+    const uint8_t logic[] = {STARAN_LOGIC_FROM(STARAN_SOURCE_X, 0, 0, 5, 0)}, resolve[] = {STARAN_RESOLVE};
+    const uint8_t item[] = {STARAN_DELIVER_FROM(STARAN_SOURCE_OUTSIDE, 0, 0)};
+    refused("kind", STARAN_REFUSED_KIND, kind);
+    refused("source", STARAN_REFUSED_SOURCE, source);
+    refused("no mode", STARAN_REFUSED_NO_MODE, no_mode);
+    refused("mode tag", STARAN_REFUSED_MODE_TAG, tag);
+    refused("mode unused", STARAN_REFUSED_MODE_UNUSED, unused);
+    refused("shift", STARAN_REFUSED_SHIFT, shift);
+    refused("logic", STARAN_REFUSED_LOGIC, logic);
+    refused("items too few", STARAN_REFUSED_ITEMS_TOO_FEW, item);
+    refused("out too short", STARAN_REFUSED_OUT_TOO_SHORT, resolve);
+}
+
+int main(void)
+{
+    instructions();
+    functions();
+    refusals();
+    hold("the contents on disk", STARAN_CONTENT_PICTURE == 1 && STARAN_CONTENT_LIST == 2 && STARAN_CONTENT_ITEMS == 3);
+    hold("the linked version is the header's", staran_version() == STARAN_VERSION && STARAN_VERSION == 65536);
+    hold("a number that is never given", strcmp(staran_meaning(14), "no such number is ever given") == 0);
+    for (uint32_t number = 0; number <= 100; number++)
+        if (strcmp(staran_meaning(number), staran_meaning(14)) != 0)
+            printf("%u\t%s\n", (unsigned)number, staran_meaning(number));
+    return wrong;
+}
