@@ -197,13 +197,8 @@ pub fn seal_all(kind: usize, size: usize, count: usize, out: &mut [u8])
     let mut i: usize = 0;
     while i < count {
         let used = lesser(PAYLOAD_BYTES, size - PAYLOAD_BYTES * i);
-        blocks::seal(
-            kind,
-            i,
-            count,
-            used,
-            &mut out[BLOCK_BYTES * i..BLOCK_BYTES * i + BLOCK_BYTES],
-        );
+        let from = BLOCK_BYTES * i;
+        blocks::seal(kind, i, count, used, &mut out[from..from + BLOCK_BYTES]);
         i += 1;
     }
 }

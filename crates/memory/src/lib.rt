@@ -2,13 +2,11 @@
 //
 // `load`, `store` and `store_masked` take a memory whose length the caller has judged: they are inner functions of the emulator, and `run` is what a user calls.
 // `read_all` and `partner`, steps of a load, are handed on to the crate words, which reads eight words at a time.
-mod places;
-mod reading;
+pub mod places;
+pub mod reading;
 mod spreading;
 mod writing;
 
-pub use places::partner;
-pub use reading::read_all;
 ghost use mathlib.Core.Path.{_≡_};
 ghost use lib.ListN.{length};
 ghost use Rattle.bits.specs.Bits.{bitOf, item};

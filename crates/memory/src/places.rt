@@ -4,14 +4,14 @@ ghost use Prim.Native.Nat.{_%_, _<_};
 ghost use lib.Bits.{bitXor};
 ghost use Rattle.memory.specs.Groups.{groupOf, byteAt, placeOf, spotFrom};
 
-pub fn wide(x: u8) -> usize
+pub(crate) fn wide(x: u8) -> usize
     ensures { λ r. ⌜ r ≡ x ⌝ }
 {
     x as usize
 }
 
 // The group of chips that the lines 8i to 8i+7 meet.
-pub fn group_of(addr: u8, i: usize) -> usize
+pub(crate) fn group_of(addr: u8, i: usize) -> usize
     requires { ⌜ i < 32 ⌝ }
     ensures { λ r. ⌜ (r ≡ groupOf addr i) × (r < 32) ⌝ }
 {
@@ -19,7 +19,7 @@ pub fn group_of(addr: u8, i: usize) -> usize
 }
 
 // The byte at which the chips of group k are read.
-pub fn byte_at(mode: u8, addr: u8, k: usize) -> usize
+pub(crate) fn byte_at(mode: u8, addr: u8, k: usize) -> usize
     requires { ⌜ k < 32 ⌝ }
     ensures { λ r. ⌜ (r ≡ byteAt mode addr k) × (r < 32) ⌝ }
 {
@@ -27,7 +27,7 @@ pub fn byte_at(mode: u8, addr: u8, k: usize) -> usize
 }
 
 // The bit of that byte for chip t of the group.
-pub fn place_of(mode: u8, addr: u8, t: u8) -> u8
+pub(crate) fn place_of(mode: u8, addr: u8, t: u8) -> u8
     requires { ⌜ t < 8 ⌝ }
     ensures { λ r. ⌜ (r ≡ placeOf mode addr t) × (r < 8) ⌝ }
 {
@@ -43,7 +43,7 @@ pub fn partner(addr: u8, t: u8) -> u8
 }
 
 // Where chip 0 of the group that the lines 8i to 8i+7 meet is read, from where that of lines 0 to 7 is. The group differs by i, the byte by the digits of i that the mode has; the two share no digit, so one xor serves both.
-pub fn spot_from(first: usize, mode: u8, i: usize) -> usize
+pub(crate) fn spot_from(first: usize, mode: u8, i: usize) -> usize
     requires { ⌜ i < 32 ⌝ }
     ensures { λ r. ⌜ r ≡ spotFrom first mode i ⌝ }
 {

@@ -43,7 +43,7 @@ pub fn read_all(mem: &[u8], mode: u8, addr: u8) -> [u8; 256]
 }
 
 // Line 8i + j's bit, from the byte read of the chip that it meets.
-pub fn gather(bytes: &[u8], mode: u8, addr: u8) -> [u8; 32]
+pub(crate) fn gather(bytes: &[u8], mode: u8, addr: u8) -> [u8; 32]
     requires { ⌜ length (now bytes) ≡ 256 ⌝ }
     ensures { λ r. ⌜ r ≡ listed (λ i. digitsOf (lineDigit (now (bytes .entry)) mode addr i) 8) 32 ⌝ }
 {

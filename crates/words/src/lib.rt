@@ -15,7 +15,7 @@ pub fn words_out(mem: &[u8], v: usize) -> [u8; 256]
     requires { ⌜ (length (now mem) ≡ 8192) × (v < 32) ⌝ }
     ensures { λ r. ⌜ r ≡ take 256 (drop (256 * v) (plainWords (now (mem .entry)))) ⌝ }
 {
-    let bytes = memory::read_all(mem, 255, (8 * v) as u8);
+    let bytes = memory::reading::read_all(mem, 255, (8 * v) as u8);
     ordering::turned(&bytes)
 }
 

@@ -18,7 +18,7 @@ fn gather_word(bytes: &[u8], addr: u8) -> [u8; 32]
     let mut out = [0u8; 32];
     let mut j: u8 = 0;
     while j < 8 {
-        let from = 32 * (memory::partner(addr, j) as usize);
+        let from = 32 * (memory::places::partner(addr, j) as usize);
         out = keep_lane(&out, &bytes[from..from + 32], j);
         j += 1;
     }

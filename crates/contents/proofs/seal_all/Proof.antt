@@ -35,11 +35,8 @@ sub-lesser c = search needs
 lesser-requires : tie.Need-lesser-requires Inv-loop μ-loop
 lesser-requires c κs = search needs
 
-mul-seal : tie.Need-mul-seal Inv-loop μ-loop
-mul-seal c = search needs
-
-mul-seal-2 : tie.Need-mul-seal-2 Inv-loop μ-loop
-mul-seal-2 c = search needs
+mul-from : tie.Need-mul-from Inv-loop μ-loop
+mul-from c = search needs
 
 add-seal : tie.Need-add-seal Inv-loop μ-loop
 add-seal c = search needs
@@ -97,8 +94,7 @@ seal-all-spec =
     mul-lesser
     sub-lesser
     lesser-requires
-    mul-seal
-    mul-seal-2
+    mul-from
     add-seal
     sub-seal
     part-seal-start

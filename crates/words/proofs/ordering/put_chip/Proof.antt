@@ -1,8 +1,8 @@
 -- `put_chip`: the one write.
 use mathlib.Core.Path.{refl}
 use borrow.Author.Needs.{needs}
-use Rattle.memory.proofs.ordering.put_chip.Statement.{statement}
-use Rattle.memory.proofs.ordering.put_chip.Tie as tie
+use Rattle.words.proofs.ordering.put_chip.Statement.{statement}
+use Rattle.words.proofs.ordering.put_chip.Tie as tie
 
 -- the answer before the bounds of its steps, so that another byte is refused as one
 returns : tie.Need-returns
