@@ -1,4 +1,6 @@
-// Items of 32 bytes: the leaves that take bits out of them and put bits into them.
+// Items of 32 bytes: the leaves that take bits out of them, put bits into them and copy them; and what a test chooses.
+pub mod choices;
+pub mod copies;
 pub mod flips;
 pub mod lanes;
 

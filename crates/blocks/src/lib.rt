@@ -2,6 +2,7 @@
 // Document 01, Blocks on disk.
 //
 // These are inner functions: the length of a block and its place are the caller's to judge.
+use bits::copies::copy;
 ghost use mathlib.Core.Path.{_≡_};
 ghost use Prim.Native.Nat.{_+_, _%_, _/_, _<_, _≤_};
 ghost use lib.ListN.{length, take, drop, replicate};
@@ -127,18 +128,6 @@ pub fn fault(block: &[u8], kind: usize, place: usize, count: usize) -> u8
         return 24;
     }
     0
-}
-
-// All of one slice into another of the same length.
-pub fn copy(src: &[u8], dst: &mut [u8])
-    requires { ⌜ length (now src) ≡ length (now dst) ⌝ }
-    ensures { λ _. ⌜ now (dst .exit) ≡ now (src .entry) ⌝ }
-{
-    let mut i: usize = 0;
-    while i < src.len() {
-        dst[i] = src[i];
-        i += 1;
-    }
 }
 
 fn clear(dst: &mut [u8])

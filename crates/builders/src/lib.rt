@@ -2,7 +2,7 @@
 mod rounds;
 mod writing;
 
-use judge::rows::number_or;
+use bits::choices::number_or;
 ghost use mathlib.Core.Path.{_≡_};
 ghost use Prim.Native.Nat.{_<_};
 ghost use Rattle.builders.specs.Sums.{beyond, crosses, listLength, fieldsFault, sumBuilt, differenceBuilt};

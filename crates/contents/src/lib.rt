@@ -141,7 +141,7 @@ pub fn part_of(bytes: &[u8], at: usize, part: &mut [u8])
     while k < n {
         let piece = lesser(room, n - k);
         let from = BLOCK_BYTES * i + (508 - room);
-        blocks::copy(&bytes[from..from + piece], &mut part[k..k + piece]);
+        bits::copies::copy(&bytes[from..from + piece], &mut part[k..k + piece]);
         k += piece;
         i += 1;
         room = PAYLOAD_BYTES;
@@ -181,7 +181,7 @@ pub fn put_part(part: &[u8], at: usize, out: &mut [u8])
     while k < n {
         let piece = lesser(room, n - k);
         let to = BLOCK_BYTES * i + (508 - room);
-        blocks::copy(&part[k..k + piece], &mut out[to..to + piece]);
+        bits::copies::copy(&part[k..k + piece], &mut out[to..to + piece]);
         k += piece;
         i += 1;
         room = PAYLOAD_BYTES;

@@ -15,6 +15,7 @@ use Rattle.bits.proofs.Items.{bitOf-bit, bitOf-pack}
 use Rattle.network.proofs.TableRules.{none-permitted}
 use Rattle.registers.specs.declared.Registers.{Registers}
 use Rattle.registers.specs.Rows.{registersOf, bytesOf}
+use Rattle.registers.proofs.RowLaws.{registers-bytes, bytes-registers}
 use Rattle.judge.specs.declared.Instruction.{Instruction}
 use Rattle.judge.specs.declared.Answer.{Answer}
 use Rattle.judge.specs.Judge.{unfit, wrongKind, wrongSource, lacksTag, wrongTag, idleAccess, wrongPass, wrongLogic}
@@ -22,7 +23,6 @@ use Rattle.module.specs.Act.{State, acted}
 use Rattle.judge.specs.Steps.{fits}
 use Rattle.judge.proofs.FormLaws.{formed-by}
 use Rattle.module.specs.Run.{Lent, Left, begun}
-use Rattle.module.proofs.PartLaws.{registers-bytes, bytes-registers}
 use Rattle.builders.specs.Lists.{logicFrom, logicAt, storeAt, encoded}
 use Rattle.builders.specs.Sums.{bitRound, bitRounds, sumByte, differenceByte, carryByte, moveByte, sumList, differenceList, Fields}
 use Rattle.builders.specs.Building.{builtWith}

@@ -3,6 +3,7 @@ mod forms;
 pub mod rows;
 pub mod searches;
 
+use bits::choices::number_or;
 ghost use mathlib.Core.Path.{_≡_};
 ghost use Prim.Native.Nat.{_+_, _*_, _<_, _≤_};
 ghost use lib.ListN.{length};
@@ -75,19 +76,19 @@ fn unfit(unit: usize, size: usize) -> bool
 fn run_fault(l: Lengths, list: &[u8]) -> u8
     ensures { λ r. ⌜ r ≡ numberOf (runRows l (now (list .entry))) ⌝ }
 {
-    let from4 = rows::number_or(unfit(32, l.items), 4, 0);
-    let from3 = rows::number_or(unfit(8, list.len()), 3, from4);
-    let from2 = rows::number_or(!(l.registers == 96), 2, from3);
-    rows::number_or(!(l.memory == 8192), 1, from2)
+    let from4 = number_or(unfit(32, l.items), 4, 0);
+    let from3 = number_or(unfit(8, list.len()), 3, from4);
+    let from2 = number_or(!(l.registers == 96), 2, from3);
+    number_or(!(l.memory == 8192), 1, from2)
 }
 
 // The number of what a step is lent.
 fn step_fault(l: Lengths, instruction: &[u8]) -> u8
     ensures { λ r. ⌜ r ≡ numberOf (stepRows l (now (instruction .entry))) ⌝ }
 {
-    let from4 = rows::number_or(unfit(32, l.items), 4, 0);
-    let from3 = rows::number_or(!(instruction.len() == 8), 3, from4);
-    rows::number_or(!(l.memory == 8192), 1, from3)
+    let from4 = number_or(unfit(32, l.items), 4, 0);
+    let from3 = number_or(!(instruction.len() == 8), 3, from4);
+    number_or(!(l.memory == 8192), 1, from3)
 }
 
 fn refused(number: u8, place: usize) -> Answer

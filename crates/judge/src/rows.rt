@@ -1,7 +1,7 @@
 // The rows of the table that look at one instruction, 5 to 11, each as the document words it.
 use crate::Instruction;
+use bits::choices::number_or;
 ghost use mathlib.Core.Path.{_≡_};
-ghost use mathlib.Core.Bool.{cond};
 ghost use Rattle.judge.specs.Judge.{stores, touches, wrongKind, wrongSource, lacksTag, wrongTag, idleAccess, wrongPass, wrongLogic, faultOf, takes, gives};
 
 fn stores(i: Instruction) -> bool
@@ -66,13 +66,6 @@ fn wrong_logic(i: Instruction) -> bool
     ensures { λ r. ⌜ r ≡ wrongLogic i ⌝ }
 {
     ((i.kind == 0) & (i.logic / 16 > 4)) | (!(i.kind == 0) & !(i.logic == 0))
-}
-
-// A row's number where the row holds, else what the rows after it give.
-pub fn number_or(row: bool, number: u8, rest: u8) -> u8
-    ensures { λ r. ⌜ r ≡ cond row number rest ⌝ }
-{
-    if row { number } else { rest }
 }
 
 // The number of an instruction, 5 to 11: 0 where it has none.

@@ -4,20 +4,13 @@ use crate::Tally;
 use crate::decode;
 use crate::forms;
 use crate::rows;
+use bits::choices::one_if;
 ghost use mathlib.Core.Path.{_≡_};
-ghost use mathlib.Core.Bool.{cond};
 ghost use Prim.Native.Nat.{_/_, _≤_};
 ghost use lib.ListN.{length};
 ghost use Rattle.bits.specs.Search.{first};
 ghost use Rattle.judge.specs.Judge.{lacks, uses};
 ghost use Rattle.judge.specs.Steps.{tallyOf};
-
-// 1 or 0, to count with.
-pub fn one_if(b: bool) -> usize
-    ensures { λ r. ⌜ (r ≡ cond b 1 0) × (r ≤ 1) ⌝ }
-{
-    if b { 1 } else { 0 }
-}
 
 // The first instruction that has a number, or how many there are, and what those before it take and give.
 pub fn tally(list: &[u8]) -> Tally

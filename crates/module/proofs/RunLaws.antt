@@ -21,7 +21,7 @@ use Rattle.judge.proofs.Numbers.{refusal-counts}
 use Rattle.module.specs.Act.{State, acted}
 use Rattle.module.specs.Ready.{Ready}
 use Rattle.module.specs.Run.{Lent, Left, unmoved, runLengths, stepLengths, begun, ranBy, ranAll, ran}
-use Rattle.module.proofs.PartLaws.{bytes-registers}
+use Rattle.registers.proofs.RowLaws.{bytes-registers}
 
 -- how many of the first k instructions want one
 abbrev pub usedBy : (Instruction → Bool) → List ℕ → ℕ → ℕ

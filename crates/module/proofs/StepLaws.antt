@@ -16,7 +16,7 @@ use Rattle.judge.specs.Steps.{Accepted}
 use Rattle.judge.proofs.Accepted.{step-accepted, step-as-run, step-unlike}
 use Rattle.module.specs.Act.{State}
 use Rattle.module.specs.Run.{Lent, Left, unmoved, stepLengths, ranAll, ran, stepped, lentBytes, leftBytes}
-use Rattle.module.proofs.PartLaws.{registers-bytes, length-bytes}
+use Rattle.registers.proofs.RowLaws.{registers-bytes, length-bytes}
 
 module _ (l : Lent Registers) (a : Answer) (judge : a ≡ judgedStep (stepLengths l) (l .list)) where
   pub instruction-accepted : a .number ≡ 0 → Accepted (stepLengths l) (l .list)

@@ -1,5 +1,6 @@
 // What one instruction does: its source item makes one pass, and then goes into the registers, the memory or the out buffer.
-use crate::parts;
+use bits::choices::one_if;
+use bits::copies::copy;
 use judge::Instruction;
 use registers::Registers;
 ghost use mathlib.Core.Path.{_≡_};
@@ -113,7 +114,7 @@ fn deliver<'a>(out: &mut [u8], i: Instruction, given: usize, f: &'a [u8; 32], y:
 {
     if judge::rows::gives(i) {
         let x = outgoing(i, f, y);
-        parts::write_item(&mut out[32 * given..32 * given + 32], &x);
+        copy(&x, &mut out[32 * given..32 * given + 32]);
     }
 }
 
@@ -143,8 +144,8 @@ pub fn act(
     let t = turn(i, r, &f);
     let takes = judge::rows::takes(i);
     let gives = judge::rows::gives(i);
-    let used = taken + judge::searches::one_if(takes);
-    let put = given + judge::searches::one_if(gives);
+    let used = taken + one_if(takes);
+    let put = given + one_if(gives);
     Acted {
         regs: t,
         taken: used,

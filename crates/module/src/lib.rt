@@ -1,6 +1,5 @@
 // The array module: a run of an instruction list, and a step for an operator's console. Document 01, Instructions and Numbers given back.
 mod acting;
-pub mod parts;
 
 use acting::Acted;
 use judge::Answer;
@@ -64,10 +63,10 @@ pub fn run(mem: &mut [u8], regs: &mut [u8], list: &[u8], items: &[u8], out: &mut
     };
     let verdict = judge::judge(lengths, list);
     if verdict.steps != 0 {
-        let r = parts::registers_of(regs);
+        let r = registers::rows::registers_of(regs);
         let d = run_list(mem, r, list, items, out);
         let t = d.regs;
-        parts::write_registers(regs, t);
+        registers::rows::write_registers(regs, t);
     }
     verdict
 }

@@ -34,7 +34,7 @@ pub fn pass_part(part: &[u8], flip: u8, code: u8) -> [u8; 32]
     requires { ⌜ (length (now part) ≡ 32) × (permitted code ≡ true) ⌝ }
     ensures { λ r. ⌜ r ≡ passedItem (now (part .entry)) flip code ⌝ }
 {
-    let lines = items::item_of(part);
+    let lines = bits::copies::item_of(part);
     pass_item(&lines, flip, code)
 }
 

@@ -19,7 +19,7 @@ use Rattle.report.specs.Report.{printed}
 use Rattle.session.specs.declared.Counts.{Counts}
 use Rattle.session.specs.Session.{Outcome}
 use Rattle.session.specs.Shown.{Shown}
-use Rattle.promises.specs.Uniqueness.{Sight, OneOutcome, Same, Entries, Library, Program, OfBits, OfMemory, OfWords, OfNetwork, OfRegisters, OfJudge, OfModule, OfBlocks, OfContents, Uniqueness}
+use Rattle.promises.specs.Uniqueness.{Sight, OneOutcome, Same, Entries, Library, Program, OfBits, OfMemory, OfWords, OfNetwork, OfRegisters, OfJudge, OfBlocks, OfContents, Uniqueness}
 
 -- ---- the laws
 
@@ -111,6 +111,10 @@ module _ {M : Type 1} (𝓤 : URA M) (H : Heap 𝓤) (A : Atoms 𝓤) (memory : 
   of-bits =
       record {
         mix = equation 𝓤 _ (λ κs a g r e. refl);
+        oneIf = equation-and 𝓤 _ _ (λ κs a g r e. refl);
+        numberOr = equation 𝓤 _ (λ κs a g r e. refl);
+        copy = equation 𝓤 _ (λ κs a g r e. refl);
+        itemOf = equation 𝓤 _ (λ κs a g r e. refl);
         flip = equation 𝓤 _ (λ κs a g r e. refl);
         spreadLane = equation 𝓤 _ (λ κs a g r e. refl);
         gatherLane = equation 𝓤 _ (λ κs a g r e. refl);
@@ -144,7 +148,6 @@ module _ {M : Type 1} (𝓤 : URA M) (H : Heap 𝓤) (A : Atoms 𝓤) (memory : 
         isCode = equation 𝓤 _ (λ κs a g r e. refl);
         copied = equation 𝓤 _ (λ κs a g r e. refl);
         flipped = equation 𝓤 _ (λ κs a g r e. refl);
-        itemOf = equation 𝓤 _ (λ κs a g r e. refl);
       }
 
   of-registers : OfRegisters 𝓤 H A memory runs
@@ -153,6 +156,8 @@ module _ {M : Type 1} (𝓤 : URA M) (H : Heap 𝓤) (A : Atoms 𝓤) (memory : 
         setM = equation 𝓤 _ (λ κs a g r e. refl);
         logic = equation 𝓤 _ (λ κs a g r e. refl);
         resolve = equation 𝓤 _ (λ κs a g r e. refl);
+        registersOf = equation 𝓤 _ (λ κs a g r e. refl);
+        writeRegisters = equation 𝓤 _ (λ κs a g r e. refl);
       }
 
   of-judge : OfJudge 𝓤 H A memory runs
@@ -161,21 +166,11 @@ module _ {M : Type 1} (𝓤 : URA M) (H : Heap 𝓤) (A : Atoms 𝓤) (memory : 
         judge = equation 𝓤 _ (λ κs a g r e. refl);
         judgeStep = equation 𝓤 _ (λ κs a g r e. refl);
         decode = equation 𝓤 _ (λ κs a g r e. refl);
-        numberOr = equation 𝓤 _ (λ κs a g r e. refl);
         fault = equation 𝓤 _ (λ κs a g r e. refl);
         takes = equation 𝓤 _ (λ κs a g r e. refl);
         gives = equation 𝓤 _ (λ κs a g r e. refl);
         tally = equation 𝓤 _ (λ κs a g r e. refl);
-        oneIf = equation-and 𝓤 _ _ (λ κs a g r e. refl);
         shortage = equation 𝓤 _ (λ κs a g r e. refl);
-      }
-
-  of-module : OfModule 𝓤 H A memory runs
-  of-module =
-      record {
-        writeItem = equation 𝓤 _ (λ κs a g r e. refl);
-        registersOf = equation 𝓤 _ (λ κs a g r e. refl);
-        writeRegisters = equation 𝓤 _ (λ κs a g r e. refl);
       }
 
   of-blocks : OfBlocks 𝓤 H A memory runs
@@ -183,7 +178,6 @@ module _ {M : Type 1} (𝓤 : URA M) (H : Heap 𝓤) (A : Atoms 𝓤) (memory : 
       record {
         twoAt = equation-and 𝓤 _ _ (λ κs a g r e. refl);
         fault = equation 𝓤 _ (λ κs a g r e. refl);
-        copy = equation 𝓤 _ (λ κs a g r e. refl);
         seal = equation 𝓤 _ (λ κs a g r e. refl);
       }
 
@@ -212,7 +206,6 @@ module _ {M : Type 1} (𝓤 : URA M) (H : Heap 𝓤) (A : Atoms 𝓤) (memory : 
         ofNetwork = of-network;
         ofRegisters = of-registers;
         ofJudge = of-judge;
-        ofModule = of-module;
         ofBlocks = of-blocks;
         ofContents = of-contents;
       }

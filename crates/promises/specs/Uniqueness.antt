@@ -15,6 +15,10 @@ use denote.Ref.{now}
 use denote.Triple.Entry.{Args, Res}
 use denote.Triple.Clauses.{Ended, Clauses, AtExit}
 use Rattle.bits.proofs.mix as mix
+use Rattle.bits.proofs.choices.one_if as one_if
+use Rattle.bits.proofs.choices.number_or as number_or
+use Rattle.bits.proofs.copies.copy as copy
+use Rattle.bits.proofs.copies.item_of as item_of
 use Rattle.bits.proofs.flips.flip as flip
 use Rattle.bits.proofs.lanes.spread_lane as spread_lane
 use Rattle.bits.proofs.lanes.gather_lane as gather_lane
@@ -35,19 +39,18 @@ use Rattle.network.proofs.codes.find as find
 use Rattle.network.proofs.codes.is_code as is_code
 use Rattle.network.proofs.items.copied as copied
 use Rattle.network.proofs.items.flipped as flipped
-use Rattle.network.proofs.items.item_of as item_of
 use Rattle.registers.proofs.set_m as set_m
 use Rattle.registers.proofs.logic as logic
 use Rattle.registers.proofs.resolver.resolve as resolve
+use Rattle.registers.proofs.rows.registers_of as registers_of
+use Rattle.registers.proofs.rows.write_registers as write_registers
 use Rattle.judge.proofs.judge as judge
 use Rattle.judge.proofs.judge_step as judge_step
 use Rattle.judge.proofs.decode as decode
-use Rattle.judge.proofs.rows.number_or as number_or
 use Rattle.judge.proofs.rows.fault as fault
 use Rattle.judge.proofs.rows.takes as takes
 use Rattle.judge.proofs.rows.gives as gives
 use Rattle.judge.proofs.searches.tally as tally
-use Rattle.judge.proofs.searches.one_if as one_if
 use Rattle.judge.proofs.searches.shortage as shortage
 use Rattle.registers.specs.declared.Registers.{Registers}
 use Rattle.judge.specs.declared.Answer.{Answer}
@@ -55,15 +58,11 @@ use Rattle.module.specs.Run.{Left}
 use Rattle.module.proofs.run as run
 use Rattle.module.proofs.step as step
 use Rattle.module.proofs.advance as advance
-use Rattle.module.proofs.parts.write_item as write_item
-use Rattle.module.proofs.parts.registers_of as registers_of
-use Rattle.module.proofs.parts.write_registers as write_registers
 use Rattle.builders.specs.Building.{BuiltLeft as Buffer}
 use Rattle.builders.proofs.sum_list as sum_list
 use Rattle.builders.proofs.difference_list as difference_list
 use Rattle.blocks.proofs.two_at as two_at
 use Rattle.blocks.proofs.fault as block_fault
-use Rattle.blocks.proofs.copy as copy
 use Rattle.blocks.proofs.seal as seal
 use Rattle.contents.specs.Content.{ContentLeft}
 use Rattle.contents.proofs.refused as refused
@@ -163,6 +162,10 @@ module _ {M : Type 1} (𝓤 : URA M) (H : Heap 𝓤) (A : Atoms 𝓤) (memory : 
   -- `bits`
   pub record OfBits : Type 2 where
     pub mix : OneOutcome 𝓤 mix.ended (mix.clauses 𝓤 H A memory runs) (λ κs r e. r)
+    pub oneIf : OneOutcome 𝓤 one_if.ended (one_if.clauses 𝓤 H A memory runs) (λ κs r e. r)
+    pub numberOr : OneOutcome 𝓤 number_or.ended (number_or.clauses 𝓤 H A memory runs) (λ κs r e. r)
+    pub copy : OneOutcome 𝓤 copy.ended (copy.clauses 𝓤 H A memory runs) (λ κs r e. now (e .1 .0))
+    pub itemOf : OneOutcome 𝓤 item_of.ended (item_of.clauses 𝓤 H A memory runs) (λ κs r e. r)
     pub flip : OneOutcome 𝓤 flip.ended (flip.clauses 𝓤 H A memory runs) (λ κs r e. r)
     pub spreadLane : OneOutcome 𝓤 spread_lane.ended (spread_lane.clauses 𝓤 H A memory runs) (λ κs r e. now (e .1 .1 .1 .0))
     pub gatherLane : OneOutcome 𝓤 gather_lane.ended (gather_lane.clauses 𝓤 H A memory runs) (λ κs r e. r)
@@ -190,38 +193,30 @@ module _ {M : Type 1} (𝓤 : URA M) (H : Heap 𝓤) (A : Atoms 𝓤) (memory : 
     pub isCode : OneOutcome 𝓤 is_code.ended (is_code.clauses 𝓤 H A memory runs) (λ κs r e. r)
     pub copied : OneOutcome 𝓤 copied.ended (copied.clauses 𝓤 H A memory runs) (λ κs r e. r)
     pub flipped : OneOutcome 𝓤 flipped.ended (flipped.clauses 𝓤 H A memory runs) (λ κs r e. r)
-    pub itemOf : OneOutcome 𝓤 item_of.ended (item_of.clauses 𝓤 H A memory runs) (λ κs r e. r)
 
   -- `registers`
   pub record OfRegisters : Type 2 where
     pub setM : OneOutcome 𝓤 set_m.ended (set_m.clauses 𝓤 H A memory runs) (λ κs r e. r)
     pub logic : OneOutcome 𝓤 logic.ended (logic.clauses 𝓤 H A memory runs) (λ κs r e. r)
     pub resolve : OneOutcome 𝓤 resolve.ended (resolve.clauses 𝓤 H A memory runs) (λ κs r e. r)
+    pub registersOf : OneOutcome 𝓤 registers_of.ended (registers_of.clauses 𝓤 H A memory runs) (λ κs r e. r)
+    pub writeRegisters : OneOutcome 𝓤 write_registers.ended (write_registers.clauses 𝓤 H A memory runs) (λ κs r e. now (e .0))
 
   -- `judge`
   pub record OfJudge : Type 2 where
     pub judge : OneOutcome 𝓤 judge.ended (judge.clauses 𝓤 H A memory runs) (λ κs r e. r)
     pub judgeStep : OneOutcome 𝓤 judge_step.ended (judge_step.clauses 𝓤 H A memory runs) (λ κs r e. r)
     pub decode : OneOutcome 𝓤 decode.ended (decode.clauses 𝓤 H A memory runs) (λ κs r e. r)
-    pub numberOr : OneOutcome 𝓤 number_or.ended (number_or.clauses 𝓤 H A memory runs) (λ κs r e. r)
     pub fault : OneOutcome 𝓤 fault.ended (fault.clauses 𝓤 H A memory runs) (λ κs r e. r)
     pub takes : OneOutcome 𝓤 takes.ended (takes.clauses 𝓤 H A memory runs) (λ κs r e. r)
     pub gives : OneOutcome 𝓤 gives.ended (gives.clauses 𝓤 H A memory runs) (λ κs r e. r)
     pub tally : OneOutcome 𝓤 tally.ended (tally.clauses 𝓤 H A memory runs) (λ κs r e. r)
-    pub oneIf : OneOutcome 𝓤 one_if.ended (one_if.clauses 𝓤 H A memory runs) (λ κs r e. r)
     pub shortage : OneOutcome 𝓤 shortage.ended (shortage.clauses 𝓤 H A memory runs) (λ κs r e. r)
-
-  -- `module`
-  pub record OfModule : Type 2 where
-    pub writeItem : OneOutcome 𝓤 write_item.ended (write_item.clauses 𝓤 H A memory runs) (λ κs r e. now (e .0))
-    pub registersOf : OneOutcome 𝓤 registers_of.ended (registers_of.clauses 𝓤 H A memory runs) (λ κs r e. r)
-    pub writeRegisters : OneOutcome 𝓤 write_registers.ended (write_registers.clauses 𝓤 H A memory runs) (λ κs r e. now (e .0))
 
   -- `blocks`
   pub record OfBlocks : Type 2 where
     pub twoAt : OneOutcome 𝓤 two_at.ended (two_at.clauses 𝓤 H A memory runs) (λ κs r e. r)
     pub fault : OneOutcome 𝓤 block_fault.ended (block_fault.clauses 𝓤 H A memory runs) (λ κs r e. r)
-    pub copy : OneOutcome 𝓤 copy.ended (copy.clauses 𝓤 H A memory runs) (λ κs r e. now (e .1 .0))
     pub seal : OneOutcome 𝓤 seal.ended (seal.clauses 𝓤 H A memory runs) (λ κs r e. now (e .1 .1 .1 .1 .0))
 
   -- `contents`
@@ -248,6 +243,5 @@ module _ {M : Type 1} (𝓤 : URA M) (H : Heap 𝓤) (A : Atoms 𝓤) (memory : 
     pub ofNetwork : OfNetwork
     pub ofRegisters : OfRegisters
     pub ofJudge : OfJudge
-    pub ofModule : OfModule
     pub ofBlocks : OfBlocks
     pub ofContents : OfContents

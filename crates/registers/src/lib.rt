@@ -1,6 +1,7 @@
 // The registers M, X and Y of the array module: the logic instruction, setting M, and the resolver. Document 01, Instructions; source 004.
 mod bytes;
 pub mod resolver;
+pub mod rows;
 
 ghost use mathlib.Core.Path.{_≡_};
 ghost use Prim.Native.Nat.{_<_};

@@ -79,11 +79,11 @@ fn call_step(
     if registers.len() != 96 {
         return only(0);
     }
-    let old = module::parts::registers_of(registers);
+    let old = registers::rows::registers_of(registers);
     let r = advance(memory, old, instruction, items, out);
     let answer = r.answer;
     let regs = r.regs;
-    module::parts::write_registers(registers, regs);
+    registers::rows::write_registers(registers, regs);
     Five {
         a: answer.number as u32,
         b: narrow(answer.place),

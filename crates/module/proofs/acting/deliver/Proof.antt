@@ -15,26 +15,29 @@ gives-requires c κs = search needs
 outgoing-requires : tie.Need-outgoing-requires
 outgoing-requires c κs = search needs
 
-mul-write-item : tie.Need-mul-write-item
-mul-write-item c = let h = c .before .before .before .before .pre (sym (c .before .before .gives .ensures) ∙ c .before .if1 .taken) in omega arith
+slice-aggregate-copy : tie.Need-slice-aggregate-copy
+slice-aggregate-copy c = search needs
 
-mul-write-item-2 : tie.Need-mul-write-item-2
-mul-write-item-2 c = let h = c .before .before .before .before .pre (sym (c .before .before .gives .ensures) ∙ c .before .if1 .taken) in omega arith
+mul-copy : tie.Need-mul-copy
+mul-copy c = let h = c .before .before .before .before .before .pre (sym (c .before .before .before .gives .ensures) ∙ c .before .before .if1 .taken) in omega arith
 
-add-write-item : tie.Need-add-write-item
-add-write-item c = let h = c .before .before .before .before .pre (sym (c .before .before .gives .ensures) ∙ c .before .if1 .taken) in omega arith
+mul-copy-2 : tie.Need-mul-copy-2
+mul-copy-2 c = let h = c .before .before .before .before .before .pre (sym (c .before .before .before .gives .ensures) ∙ c .before .before .if1 .taken) in omega arith
 
-sub-write-item : tie.Need-sub-write-item
-sub-write-item c = search needs
+add-copy : tie.Need-add-copy
+add-copy c = let h = c .before .before .before .before .before .pre (sym (c .before .before .before .gives .ensures) ∙ c .before .before .if1 .taken) in omega arith
 
-part-write-item-start : tie.Need-part-write-item-start
-part-write-item-start c = search needs
+sub-copy : tie.Need-sub-copy
+sub-copy c = search needs
 
-part-write-item-end : tie.Need-part-write-item-end
-part-write-item-end c = let h = c .before .before .before .before .pre (sym (c .before .before .gives .ensures) ∙ c .before .if1 .taken) in omega arith
+part-copy-start : tie.Need-part-copy-start
+part-copy-start c = search needs
 
-write-item-requires : tie.Need-write-item-requires
-write-item-requires c κs = search needs
+part-copy-end : tie.Need-part-copy-end
+part-copy-end c = let h = c .before .before .before .before .before .pre (sym (c .before .before .before .gives .ensures) ∙ c .before .before .if1 .taken) in omega arith
+
+copy-requires : tie.Need-copy-requires
+copy-requires c κs = search needs
 
 same-length : tie.Need-same-length
 same-length c = search needs
@@ -43,7 +46,7 @@ returns : tie.Need-returns
 returns c =
     let a = c .before .before .before .before .before .before .before .before .before .args in
     part-put (now (a .out)) (a .given) _
-    ∙ ap (putPart (now (a .out)) (a .given)) (c .before .before .write-item .ensures)
+    ∙ ap (putPart (now (a .out)) (a .given)) (c .before .before .copy .ensures)
     ∙ put-out (a .i) (now (a .out)) (a .given) (now (a .f)) (now (a .y)) (sym (c .before .before .before .before .before .before .before .gives .ensures) ∙ c .before .before .before .before .before .before .if1 .taken) _ (c .before .before .before .before .before .outgoing .ensures)
 
 returns-2 : tie.Need-returns-2
@@ -57,13 +60,14 @@ deliver-spec =
     (tie.spec
     gives-requires
     outgoing-requires
-    mul-write-item
-    mul-write-item-2
-    add-write-item
-    sub-write-item
-    part-write-item-start
-    part-write-item-end
-    write-item-requires
+    slice-aggregate-copy
+    mul-copy
+    mul-copy-2
+    add-copy
+    sub-copy
+    part-copy-start
+    part-copy-end
+    copy-requires
     same-length
     returns
     returns-2)

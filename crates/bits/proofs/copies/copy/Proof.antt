@@ -1,4 +1,4 @@
--- `copy`: the first i bytes are those of the source.
+-- `copies::copy`: the first i bytes are those of the source.
 use mathlib.Core.List.{List, [], _∷_, _++_}
 use mathlib.Core.Path.{_≡_, refl, sym, ap, _∙_}
 use Prim.Native.Nat.{ℕ, _≤_, _-_}
@@ -7,8 +7,8 @@ use native.Mathlib.Omega.{arith}
 use lib.Seq.{take-suc, take-suc-set, take-all}
 use lib.ListN.{length, take, getD, length-set}
 use denote.Ref.{now}
-use Rattle.blocks.proofs.copy.Statement.{statement}
-use Rattle.blocks.proofs.copy.Tie as tie
+use Rattle.bits.proofs.copies.copy.Statement.{statement}
+use Rattle.bits.proofs.copies.copy.Tie as tie
 
 abbrev Inv-loop : tie.InvT-loop
 Inv-loop src dst₀ i₀ dst i = (i ≤ length src) × (length dst ≡ length dst₀) × (take i dst ≡ take i src)

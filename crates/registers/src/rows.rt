@@ -1,21 +1,10 @@
-// Parts of 32 bytes of a lent buffer: an item put there, and the register set as three of them.
-use network::items::item_of;
-use registers::Registers;
+// The register set as 96 bytes: three parts of 32.
+use crate::Registers;
+use bits::copies::copy;
+use bits::copies::item_of;
 ghost use mathlib.Core.Path.{_≡_};
 ghost use lib.ListN.{length};
 ghost use Rattle.registers.specs.Rows.{registersOf, bytesOf};
-
-// The item goes to the part.
-pub fn write_item(part: &mut [u8], item: &[u8; 32])
-    requires { ⌜ (length (now part) ≡ 32) × (length (now item) ≡ 32) ⌝ }
-    ensures { λ r. ⌜ now (part .exit) ≡ now (item .entry) ⌝ }
-{
-    let mut i: usize = 0;
-    while i < 32 {
-        part[i] = item[i];
-        i += 1;
-    }
-}
 
 // The register record of 96 bytes: M, X, Y.
 pub fn registers_of(regs: &[u8]) -> Registers
@@ -36,7 +25,7 @@ pub fn write_registers(regs: &mut [u8], r: Registers)
     let m = r.m;
     let x = r.x;
     let y = r.y;
-    write_item(&mut regs[0..32], &m);
-    write_item(&mut regs[32..64], &x);
-    write_item(&mut regs[64..96], &y);
+    copy(&m, &mut regs[0..32]);
+    copy(&x, &mut regs[32..64]);
+    copy(&y, &mut regs[64..96]);
 }

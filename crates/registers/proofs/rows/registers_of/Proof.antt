@@ -1,7 +1,7 @@
--- `parts::registers_of`: the three parts, read one after the other. Assumes nothing.
+-- `registers::rows::registers_of`: the three parts, read one after the other. Assumes nothing.
 use borrow.Author.Needs.{needs}
-use Rattle.module.proofs.parts.registers_of.Statement.{statement}
-use Rattle.module.proofs.parts.registers_of.Tie as tie
+use Rattle.registers.proofs.rows.registers_of.Statement.{statement}
+use Rattle.registers.proofs.rows.registers_of.Tie as tie
 
 sub-item-of : tie.Need-sub-item-of
 sub-item-of c = search needs
