@@ -8,14 +8,17 @@
 #include <stdlib.h>
 #include <string.h>
 
-enum { RECORD = 800, WORDS = 11 };
+enum { RECORD = 1000, NUMBERS = 5, COUNT = 6, WORDS = NUMBERS + COUNT, SEAL = 255 };
 
-/* A case, taken apart. */
+/* A case, taken apart: every kind that is known here has COUNT buffers and at most four parameters. */
 typedef struct {
     uint8_t record[RECORD];
-    size_t length;
+    size_t length, patches;
     uint32_t p[4];
 } outside_case;
+
+/* Where buffer k stands in a record: two bytes of its length, and whether it is filled with zeros. */
+static const uint8_t *buffer_of(const outside_case *c, int k) { return c->record + 9 + 3 * k; }
 
 static uint32_t two(const uint8_t *b) { return b[0] + 256u * b[1]; }
 
@@ -27,16 +30,16 @@ static void put_two(uint8_t *b, uint32_t n)
     b[1] = (uint8_t)(n >> 8);
 }
 
-/* Fill: one generator runs on through all six buffers. */
+/* Fill: one generator runs on through all buffers. */
 static void fill(const outside_case *c, int end)
 {
     static uint8_t bytes[65536];
     uint32_t x = four(c->record + 4);
-    for (int k = 0; k < 6; k++) {
-        size_t length = two(c->record + 8 + 2 * k);
+    for (int k = 0; k < COUNT; k++) {
+        size_t length = two(buffer_of(c, k));
         for (size_t i = 0; i < length; i++) {
             bytes[i] = 0;
-            if (c->record[2] >> k & 1)
+            if (buffer_of(c, k)[2])
                 continue;
             x ^= x << 13;
             x ^= x >> 17;
@@ -101,16 +104,16 @@ static void format(const outside_case *c)
 /* Patches, in order. Answers 0 where one does not fit: the case is then no case of the protocol. */
 static int patch(const outside_case *c)
 {
-    size_t at = 36;
-    for (int i = 0; i < c->record[3]; i++) {
+    size_t at = c->patches;
+    for (int i = 0; i < c->record[8]; i++) {
         if (at + 4 > c->length)
             return 0;
         const uint8_t *p = c->record + at;
         size_t offset = two(p + 1), n = p[3];
         at += 4 + n;
-        if (at > c->length || p[0] > 6)
+        if (at > c->length || (p[0] >= COUNT && p[0] != SEAL))
             return 0;
-        if (p[0] == 6) {
+        if (p[0] == SEAL) {
             if (512 * offset + 512 > buffers[FILE_BYTES].length)
                 return 0;
             seal(buffers[FILE_BYTES].bytes + 512 * offset);
@@ -133,7 +136,7 @@ static int make_buffers(const outside_case *c, int end)
         format(c);
     if (!patch(c))
         return 0;
-    for (int k = 0; k < 6; k++)
+    for (int k = 0; k < COUNT; k++)
         memcpy(buffers[k].expected, buffers[k].bytes, buffers[k].length);
     return 1;
 }
@@ -243,8 +246,8 @@ static const char *run_case(const outside_case *c, int end, uint32_t words[WORDS
         else
             words[2] = 0;
     }
-    for (int k = 0; k < 6; k++)
-        words[5 + k] = digest(&buffers[k]);
+    for (int k = 0; k < COUNT; k++)
+        words[NUMBERS + k] = digest(&buffers[k]);
     return wrong;
 }
 
@@ -259,12 +262,13 @@ static int read_case(outside_case *c)
         return 0;
     for (; digit(line[2 * c->length]) >= 0 && digit(line[2 * c->length + 1]) >= 0; c->length++)
         c->record[c->length] = (uint8_t)(16 * digit(line[2 * c->length]) + digit(line[2 * c->length + 1]));
-    if (line[2 * c->length] != '\n' || c->length < 36 || c->record[0] > 11) {
+    c->patches = 9 + 3 * COUNT + 4 * c->record[3];
+    if (line[2 * c->length] != '\n' || c->length < c->patches || c->record[0] > 11 || c->record[2] != COUNT || c->record[3] > 4) {
         fputs("driver: a line that is no case\n", stderr);
         exit(2);
     }
-    for (int i = 0; i < 4; i++)
-        c->p[i] = four(c->record + 20 + 4 * i);
+    for (int i = 0; i < c->record[3]; i++)
+        c->p[i] = four(buffer_of(c, COUNT) + 4 * i);
     return 1;
 }
 

@@ -3,7 +3,7 @@ ghost use Prim.Native.Nat.{_<_, _≤_};
 
 // `n`, or `most` where that is less.
 pub(crate) fn clamp(n: usize, most: usize) -> usize
-    ensures { λ r. ⌜ r ≤ most ⌝ }
+    ensures { λ r. ⌜ (r ≤ n) × (r ≤ most) ⌝ }
 {
     if n < most { n } else { most }
 }
@@ -218,22 +218,22 @@ pub(crate) fn format(file: &mut [u8], kind: usize, used: usize)
     }
 }
 
-// The record's byte at `from` put into the buffer at `to`, where both have room.
-fn put(buffer: &mut [u8], to: usize, record: &[u8], from: usize) {
+// The byte of `bytes` at `from` put into the buffer at `to`, where both have room.
+fn put(buffer: &mut [u8], to: usize, bytes: &[u8], from: usize) {
     if to < buffer.len() {
-        if from < record.len() {
-            buffer[to] = record[from];
+        if from < bytes.len() {
+            buffer[to] = bytes[from];
         }
     }
 }
 
-// `n` bytes of the record from `from` on, put into the buffer at `to`, where both have room.
-pub(crate) fn patch(buffer: &mut [u8], to: usize, record: &[u8], from: usize, n: usize)
-    requires { ⌜ (to < 65536) × (from < 1000) × (n < 256) ⌝ }
+// `n` of the bytes from `from` on, put into the buffer at `to`, where both have room.
+pub(crate) fn patch(buffer: &mut [u8], to: usize, bytes: &[u8], from: usize, n: usize)
+    requires { ⌜ (to < 1000000) × (from < 1000000) × (n < 1000000) ⌝ }
 {
     let mut i: usize = 0;
     while i < n {
-        put(buffer, to + i, record, from + i);
+        put(buffer, to + i, bytes, from + i);
         i += 1;
     }
 }

@@ -1,8 +1,11 @@
-// The entry that a case names is called on its buffers.
+// The entry that a case names is called on its buffers: each call takes those that it lends out of the room, and gives back those that may be written.
+ghost use Prim.Native.Nat.{_≤_};
 use super::buffers::clamp;
-use super::buffers::patch;
 use super::records::byte;
-use super::records::word;
+use super::records::length_of;
+use super::records::parameter;
+use super::rooms::give;
+use super::rooms::take;
 use builders::difference_list;
 use builders::sum_list;
 use contents::read_content;
@@ -12,13 +15,10 @@ use module::run;
 use pictures::read_picture;
 use pictures::write_picture;
 
-// What an entry answered: up to five numbers.
-pub struct Five {
-    pub a: u32,
-    pub b: u32,
-    pub c: u32,
-    pub d: u32,
-    pub e: u32,
+// What an entry answered: its first `count` numbers.
+pub struct Numbers {
+    pub count: usize,
+    pub w: [u32; 16],
 }
 
 // A count or a place as a number of the protocol.
@@ -26,216 +26,298 @@ fn narrow(x: usize) -> u32 {
     (x % 4294967296) as u32
 }
 
-// An answer of a number alone.
-fn only(a: u32) -> Five {
-    Five {
-        a: a,
-        b: 0,
-        c: 0,
-        d: 0,
-        e: 0,
-    }
+// An answer of five numbers, the fewest of the protocol.
+fn five(a: u32, b: u32, c: u32, d: u32, e: u32) -> Numbers {
+    let mut w = [0u32; 16];
+    w[0] = a;
+    w[1] = b;
+    w[2] = c;
+    w[3] = d;
+    w[4] = e;
+    Numbers { count: 5, w: w }
 }
 
-// A list run.
-fn call_run(
-    memory: &mut [u8],
-    registers: &mut [u8],
-    list: &[u8],
-    items: &[u8],
-    out: &mut [u8],
-) -> Five {
-    let r = run(memory, registers, list, items, out);
-    Five {
-        a: r.number as u32,
-        b: narrow(r.place),
-        c: narrow(r.steps),
-        d: narrow(r.taken),
-        e: narrow(r.given),
-    }
+// How many bytes of buffer `k` stand in a buffer of `most`.
+fn front(record: &[u8], k: usize, most: usize) -> usize
+    ensures { λ r. ⌜ r ≤ most ⌝ }
+{
+    clamp(length_of(record, k), most)
 }
 
-// The first `count` bytes of a list run.
-fn call_front(
-    memory: &mut [u8],
-    registers: &mut [u8],
-    list: &[u8],
-    count: usize,
-    items: &[u8],
-    out: &mut [u8],
-) -> Five {
-    let n = clamp(count, list.len());
-    call_run(memory, registers, &list[0..n], items, out)
+// A run's or a step's answer.
+fn of_run(r: judge::Answer) -> Numbers {
+    five(
+        r.number as u32,
+        narrow(r.place),
+        narrow(r.steps),
+        narrow(r.taken),
+        narrow(r.given),
+    )
+}
+
+// A builder's answer.
+fn of_builder(r: builders::Built) -> Numbers {
+    five(r.number as u32, 0, narrow(r.count), 0, 0)
+}
+
+// The answer of an entry of the disk.
+fn of_disk(r: contents::Answer) -> Numbers {
+    five(r.number as u32, narrow(r.place), narrow(r.bytes), 0, 0)
 }
 
 // One instruction of a list taken; nothing is done where there are no 96 bytes of registers.
-fn call_step(
+fn step_on(
     memory: &mut [u8],
     registers: &mut [u8],
     instruction: &[u8],
     items: &[u8],
     out: &mut [u8],
-) -> Five {
+) -> Numbers {
     if registers.len() != 96 {
-        return only(0);
+        return five(0, 0, 0, 0, 0);
     }
     let old = registers::rows::registers_of(registers);
     let r = advance(memory, old, instruction, items, out);
     let answer = r.answer;
     let regs = r.regs;
     registers::rows::write_registers(registers, regs);
-    Five {
-        a: answer.number as u32,
-        b: narrow(answer.place),
-        c: narrow(answer.steps),
-        d: narrow(answer.taken),
-        e: narrow(answer.given),
+    of_run(answer)
+}
+
+// A list run, or its one instruction taken as a step.
+fn run_or_step(
+    memory: &mut [u8],
+    registers: &mut [u8],
+    list: &[u8],
+    items: &[u8],
+    out: &mut [u8],
+    step: bool,
+) -> Numbers {
+    if step {
+        return step_on(memory, registers, list, items, out);
     }
+    of_run(run(memory, registers, list, items, out))
 }
 
-// What the network gave, put into the output, as much of it as has room.
-fn give(out: &mut [u8], r: network::Passed) -> Five {
-    let given = r.item;
-    patch(out, 0, &given, 0, 32);
-    only(r.number as u32)
+// The module on just the bytes of the case, and on the first `most` of the list's.
+fn run_front(
+    record: &[u8],
+    memory: &mut [u8],
+    registers: &mut [u8],
+    list: &[u8],
+    most: usize,
+    items: &[u8],
+    out: &mut [u8],
+    step: bool,
+) -> Numbers {
+    let n0 = front(record, 0, memory.len());
+    let n1 = front(record, 1, registers.len());
+    let n2 = clamp(most, front(record, 2, list.len()));
+    let n3 = front(record, 3, items.len());
+    let n4 = front(record, 4, out.len());
+    run_or_step(
+        &mut memory[0..n0],
+        &mut registers[0..n1],
+        &list[0..n2],
+        &items[0..n3],
+        &mut out[0..n4],
+        step,
+    )
 }
 
-// The network on the first 32 bytes of the items, with zeros behind their end.
-fn call_pass(items: &[u8], out: &mut [u8], flip: u32, code: u32, wires: bool) -> Five {
-    let mut item = [0u8; 32];
-    patch(&mut item, 0, items, 0, 32);
+fn call_module(record: &[u8], room: &mut [u8], most: usize, step: bool) -> Numbers {
+    let mut memory = [0u8; 8200];
+    let mut registers = [0u8; 100];
+    let mut list = [0u8; 33000];
+    let mut items = [0u8; 33000];
+    let mut out = [0u8; 8200];
+    take(record, 0, room, &mut memory);
+    take(record, 1, room, &mut registers);
+    take(record, 2, room, &mut list);
+    take(record, 3, room, &mut items);
+    take(record, 4, room, &mut out);
+    let r = run_front(
+        record,
+        &mut memory,
+        &mut registers,
+        &list,
+        most,
+        &items,
+        &mut out,
+        step,
+    );
+    give(record, 0, room, &memory);
+    give(record, 1, room, &registers);
+    give(record, 4, room, &out);
+    r
+}
+
+// What the network gives for an item.
+fn passed(item: &[u8; 32], flip: u32, code: u32, wires: bool) -> network::Passed {
     let f = (flip % 256) as u8;
     let c = (code % 256) as u8;
     if wires {
-        return give(out, network::wired_pass(&item, f, c));
+        return network::wired_pass(item, f, c);
     }
-    give(out, network::pass(&item, f, c))
+    network::pass(item, f, c)
 }
 
-// The list of a sum built.
-fn call_sum(list: &mut [u8], a: u32, b: u32, s: u32, n: u32) -> Five {
-    let r = sum_list(a, b, s, n, list);
-    Five {
-        a: r.number as u32,
-        b: 0,
-        c: narrow(r.count),
-        d: 0,
-        e: 0,
-    }
-}
-
-// The list of a difference built.
-fn call_difference(list: &mut [u8], a: u32, b: u32, s: u32, n: u32) -> Five {
-    let r = difference_list(a, b, s, n, list);
-    Five {
-        a: r.number as u32,
-        b: 0,
-        c: narrow(r.count),
-        d: 0,
-        e: 0,
-    }
+// The network on the first 32 bytes of the items; what it gives is the output's.
+fn call_pass(record: &[u8], room: &mut [u8], wires: bool) -> Numbers {
+    let mut item = [0u8; 32];
+    take(record, 3, room, &mut item);
+    let r = passed(&item, parameter(record, 0), parameter(record, 1), wires);
+    let given = r.item;
+    give(record, 4, room, &given);
+    five(r.number as u32, 0, 0, 0, 0)
 }
 
 // The builder of differences or of sums, on the case's numbers.
-fn call_builder(record: &[u8], list: &mut [u8], minus: bool) -> Five {
-    let a = word(record, 20);
-    let b = word(record, 24);
-    let s = word(record, 28);
-    let n = word(record, 32);
+fn built(record: &[u8], list: &mut [u8], minus: bool) -> builders::Built {
+    let a = parameter(record, 0);
+    let b = parameter(record, 1);
+    let s = parameter(record, 2);
+    let n = parameter(record, 3);
     if minus {
-        return call_difference(list, a, b, s, n);
+        return difference_list(a, b, s, n, list);
     }
-    call_sum(list, a, b, s, n)
+    sum_list(a, b, s, n, list)
+}
+
+// The same on just the bytes of the case.
+fn built_front(record: &[u8], list: &mut [u8], minus: bool) -> builders::Built {
+    let n = front(record, 2, list.len());
+    built(record, &mut list[0..n], minus)
+}
+
+// A list built where it is asked for.
+fn build(record: &[u8], room: &mut [u8], minus: bool) -> builders::Built {
+    let mut list = [0u8; 33000];
+    take(record, 2, room, &mut list);
+    let r = built_front(record, &mut list, minus);
+    give(record, 2, room, &list);
+    r
 }
 
 // A list built, and run if it was.
-fn call_both(
-    record: &[u8],
-    memory: &mut [u8],
-    registers: &mut [u8],
-    list: &mut [u8],
-    items: &[u8],
-    out: &mut [u8],
-    minus: bool,
-) -> Five {
-    let built = call_builder(record, list, minus);
-    if built.a != 0 {
-        return only(built.a);
+fn call_both(record: &[u8], room: &mut [u8], minus: bool) -> Numbers {
+    let r = build(record, room, minus);
+    if r.number != 0 {
+        return five(r.number as u32, 0, 0, 0, 0);
     }
-    call_front(memory, registers, list, built.c as usize, items, out)
+    call_module(record, room, r.count, false)
 }
 
-// What an entry of the disk answered.
-fn of_disk(r: contents::Moved) -> Five {
-    Five {
-        a: r.number as u32,
-        b: narrow(r.place),
-        c: narrow(r.bytes),
-        d: 0,
-        e: 0,
-    }
+// A list or items read from just the file's bytes.
+fn read_front(record: &[u8], file: &[u8], target: &mut [u8]) -> Numbers {
+    let n = front(record, 5, file.len());
+    let m = front(record, 2, target.len());
+    let kind = parameter(record, 0) as usize;
+    of_disk(read_content(kind, &file[0..n], &mut target[0..m]))
+}
+
+fn call_read(record: &[u8], room: &mut [u8]) -> Numbers {
+    let mut file = [0u8; 35000];
+    let mut target = [0u8; 33000];
+    take(record, 5, room, &mut file);
+    take(record, 2, room, &mut target);
+    let r = read_front(record, &file, &mut target);
+    give(record, 2, room, &target);
+    r
+}
+
+// A picture read from just the file's bytes.
+fn read_picture_front(
+    record: &[u8],
+    file: &[u8],
+    memory: &mut [u8],
+    registers: &mut [u8],
+) -> Numbers {
+    let n = front(record, 5, file.len());
+    let n0 = front(record, 0, memory.len());
+    let n1 = front(record, 1, registers.len());
+    of_disk(read_picture(1, &file[0..n], &mut memory[0..n0], &mut registers[0..n1]))
+}
+
+fn call_read_picture(record: &[u8], room: &mut [u8]) -> Numbers {
+    let mut file = [0u8; 35000];
+    let mut memory = [0u8; 8200];
+    let mut registers = [0u8; 100];
+    take(record, 5, room, &mut file);
+    take(record, 0, room, &mut memory);
+    take(record, 1, room, &mut registers);
+    let r = read_picture_front(record, &file, &mut memory, &mut registers);
+    give(record, 0, room, &memory);
+    give(record, 1, room, &registers);
+    r
+}
+
+// A list or items written into just the file's bytes.
+fn write_front(record: &[u8], content: &[u8], file: &mut [u8]) -> Numbers {
+    let m = front(record, 2, content.len());
+    let n = front(record, 5, file.len());
+    let kind = parameter(record, 0) as usize;
+    of_disk(write_content(kind, &content[0..m], &mut file[0..n]))
+}
+
+fn call_write(record: &[u8], room: &mut [u8]) -> Numbers {
+    let mut content = [0u8; 33000];
+    let mut file = [0u8; 35000];
+    take(record, 2, room, &mut content);
+    take(record, 5, room, &mut file);
+    let r = write_front(record, &content, &mut file);
+    give(record, 5, room, &file);
+    r
+}
+
+// A picture written into just the file's bytes.
+fn write_picture_front(record: &[u8], memory: &[u8], registers: &[u8], file: &mut [u8]) -> Numbers {
+    let n0 = front(record, 0, memory.len());
+    let n1 = front(record, 1, registers.len());
+    let n = front(record, 5, file.len());
+    of_disk(write_picture(1, &memory[0..n0], &registers[0..n1], &mut file[0..n]))
+}
+
+fn call_write_picture(record: &[u8], room: &mut [u8]) -> Numbers {
+    let mut memory = [0u8; 8200];
+    let mut registers = [0u8; 100];
+    let mut file = [0u8; 35000];
+    take(record, 0, room, &mut memory);
+    take(record, 1, room, &mut registers);
+    take(record, 5, room, &mut file);
+    let r = write_picture_front(record, &memory, &registers, &mut file);
+    give(record, 5, room, &file);
+    r
 }
 
 // The disk's entries, kinds 6 to 9.
-fn call_disk(
-    record: &[u8],
-    memory: &mut [u8],
-    registers: &mut [u8],
-    list: &mut [u8],
-    file: &mut [u8],
-) -> Five {
-    let kind = byte(record, 0);
-    let asked = word(record, 20) as usize;
+fn call_disk(record: &[u8], room: &mut [u8], kind: u8) -> Numbers {
     if kind == 6 {
-        return of_disk(read_content(asked, file, list));
+        return call_read(record, room);
     }
     if kind == 7 {
-        return of_disk(read_picture(1, file, memory, registers));
+        return call_read_picture(record, room);
     }
     if kind == 8 {
-        return of_disk(write_content(asked, list, file));
+        return call_write(record, room);
     }
-    of_disk(write_picture(1, memory, registers, file))
-}
-
-// The module's entries, kinds 0 and 1, and the built lists run, kinds 10 and 11.
-fn call_module(
-    record: &[u8],
-    memory: &mut [u8],
-    registers: &mut [u8],
-    list: &mut [u8],
-    items: &[u8],
-    out: &mut [u8],
-) -> Five {
-    let kind = byte(record, 0);
-    if kind == 0 {
-        return call_run(memory, registers, list, items, out);
-    }
-    if kind == 1 {
-        return call_step(memory, registers, list, items, out);
-    }
-    call_both(record, memory, registers, list, items, out, kind == 11)
+    call_write_picture(record, room)
 }
 
 // The entry that the case names.
-pub(crate) fn call(
-    record: &[u8],
-    memory: &mut [u8],
-    registers: &mut [u8],
-    list: &mut [u8],
-    items: &[u8],
-    out: &mut [u8],
-    file: &mut [u8],
-) -> Five {
+pub(crate) fn call(record: &[u8], room: &mut [u8]) -> Numbers {
     let kind = byte(record, 0);
-    if kind == 2 || kind == 3 {
-        return call_pass(items, out, word(record, 20), word(record, 24), kind == 3);
+    if kind < 2 {
+        return call_module(record, room, 33000, kind == 1);
     }
-    if kind == 4 || kind == 5 {
-        return call_builder(record, list, kind == 5);
+    if kind < 4 {
+        return call_pass(record, room, kind == 3);
     }
-    if 6 <= kind && kind <= 9 {
-        return call_disk(record, memory, registers, list, file);
+    if kind < 6 {
+        return of_builder(build(record, room, kind == 5));
     }
-    call_module(record, memory, registers, list, items, out)
+    if kind < 10 {
+        return call_disk(record, room, kind);
+    }
+    call_both(record, room, kind == 11)
 }

@@ -1,12 +1,8 @@
-// A case's line of hex digits to its record, and an answer's numbers to a line of hex digits.
-ghost use Prim.Native.Nat.{_+_, _<_, _≤_};
+// A case's line of hex digits to its record, what the record says, and an answer's numbers to a line of hex digits.
+ghost use Prim.Native.Nat.{_<_, _≤_};
 ghost use lib.ListN.{length};
 use libc::STDIN_FILENO;
-
-// The eleven numbers of an answer.
-pub struct Words {
-    pub w: [u32; 11],
-}
+use libc::STDOUT_FILENO;
 
 // The value of a lower-case hex digit; 0 for any other character.
 fn hex_value(c: u8) -> u8
@@ -57,20 +53,20 @@ fn next_byte() -> u8 {
 
 // One digit more of a line, of which `left` are left to read; answers how many are left then, and none at the line's end.
 fn read_digit(record: &mut [u8], left: usize) -> usize
-    requires { ⌜ (0 < left) × (left ≤ 1700) ⌝ }
+    requires { ⌜ (0 < left) × (left ≤ 2100) ⌝ }
     ensures { λ r. ⌜ r < left ⌝ }
 {
     let c = next_byte();
     if c == 10 {
         return 0;
     }
-    put_digit(record, 1701 - left, c);
+    put_digit(record, 2101 - left, c);
     left - 1
 }
 
-// The digits of a line behind its first put into the record. A line has fewer than 1,700.
+// The digits of a line behind its first put into the record. A line has fewer than 2,100.
 fn read_rest(record: &mut [u8]) {
-    let mut left: usize = 1700;
+    let mut left: usize = 2100;
     while left > 0 {
         left = read_digit(record, left);
     }
@@ -94,7 +90,7 @@ pub(crate) fn byte(record: &[u8], at: usize) -> u8 {
 
 // The number of two bytes, low byte first, or 0 where they do not stand in the record.
 pub(crate) fn half(record: &[u8], at: usize) -> usize
-    requires { ⌜ at < 1000 ⌝ }
+    requires { ⌜ at < 4000 ⌝ }
     ensures { λ r. ⌜ r < 65536 ⌝ }
 {
     if at + 1 < record.len() {
@@ -106,9 +102,52 @@ pub(crate) fn half(record: &[u8], at: usize) -> usize
 
 // The number of four bytes, low byte first.
 pub(crate) fn word(record: &[u8], at: usize) -> u32
-    requires { ⌜ at < 900 ⌝ }
+    requires { ⌜ at < 3900 ⌝ }
 {
     (half(record, at) as u32) + 65536 * (half(record, at + 2) as u32)
+}
+
+// How many buffers the case has.
+pub(crate) fn buffers_of(record: &[u8]) -> usize
+    ensures { λ r. ⌜ r < 256 ⌝ }
+{
+    byte(record, 2) as usize
+}
+
+// The length of its buffer `k`: 0 where it has none of that number.
+pub(crate) fn length_of(record: &[u8], k: usize) -> usize
+    ensures { λ r. ⌜ r < 65536 ⌝ }
+{
+    if k < buffers_of(record) {
+        half(record, 9 + 3 * k)
+    } else {
+        0
+    }
+}
+
+// Is its buffer `k` filled with zeros?
+pub(crate) fn zeros_in(record: &[u8], k: usize) -> bool
+    requires { ⌜ k < 256 ⌝ }
+{
+    byte(record, 11 + 3 * k) == 1
+}
+
+// Its parameter `i`: 0 where it has none of that number.
+pub(crate) fn parameter(record: &[u8], i: usize) -> u32
+    requires { ⌜ i < 256 ⌝ }
+{
+    if i < byte(record, 3) as usize {
+        word(record, 9 + 3 * buffers_of(record) + 4 * i)
+    } else {
+        0
+    }
+}
+
+// Where its first patch starts.
+pub(crate) fn patches_at(record: &[u8]) -> usize
+    ensures { λ r. ⌜ r < 2000 ⌝ }
+{
+    9 + 3 * buffers_of(record) + 4 * (byte(record, 3) as usize)
 }
 
 // The hex digit of a number below 16.
@@ -120,27 +159,28 @@ fn hex_digit(d: u32) -> u8 {
     }
 }
 
-// The eight hex digits of a number put at `at`.
-fn put_word(text: &mut [u8], at: usize, x: u32)
-    requires { ⌜ at + 8 ≤ length (now text) ⌝ }
+// The eight hex digits of a number put at the front of a text.
+fn put_word(text: &mut [u8], x: u32)
+    requires { ⌜ 8 ≤ length (now text) ⌝ }
 {
     let mut rest = x;
     let mut j: usize = 8;
     while j > 0 {
         j -= 1;
-        text[at + j] = hex_digit(rest % 16);
+        text[j] = hex_digit(rest % 16);
         rest = rest / 16;
     }
 }
 
-// The answer's line: eight hex digits for each number, a space between them, and a line feed.
-pub(crate) fn answer_line(answer: Words) -> [u8; 99] {
-    let mut text = [32u8; 99];
-    let mut k: usize = 0;
-    while k < 11 {
-        put_word(&mut text, 9 * k, answer.w[k]);
-        k += 1;
-    }
-    text[98] = 10;
-    text
+// What stands behind a number of an answer: a line feed behind the last, a space behind any other.
+fn behind(last: bool) -> u8 {
+    if last { 10 } else { 32 }
+}
+
+// A number of an answer written out.
+pub(crate) fn write_word(x: u32, last: bool) {
+    let mut text = [0u8; 9];
+    put_word(&mut text, x);
+    text[8] = behind(last);
+    io::write_all(STDOUT_FILENO, &text);
 }

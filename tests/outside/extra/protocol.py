@@ -18,13 +18,14 @@ def seal(f,n):
     f[at+508:at+512]=bytes([s1%256,s1//256,s2%256,s2//256])
 def make(r):
     le=lambda at,n:int.from_bytes(r[at:at+n],'little')
-    kind,shape,zeros,np=r[0],r[1],r[2],r[3]
-    x=le(4,4);L=[le(8+2*k,2) for k in range(6)];p=[le(20+4*k,4) for k in range(4)]
+    kind,shape,nb,pp,np=r[0],r[1],r[2],r[3],r[8]
+    x=le(4,4);L=[le(9+3*k,2) for k in range(nb)];zeros=[r[11+3*k] for k in range(nb)]
+    p=[le(9+3*nb+4*k,4) for k in range(pp)];p+=[0]*(4-pp)
     B=[]
-    for k in range(6):
+    for k in range(nb):
         b=bytearray()
         for _ in range(L[k]):
-            if zeros>>k&1: b.append(0)
+            if zeros[k]: b.append(0)
             else: x=nxt(x); b.append(x%256)
         B.append(b)
     if shape:
@@ -48,10 +49,10 @@ def make(r):
             for i in range(496):
                 if i>=used:f[at+12+i]=0
             seal(f,n)
-    at=36
+    at=9+3*nb+4*pp
     for _ in range(np):
         t,o,n=r[at],le(at+1,2),r[at+3]
-        if t==6: assert n==0; seal(B[5],o)
+        if t==255: assert n==0; seal(B[5],o)
         else:
             assert o+n<=len(B[t]); B[t][o:o+n]=r[at+4:at+4+n]
         at+=4+n
@@ -63,10 +64,10 @@ assert lines[-1]=='' and ans[-1]=='' and len(lines)==len(ans)
 checked=0
 for k in range(0,len(lines)-1):
     kind,p,B=make(bytes.fromhex(lines[k]))
-    w=[int(v,16) for v in ans[k].split(' ')];assert len(ans[k])==98
-    keep=kept[kind] if w[0]==0 else range(6)
+    w=[int(v,16) for v in ans[k].split(' ')];assert len(ans[k])==9*len(w)-1 and len(w)>=5+len(B)
+    keep=kept[kind] if w[0]==0 else range(len(B))
     for b in keep:
         if kind in (2,3) and b==4: continue
         if kind in (10,11) and w[0]<30 and b==2: continue
-        assert w[5+b]==digest(B[b]),(k,b); checked+=1
+        assert w[len(w)-len(B)+b]==digest(B[b]),(k,b); checked+=1
 print(len(lines)-1,'cases',checked,'digests agree')

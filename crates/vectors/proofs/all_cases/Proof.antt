@@ -1,4 +1,4 @@
--- `all_cases`: the buffers keep their lengths, and each turn leaves fewer cases.
+-- `all_cases`: the room keeps its length, and each turn leaves fewer cases.
 use mathlib.Core.Path.{_≡_}
 use lib.ListN.{length}
 use borrow.Author.Needs.{needs}
@@ -6,10 +6,10 @@ use Rattle.vectors.proofs.all_cases.Statement.{statement}
 use Rattle.vectors.proofs.all_cases.Tie as tie
 
 abbrev Inv-loop : tie.InvT-loop
-Inv-loop memory₀ registers₀ list₀ items₀ out₀ file₀ left₀ memory registers list items out file left = (length memory ≡ length memory₀) × (length registers ≡ length registers₀) × (length list ≡ length list₀) × (length items ≡ length items₀) × (length out ≡ length out₀) × (length file ≡ length file₀)
+Inv-loop room₀ left₀ room left = (length room ≡ 131072) × (length room ≡ length room₀)
 
 abbrev μ-loop : tie.MeasureT-loop
-μ-loop memory₀ registers₀ list₀ items₀ out₀ file₀ left₀ memory registers list items out file left = left
+μ-loop room₀ left₀ room left = left
 
 loop-holds : tie.Need-loop-holds Inv-loop μ-loop
 loop-holds c = search needs
@@ -26,21 +26,6 @@ loop-again c = search needs
 same-length : tie.Need-same-length Inv-loop μ-loop
 same-length c = search needs
 
-same-length-2 : tie.Need-same-length-2 Inv-loop μ-loop
-same-length-2 c = search needs
-
-same-length-3 : tie.Need-same-length-3 Inv-loop μ-loop
-same-length-3 c = search needs
-
-same-length-4 : tie.Need-same-length-4 Inv-loop μ-loop
-same-length-4 c = search needs
-
-same-length-5 : tie.Need-same-length-5 Inv-loop μ-loop
-same-length-5 c = search needs
-
-same-length-6 : tie.Need-same-length-6 Inv-loop μ-loop
-same-length-6 c = search needs
-
 returns : tie.Need-returns Inv-loop μ-loop
 returns c = search needs
 
@@ -55,9 +40,4 @@ all-cases-spec =
     loop-less
     loop-again
     same-length
-    same-length-2
-    same-length-3
-    same-length-4
-    same-length-5
-    same-length-6
     returns)

@@ -44,7 +44,7 @@ fn smaller(case: &Case) -> Vec<Case> {
         one.patches.remove(k);
         all.push(one);
     }
-    for k in 0..6 {
+    for k in 0..COUNT {
         if case.kind == PASS || case.kind == WIRED || (case.kind == STEP && k == REGISTERS) {
             break;
         }
@@ -80,7 +80,7 @@ fn smaller(case: &Case) -> Vec<Case> {
             }
         }
     }
-    for k in 0..6 {
+    for k in 0..COUNT {
         if (case.zeros >> k) % 2 == 0 && case.lengths[k] != 0 {
             let mut one = case.clone();
             one.zeros |= 1 << k;

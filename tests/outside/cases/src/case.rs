@@ -8,11 +8,18 @@ pub const ITEMS: usize = 3;
 pub const OUT: usize = 4;
 pub const FILE: usize = 5;
 /// Not a buffer: a patch that seals a block of the file.
-pub const SEAL: u8 = 6;
+pub const SEAL: u8 = 255;
 
-pub const MAXIMUM: [usize; 6] = [8200, 100, 33000, 33000, 8200, 35000];
-pub const LONGEST_RECORD: usize = 800;
-pub const HEADER: usize = 36;
+/// How many buffers a case has.
+pub const COUNT: usize = 6;
+pub const MAXIMUM: [usize; COUNT] = [8200, 100, 33000, 33000, 8200, 35000];
+pub const LONGEST_RECORD: usize = 1000;
+/// The bytes of a record before its buffers, of a buffer in it, and of a parameter.
+pub const HEADER: usize = 9;
+pub const BUFFER: usize = 3;
+pub const PARAMETER: usize = 4;
+/// The fewest numbers of an answer.
+pub const NUMBERS: usize = 5;
 
 pub const RUN: u8 = 0;
 pub const STEP: u8 = 1;
@@ -42,7 +49,7 @@ pub const KINDS: [&str; 12] = [
     "difference list, then run",
 ];
 
-pub const BUFFERS: [&str; 6] = ["memory", "registers", "list", "items", "out", "file"];
+pub const BUFFERS: [&str; COUNT] = ["memory", "registers", "list", "items", "out", "file"];
 
 #[derive(Clone, PartialEq, Eq, Debug)]
 pub struct Patch {
@@ -58,12 +65,12 @@ pub struct Case {
     /// Bit k set: buffer k is filled with zeros.
     pub zeros: u8,
     pub seed: u32,
-    pub lengths: [u16; 6],
+    pub lengths: [u16; COUNT],
     pub p: [u32; 4],
     pub patches: Vec<Patch>,
 }
 
-pub type Buffers = [Vec<u8>; 6];
+pub type Buffers = [Vec<u8>; COUNT];
 
 /// The generator of both sides.
 pub fn next(x: u32) -> u32 {
@@ -158,7 +165,7 @@ fn format_blocks(file: &mut [u8], kind: u32, used_last: u32) {
 
 impl Case {
     pub fn new(kind: u8, seed: u32) -> Case {
-        Case { kind, shape: 0, zeros: 0, seed, lengths: [0; 6], p: [0; 4], patches: vec![] }
+        Case { kind, shape: 0, zeros: 0, seed, lengths: [0; COUNT], p: [0; 4], patches: vec![] }
     }
 
     pub fn patch(&mut self, target: usize, offset: usize, bytes: &[u8]) -> &mut Case {
@@ -176,7 +183,7 @@ impl Case {
     /// Every promise of PROTOCOL.md about a case.
     pub fn check(&self) {
         assert!((self.kind as usize) < KINDS.len() && self.shape <= 2 && self.zeros < 64);
-        for k in 0..6 {
+        for k in 0..COUNT {
             assert!(self.lengths[k] as usize <= MAXIMUM[k], "{:?}", self);
         }
         if self.kind == STEP {
@@ -198,15 +205,19 @@ impl Case {
     }
 
     pub fn record(&self) -> Vec<u8> {
-        let mut bytes = vec![self.kind, self.shape, self.zeros, self.patches.len() as u8];
+        // parameters of 0 behind the last other one are left out
+        let parameters = (0..self.p.len()).rev().find(|&i| self.p[i] != 0).map_or(0, |i| i + 1);
+        let mut bytes = vec![self.kind, self.shape, COUNT as u8, parameters as u8];
         bytes.extend_from_slice(&self.seed.to_le_bytes());
-        for length in self.lengths {
-            bytes.extend_from_slice(&length.to_le_bytes());
+        bytes.push(self.patches.len() as u8);
+        for k in 0..COUNT {
+            bytes.extend_from_slice(&self.lengths[k].to_le_bytes());
+            bytes.push((self.zeros >> k) % 2);
         }
-        for p in self.p {
+        for p in &self.p[..parameters] {
             bytes.extend_from_slice(&p.to_le_bytes());
         }
-        assert_eq!(bytes.len(), HEADER);
+        assert_eq!(bytes.len(), HEADER + BUFFER * COUNT + PARAMETER * parameters);
         for patch in &self.patches {
             bytes.push(patch.target);
             bytes.extend_from_slice(&patch.offset.to_le_bytes());
@@ -229,22 +240,30 @@ impl Case {
         for k in 0..line.len() / 2 {
             bytes.push(u8::from_str_radix(&line[2 * k..2 * k + 2], 16).map_err(|e| e.to_string())?);
         }
-        if bytes.len() < HEADER {
+        if bytes.len() < HEADER || bytes.len() < HEADER + BUFFER * bytes[2] as usize + PARAMETER * bytes[3] as usize {
             return Err("too short".to_string());
+        }
+        let (buffers, parameters) = (bytes[2] as usize, bytes[3] as usize);
+        if buffers != COUNT || parameters > 4 {
+            return Err("no case of so many buffers and parameters is known".to_string());
         }
         let two = |at: usize| bytes[at] as u16 + 256 * bytes[at + 1] as u16;
         let four = |at: usize| two(at) as u32 + 65536 * two(at + 2) as u32;
         let mut case = Case::new(bytes[0], four(4));
         case.shape = bytes[1];
-        case.zeros = bytes[2];
-        for k in 0..6 {
-            case.lengths[k] = two(8 + 2 * k);
+        for k in 0..buffers {
+            let at = HEADER + BUFFER * k;
+            case.lengths[k] = two(at);
+            if bytes[at + 2] > 1 {
+                return Err("a buffer is filled in no known way".to_string());
+            }
+            case.zeros |= bytes[at + 2] << k;
         }
-        for k in 0..4 {
-            case.p[k] = four(20 + 4 * k);
+        for k in 0..parameters {
+            case.p[k] = four(HEADER + BUFFER * buffers + PARAMETER * k);
         }
-        let mut at = HEADER;
-        for _ in 0..bytes[3] {
+        let mut at = HEADER + BUFFER * buffers + PARAMETER * parameters;
+        for _ in 0..bytes[8] {
             if at + 4 > bytes.len() || at + 4 + bytes[at + 3] as usize > bytes.len() {
                 return Err("a patch is cut off".to_string());
             }
@@ -262,7 +281,7 @@ impl Case {
     pub fn make(&self) -> Buffers {
         let mut buffers: Buffers = Default::default();
         let mut x = self.seed;
-        for k in 0..6 {
+        for k in 0..COUNT {
             for _ in 0..self.lengths[k] {
                 if (self.zeros >> k) % 2 == 1 {
                     buffers[k].push(0);
@@ -292,8 +311,8 @@ impl Case {
         buffers
     }
 
-    /// Calls the emulator: the five numbers.
-    pub fn call(&self, buffers: &mut Buffers) -> [u32; 5] {
+    /// Calls the emulator: the numbers of the answer.
+    pub fn call(&self, buffers: &mut Buffers) -> [u32; NUMBERS] {
         let [memory, registers, list, items, out, file] = buffers;
         let p = self.p;
         match self.kind {
@@ -336,28 +355,24 @@ impl Case {
 
     pub fn answer(&self) -> Reply {
         let mut buffers = self.make();
-        let numbers = self.call(&mut buffers);
-        let mut words = [0u32; 11];
-        words[..5].copy_from_slice(&numbers);
-        for k in 0..6 {
-            words[5 + k] = digest(&buffers[k]);
-        }
+        let mut words = self.call(&mut buffers).to_vec();
+        words.extend(buffers.iter().map(|b| digest(b)));
         Reply { words }
     }
 }
 
-fn numbers(a: emulator::Answer) -> [u32; 5] {
+fn numbers(a: emulator::Answer) -> [u32; NUMBERS] {
     [a.number, a.place, a.steps, a.taken, a.given]
 }
 
-fn put(a: emulator::Put) -> [u32; 5] {
+fn put(a: emulator::Put) -> [u32; NUMBERS] {
     [a.number, a.place, a.bytes, 0, 0]
 }
 
-/// Five numbers, then six digests.
-#[derive(Clone, Copy, PartialEq, Eq, Debug)]
+/// The numbers of an answer, then the digests of the buffers.
+#[derive(Clone, PartialEq, Eq, Debug)]
 pub struct Reply {
-    pub words: [u32; 11],
+    pub words: Vec<u32>,
 }
 
 impl Reply {
@@ -368,16 +383,15 @@ impl Reply {
     }
 
     pub fn from_line(line: &str) -> Option<Reply> {
-        let mut words = [0; 11];
-        let parts: Vec<&str> = line.split(' ').collect();
-        if parts.len() != 11 {
-            return None;
-        }
-        for k in 0..11 {
-            if parts[k].len() != 8 {
+        let mut words = vec![];
+        for part in line.split(' ') {
+            if part.len() != 8 {
                 return None;
             }
-            words[k] = u32::from_str_radix(parts[k], 16).ok()?;
+            words.push(u32::from_str_radix(part, 16).ok()?);
+        }
+        if words.len() < NUMBERS {
+            return None;
         }
         Some(Reply { words })
     }

@@ -56,7 +56,7 @@ pub fn describe(case: &Case) -> String {
         WRITE_PLAIN => writeln!(t, "kind asked {}", p[0]).unwrap(),
         _ => {}
     }
-    for k in 0..6 {
+    for k in 0..COUNT {
         if case.lengths[k] != 0 {
             let filled = if (case.zeros >> k) % 2 == 1 || case.seed == 0 { "zeros" } else { "from the seed" };
             writeln!(t, "buffer {} ({}): {} bytes, {}", k, BUFFERS[k], case.lengths[k], filled).unwrap();
@@ -104,19 +104,21 @@ pub fn differences(one: &str, x: Option<&str>, other: &str, y: Option<&str>) -> 
     writeln!(t, "{}: {}", other, y.unwrap_or("(no line)")).unwrap();
     let parsed = (x.and_then(Reply::from_line), y.and_then(Reply::from_line));
     let (a, b) = match parsed {
-        (Some(a), Some(b)) => (a.words, b.words),
+        (Some(a), Some(b)) if a.words.len() == b.words.len() && a.words.len() >= COUNT => (a.words, b.words),
         _ => {
-            writeln!(t, "one of them is no answer of eleven words").unwrap();
+            writeln!(t, "one of them is no answer, or they have not as many words").unwrap();
             return t;
         }
     };
-    const NUMBERS: [&str; 5] = ["number", "place", "steps, count or bytes", "taken", "given"];
-    for k in 0..11 {
+    const NAMES: [&str; NUMBERS] = ["number", "place", "steps, count or bytes", "taken", "given"];
+    let numbers = a.len() - COUNT;
+    for k in 0..a.len() {
         if a[k] != b[k] {
-            if k < 5 {
-                writeln!(t, "{}: {} against {}", NUMBERS[k], a[k], b[k]).unwrap();
+            if k < numbers {
+                let name = NAMES.get(k).copied().unwrap_or("a further number");
+                writeln!(t, "{}: {} against {}", name, a[k], b[k]).unwrap();
             } else {
-                writeln!(t, "buffer {} ({}) differs afterwards", k - 5, BUFFERS[k - 5]).unwrap();
+                writeln!(t, "buffer {} ({}) differs afterwards", k - numbers, BUFFERS[k - numbers]).unwrap();
             }
         }
     }

@@ -14,6 +14,6 @@ pub mod network;
 pub mod program;
 
 pub use blocks::{read_picture, read_plain, write_picture, write_plain, Put};
-pub use builders::{difference_list, sum_list, Built};
+pub use lists::{difference_list, sum_list, Built};
 pub use machine::{run, step, Answer};
 pub use network::{pass, wired_pass};

@@ -7,10 +7,10 @@ use Rattle.vectors.proofs.buffers.patch.Statement.{statement}
 use Rattle.vectors.proofs.buffers.patch.Tie as tie
 
 abbrev Inv-loop : tie.InvT-loop
-Inv-loop buffer₀ to «record» from n i₀ buffer i = (i ≤ n) × (length buffer ≡ length buffer₀)
+Inv-loop buffer₀ to bytes from n i₀ buffer i = (i ≤ n) × (length buffer ≡ length buffer₀)
 
 abbrev μ-loop : tie.MeasureT-loop
-μ-loop buffer₀ to «record» from n i₀ buffer i = n - i
+μ-loop buffer₀ to bytes from n i₀ buffer i = n - i
 
 loop-holds : tie.Need-loop-holds Inv-loop μ-loop
 loop-holds c = search needs

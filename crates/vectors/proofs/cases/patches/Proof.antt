@@ -15,6 +15,9 @@ abbrev μ-loop : tie.MeasureT-loop
 byte-requires : tie.Need-byte-requires Inv-loop μ-loop
 byte-requires c κs = search needs
 
+patches-at-requires : tie.Need-patches-at-requires Inv-loop μ-loop
+patches-at-requires c κs = search needs
+
 loop-holds : tie.Need-loop-holds Inv-loop μ-loop
 loop-holds c = search needs
 
@@ -46,6 +49,7 @@ patches-spec =
     Inv-loop
     μ-loop
     byte-requires
+    patches-at-requires
     loop-holds
     one-patch-requires
     behind-requires

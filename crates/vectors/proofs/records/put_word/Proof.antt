@@ -1,16 +1,16 @@
 -- `put_word`: the eight places stand within the text.
 use mathlib.Core.Path.{_≡_}
-use Prim.Native.Nat.{_≤_, _+_}
+use Prim.Native.Nat.{_≤_}
 use lib.ListN.{length}
 use borrow.Author.Needs.{needs}
 use Rattle.vectors.proofs.records.put_word.Statement.{statement}
 use Rattle.vectors.proofs.records.put_word.Tie as tie
 
 abbrev Inv-loop : tie.InvT-loop
-Inv-loop text₀ at x rest₀ j₀ text rest j = (j ≤ 8) × (at + 8 ≤ length text₀) × (length text ≡ length text₀)
+Inv-loop text₀ x rest₀ j₀ text rest j = (j ≤ 8) × (8 ≤ length text₀) × (length text ≡ length text₀)
 
 abbrev μ-loop : tie.MeasureT-loop
-μ-loop text₀ at x rest₀ j₀ text rest j = j
+μ-loop text₀ x rest₀ j₀ text rest j = j
 
 loop-holds : tie.Need-loop-holds Inv-loop μ-loop
 loop-holds c = search needs
@@ -20,9 +20,6 @@ sub-j c = search needs
 
 hex-digit-requires : tie.Need-hex-digit-requires Inv-loop μ-loop
 hex-digit-requires c κs = search needs
-
-add-text : tie.Need-add-text Inv-loop μ-loop
-add-text c = search needs
 
 slice-write-text : tie.Need-slice-write-text Inv-loop μ-loop
 slice-write-text c = search needs
@@ -48,7 +45,6 @@ put-word-spec =
     loop-holds
     sub-j
     hex-digit-requires
-    add-text
     slice-write-text
     loop-less
     loop-again

@@ -7,7 +7,7 @@ use Rattle.vectors.proofs.records.read_rest.Statement.{statement}
 use Rattle.vectors.proofs.records.read_rest.Tie as tie
 
 abbrev Inv-loop : tie.InvT-loop
-Inv-loop record₀ left₀ «record» left = (left ≤ 1700) × (length «record» ≡ length record₀)
+Inv-loop record₀ left₀ «record» left = (left ≤ 2100) × (length «record» ≡ length record₀)
 
 abbrev μ-loop : tie.MeasureT-loop
 μ-loop record₀ left₀ «record» left = left
