@@ -61,7 +61,7 @@ fn of_builder(r: builders::Built) -> Numbers {
 }
 
 // The answer of an entry of the disk.
-fn of_disk(r: contents::Answer) -> Numbers {
+fn of_disk(r: contents::Moved) -> Numbers {
     five(r.number as u32, narrow(r.place), narrow(r.bytes), 0, 0)
 }
 
