@@ -4,13 +4,13 @@ use mathlib.Core.List.{List, [], _∷_, _++_, append-assoc}
 use Prim.Native.Nat.{ℕ, zero, suc, _+_, _*_, _<_}
 use native.Mathlib.Decide.{ℕ-discrete}
 use native.Mathlib.Omega.{arith}
-use lib.ListN.{length, length-append, getD, take}
+use lib.ListN.{length, length-append, getD, take, drop}
 use lib.Seq.{getD-append-add, take-at, drop-at}
 use Rattle.bits.specs.Bits.{byteOf, item}
 use Rattle.bits.proofs.Items.{length-listed}
 use Rattle.judge.specs.declared.Instruction.{Instruction}
 use Rattle.judge.specs.Judge.{instructionAt}
-use Rattle.builders.specs.Lists.{instruction, bytesOf, encoded, rounds, decoded, itemsOf, itemAt}
+use Rattle.builders.specs.Lists.{instruction, bytesOf, encoded, rounds, decoded, itemsOf}
 use Rattle.builders.specs.Sums.{bitRound, bitRounds, sumByte, differenceByte, sumList, differenceList, listLength}
 
 pub length-encoded : (l : List Instruction) → length (encoded l) ≡ 8 * length l
@@ -76,12 +76,17 @@ pub length-items : (g : ℕ → ℕ → ℕ) (n : ℕ) → length (itemsOf g n) 
 length-items g n = length-rounds (λ k. item (g k)) 32 n (λ k. length-listed (byteOf (g k)) 32)
 
 -- item k is read back, whatever stands behind the items
-pub items-at : (g : ℕ → ℕ → ℕ) (n k : ℕ) (r : List ℕ) → k < n → itemAt (itemsOf g n ++ r) k ≡ item (g k)
+pub items-at : (g : ℕ → ℕ → ℕ) (n k : ℕ) (r : List ℕ) → k < n → take 32 (drop (32 * k) (itemsOf g n ++ r)) ≡ item (g k)
 unfolding rounds
 items-at g zero k r h = absurd (omega arith)
-items-at g (suc n) k r h = ap (λ (l : List ℕ). itemAt l k) (append-assoc (itemsOf g n) (item (g n)) r) ∙ go (ℕ-discrete k n) (items-at g n k (item (g n) ++ r))
+items-at g (suc n) k r h =
+    ap (λ (l : List ℕ). take 32 (drop (32 * k) l)) (append-assoc (itemsOf g n) (item (g n)) r)
+    ∙ go (ℕ-discrete k n) (items-at g n k (item (g n) ++ r))
   where
-    go : Dec (k ≡ n) → (k < n → itemAt (itemsOf g n ++ (item (g n) ++ r)) k ≡ item (g k)) → itemAt (itemsOf g n ++ (item (g n) ++ r)) k ≡ item (g k)
+    rest : List ℕ
+    rest = itemsOf g n ++ (item (g n) ++ r)
+
+    go : Dec (k ≡ n) → (k < n → take 32 (drop (32 * k) rest) ≡ item (g k)) → take 32 (drop (32 * k) rest) ≡ item (g k)
     go (yes e) ih =
         ap (take 32) (drop-at (itemsOf g n) (item (g n) ++ r) (32 * k) (length-items g n ∙ ap (λ (z : ℕ). 32 * z) (sym e)))
         ∙ take-at (item (g n)) r 32 (length-listed (byteOf (g n)) 32)

@@ -1,7 +1,6 @@
 -- Lists of instructions and of items as bytes, and the instructions that lists on fields are made of. Document 01, Instructions.
 use mathlib.Core.List.{List, [], _∷_, _++_}
-use Prim.Native.Nat.{ℕ, zero, suc, _*_}
-use lib.ListN.{take, drop}
+use Prim.Native.Nat.{ℕ, zero, suc}
 use Rattle.bits.specs.Bits.{item}
 use Rattle.judge.specs.declared.Instruction.{Instruction}
 use Rattle.judge.specs.Judge.{instructionAt}
@@ -48,7 +47,3 @@ decoded l (suc n) = decoded l n ++ (instructionAt l n ∷ [])
 -- Items 0 to n - 1 one behind the other, where item k has g k p at line p.
 abbrev pub itemsOf : (ℕ → ℕ → ℕ) → ℕ → List ℕ
 itemsOf g = rounds (λ k. item (g k))
-
--- Item k of a buffer.
-abbrev pub itemAt : List ℕ → ℕ → List ℕ
-itemAt l k = take 32 (drop (32 * k) l)

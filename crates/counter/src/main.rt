@@ -5,15 +5,6 @@ use libc::STDOUT_FILENO;
 ghost use mathlib.Core.Path.{_≡_};
 ghost use lib.ListN.{length};
 
-// A buffer with something on every line.
-fn fill(buffer: &mut [u8]) {
-    let mut i: usize = 0;
-    while i < buffer.len() {
-        buffer[i] = (i % 251) as u8;
-        i += 1;
-    }
-}
-
 // One call of the memory, and the item after it.
 fn access<'a>(
     mem: &mut [u8],
@@ -43,14 +34,13 @@ fn show(item: &[u8; 32]) {
 
 fn main() {
     let mut steps = [0u8; 3072];
-    let mut mem = [0u8; 8192];
-    let mut item = [165u8; 32];
-    let mask = [90u8; 32];
+    let mut mem = [165u8; 8192];
+    let mut item = [90u8; 32];
+    let mask = [60u8; 32];
     let got = io::read_full(STDIN_FILENO, &mut steps);
     if got == 0 {
         return;
     }
-    fill(&mut mem);
     let mut at: usize = 0;
     while at + 3 <= got {
         item = access(

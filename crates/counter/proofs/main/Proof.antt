@@ -21,12 +21,6 @@ read-full-requires c κs = search needs
 returns : tie.Need-returns Inv-loop μ-loop
 returns c = search needs
 
-slice-aggregate-fill : tie.Need-slice-aggregate-fill Inv-loop μ-loop
-slice-aggregate-fill c = search needs
-
-fill-requires : tie.Need-fill-requires Inv-loop μ-loop
-fill-requires c κs = search needs
-
 loop-holds : tie.Need-loop-holds Inv-loop μ-loop
 loop-holds c = search needs
 
@@ -84,8 +78,6 @@ main-spec =
     slice-aggregate-read-full
     read-full-requires
     returns
-    slice-aggregate-fill
-    fill-requires
     loop-holds
     add-loop
     slice-aggregate-access
