@@ -22,7 +22,9 @@ GoodBelow kind bytes count n = (j : ℕ) → j < n → fault (blockAt bytes j) k
 
 -- The kind and the length are right, block k is there, those before it are good at their places, and the row holds of it.
 abbrev pub MetBlock : ℕ → List ℕ → ℕ → (List ℕ → Type 0) → Type 0
-MetBlock kind bytes k row = Asked kind bytes × (k < length bytes / blockBytes) × GoodBelow kind bytes (length bytes / blockBytes) k × row (blockAt bytes k)
+MetBlock kind bytes k row =
+    Asked kind bytes × (k < length bytes / blockBytes) × GoodBelow kind bytes (length bytes / blockBytes) k
+    × row (blockAt bytes k)
 
 -- The kind and the length are right, and every block is good at its place.
 abbrev pub Sound : ℕ → List ℕ → Type 0

@@ -1,4 +1,5 @@
--- A picture: the words of the memory in plain order, and the registers; what reading and writing one leaves. Document 01, Blocks on disk: "A picture is the 256 words in plain order, 32 bytes each, then M, X, Y."
+-- A picture: the words of the memory in plain order, and the registers; what reading and writing one leaves. Document 01,
+-- Blocks on disk: "A picture is the 256 words in plain order, 32 bytes each, then M, X, Y."
 use mathlib.Core.Bool.{Bool, _&&_}
 use mathlib.Core.List.{List, _++_}
 use Prim.Native.Nat.{ℕ}

@@ -45,16 +45,19 @@ DifferenceList a b s n list list′ r = _≡_ {A = Buffer} (record { answer = r;
 
 -- `contents::read_content`
 abbrev pub ReadContent : (kind : ℕ) (bytes target target′ : List ℕ) → Moved → Type 0
-ReadContent kind bytes target target′ r = _≡_ {A = ContentLeft} (record { answer = r; buffer = target′ }) (contentRead kind bytes target)
+ReadContent kind bytes target target′ r =
+    _≡_ {A = ContentLeft} (record { answer = r; buffer = target′ }) (contentRead kind bytes target)
 
 -- `contents::write_content`
 abbrev pub WriteContent : (kind : ℕ) (content out out′ : List ℕ) → Moved → Type 0
-WriteContent kind content out out′ r = _≡_ {A = ContentLeft} (record { answer = r; buffer = out′ }) (contentWritten kind content out)
+WriteContent kind content out out′ r =
+    _≡_ {A = ContentLeft} (record { answer = r; buffer = out′ }) (contentWritten kind content out)
 
 -- `pictures::read_picture`
 abbrev pub ReadPicture : (kind : ℕ) (bytes memory registers memory′ registers′ : List ℕ) → Moved → Type 0
 ReadPicture kind bytes memory registers memory′ registers′ r =
-    _≡_ {A = PictureLeft} (record { answer = r; memory = memory′; registers = registers′ }) (pictureRead kind bytes memory registers)
+    _≡_ {A = PictureLeft} (record { answer = r; memory = memory′; registers = registers′ })
+    (pictureRead kind bytes memory registers)
 
 -- `pictures::write_picture`
 abbrev pub WritePicture : (kind : ℕ) (memory registers out out′ : List ℕ) → Moved → Type 0

@@ -126,17 +126,22 @@ pub record Runs (l : Lent (List ℕ)) : Type 0 where
 
 -- "Pictures, lists and items come back from disk as they were written", and a file that is read and written again is the same bytes.
 pub record Returns : Type 0 where
-  pub content : (kind : ℕ) (content out target : List ℕ) → contentWritten kind content out .answer .number ≡ 0 → length content ≤ length target
+  pub content : (kind : ℕ) (content out target : List ℕ)
+      → contentWritten kind content out .answer .number ≡ 0 → length content ≤ length target
       → (let w = contentWritten kind content out in
-      contentRead kind (take (w .answer .bytes) (w .buffer)) target ≡ record { answer = put (length content); buffer = over content target })
+      contentRead kind (take (w .answer .bytes) (w .buffer)) target
+      ≡ record { answer = put (length content); buffer = over content target })
   pub contentAgain : (kind : ℕ) (bytes target out : List ℕ) → ((k : ℕ) → at bytes k < 256)
       → contentRead kind bytes target .answer .number ≡ 0 → length bytes ≤ length out
       → (let r = contentRead kind bytes target in
-      contentWritten kind (take (r .answer .bytes) (r .buffer)) out ≡ record { answer = put (length bytes); buffer = over bytes out })
+      contentWritten kind (take (r .answer .bytes) (r .buffer)) out
+      ≡ record { answer = put (length bytes); buffer = over bytes out })
   pub picture : (kind : ℕ) (memory registers out memory′ registers′ : List ℕ) → ((k : ℕ) → at memory k < 256)
-      → pictureWritten kind memory registers out .answer .number ≡ 0 → length memory′ ≡ pictureWords → length registers′ ≡ pictureRegisters
+      → pictureWritten kind memory registers out .answer .number ≡ 0
+      → length memory′ ≡ pictureWords → length registers′ ≡ pictureRegisters
       → (let w = pictureWritten kind memory registers out in
-      pictureRead pictureKind (take (w .answer .bytes) (w .buffer)) memory′ registers′ ≡ record { answer = put pictureBytes; memory = memory; registers = registers })
+      pictureRead pictureKind (take (w .answer .bytes) (w .buffer)) memory′ registers′
+      ≡ record { answer = put pictureBytes; memory = memory; registers = registers })
   pub pictureAgain : (kind : ℕ) (bytes memory registers out : List ℕ) → ((k : ℕ) → at bytes k < 256)
       → pictureRead kind bytes memory registers .answer .number ≡ 0 → length bytes ≤ length out
       → (let r = pictureRead kind bytes memory registers in

@@ -1,4 +1,6 @@
--- The memory's words in plain order, and the scrambled memory that has given words. Document 01, Blocks on disk: "the 256 words in plain order, 32 bytes each". By storage both are one rule, its own inverse: bit B of row R in the one order is bit B of row B xor R in the other, where a row is a word or a chip.
+-- The memory's words in plain order, and the scrambled memory that has given words. Document 01, Blocks on disk: "the 256
+-- words in plain order, 32 bytes each". By storage both are one rule, its own inverse: bit B of row R in the one order is bit B
+-- of row B xor R in the other, where a row is a word or a chip.
 use mathlib.Core.List.{List}
 use Prim.Native.Nat.{ℕ, _+_, _*_, _/_, _%_}
 use Rattle.bits.specs.Bits.{bitOf, pack}

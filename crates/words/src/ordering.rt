@@ -1,4 +1,5 @@
-// Eight neighbouring words in plain order and in the chips. Bit B of word W is location B of chip B xor W: mode 255 reads the same byte of each chip for the words 8v to 8v+7, and those 256 bytes hold the eight words turned.
+// Eight neighbouring words in plain order and in the chips. Bit B of word W is location B of chip B xor W: mode 255 reads the
+// same byte of each chip for the words 8v to 8v+7, and those 256 bytes hold the eight words turned.
 use bits::lanes::keep_lane;
 ghost use mathlib.Core.Path.{_≡_};
 ghost use Prim.Native.Nat.{_+_, _*_, _/_, _%_, _<_};
@@ -63,7 +64,8 @@ fn put_chip(chip: &mut [u8], at: usize, byte: u8)
 // Byte i of the eight chips of group k: chip t takes what stands at 32t + i.
 fn put_group<'a>(mem: &mut [u8], k: usize, i: usize, bytes: &'a [u8])
     requires { ⌜ (length (now mem) ≡ 8192) × (k < 32) × (i < 32) × (length (now bytes) ≡ 256) ⌝ }
-    ensures { λ _. ⌜ now (mem .exit) ≡ written (λ t. 32 * (8 * k + t) + i) (λ t o. getD (now (bytes .entry)) (32 * t + i) 0) (now (mem .entry)) 8 ⌝ }
+    ensures { λ _. ⌜ now (mem .exit)
+        ≡ written (λ t. 32 * (8 * k + t) + i) (λ t o. getD (now (bytes .entry)) (32 * t + i) 0) (now (mem .entry)) 8 ⌝ }
 {
     let mut t: usize = 0;
     while t < 8 {
@@ -76,7 +78,8 @@ fn put_group<'a>(mem: &mut [u8], k: usize, i: usize, bytes: &'a [u8])
 // One byte of all 256 chips, eight at a time: the byte at which mode 255 reads them for the words 8v to 8v+7.
 pub fn put_all<'a>(mem: &mut [u8], v: usize, bytes: &'a [u8])
     requires { ⌜ (length (now mem) ≡ 8192) × (v < 32) × (length (now bytes) ≡ 256) ⌝ }
-    ensures { λ _. ⌜ now (mem .exit) ≡ written (λ n. 32 * (8 * bitXor v (n / 8) + n % 8) + n / 8) (λ n o. getD (now (bytes .entry)) (32 * (n % 8) + n / 8) 0) (now (mem .entry)) 256 ⌝ }
+    ensures { λ _. ⌜ now (mem .exit) ≡ written (λ n. 32 * (8 * bitXor v (n / 8) + n % 8) + n / 8)
+        (λ n o. getD (now (bytes .entry)) (32 * (n % 8) + n / 8) 0) (now (mem .entry)) 256 ⌝ }
 {
     let mut i: usize = 0;
     while i < 32 {
