@@ -10,6 +10,7 @@ use Rattle.network.specs.Shifts.{permitted}
 use Rattle.judge.specs.declared.Instruction.{Instruction}
 use Rattle.judge.specs.declared.Lengths.{Lengths}
 use Rattle.judge.specs.declared.Answer.{Answer}
+use Rattle.judge.specs.Kinds.{memoryBytes, registerBytes, mostBytes, logic, setM, store, maskedStore, deliver, resolve, inMemory, outside}
 
 -- ---- instructions
 
@@ -29,40 +30,40 @@ instructionAt l k =
 
 -- Kinds 2 and 3 store.
 abbrev pub stores : Instruction → Bool
-stores i = eqb (i .kind) 2 || eqb (i .kind) 3
+stores i = eqb (i .kind) store || eqb (i .kind) maskedStore
 
 -- "Kinds 0, 1 and 4 with source 0, and kinds 2 and 3 always, touch memory."
 abbrev pub touches : Instruction → Bool
-touches i = stores i || (eqb (i .source) 0 && (eqb (i .kind) 0 || eqb (i .kind) 1 || eqb (i .kind) 4))
+touches i = stores i || (eqb (i .source) inMemory && (eqb (i .kind) logic || eqb (i .kind) setM || eqb (i .kind) deliver))
 
 -- "Outside: each use takes the next 32 bytes of the lent items."
 abbrev pub takes : Instruction → Bool
-takes i = eqb (i .source) 4
+takes i = eqb (i .source) outside
 
 -- Deliver and resolve put 32 bytes out.
 abbrev pub gives : Instruction → Bool
-gives i = eqb (i .kind) 4 || eqb (i .kind) 5
+gives i = eqb (i .kind) deliver || eqb (i .kind) resolve
 
 -- ---- the table's rows
 
 -- "1 / 2: memory is not 8,192 bytes / registers not 96."
 abbrev pub wrongMemory : ℕ → Bool
-wrongMemory n = not (eqb n 8192)
+wrongMemory n = not (eqb n memoryBytes)
 
 abbrev pub wrongRegisters : ℕ → Bool
-wrongRegisters n = not (eqb n 96)
+wrongRegisters n = not (eqb n registerBytes)
 
 -- "3: list not a multiple of 8, or over 32,768 bytes. 4: items not a multiple of 32, or over 32,768 bytes."
 abbrev pub unfit : ℕ → ℕ → Bool
-unfit unit n = not (eqb (n % unit) 0) || ltb 32768 n
+unfit unit n = not (eqb (n % unit) 0) || ltb mostBytes n
 
 -- "5: kind over 5."
 unfoldable pub wrongKind : Instruction → Bool
-wrongKind i = ltb 5 (i .kind)
+wrongKind i = ltb resolve (i .kind)
 
 -- "6: source over 4; 0 for kinds 2, 3; not 0 for kind 5."
 unfoldable pub wrongSource : Instruction → Bool
-wrongSource i = ltb 4 (i .source) || (stores i && eqb (i .source) 0) || (eqb (i .kind) 5 && not (eqb (i .source) 0))
+wrongSource i = ltb outside (i .source) || (stores i && eqb (i .source) inMemory) || (eqb (i .kind) resolve && not (eqb (i .source) 0))
 
 -- "7 / 8: memory touched and tag 0 / memory touched and tag over 1."
 unfoldable pub lacksTag : Instruction → Bool
@@ -78,11 +79,11 @@ idleAccess i = not (touches i) && (not (eqb (i .tag) 0) || not (eqb (i .mode) 0)
 -- "10: byte 6 is none of the 37; not 0 for kinds 2, 3; byte 5 or 6 not 0 for kind 5."
 unfoldable pub wrongPass : Instruction → Bool
 wrongPass i =
-    not (permitted (i .code)) || (stores i && not (eqb (i .code) 0)) || (eqb (i .kind) 5 && (not (eqb (i .flip) 0) || not (eqb (i .code) 0)))
+    not (permitted (i .code)) || (stores i && not (eqb (i .code) 0)) || (eqb (i .kind) resolve && (not (eqb (i .flip) 0) || not (eqb (i .code) 0)))
 
 -- "11: kind 0: choice over 4; other kinds: byte 7 not 0."
 unfoldable pub wrongLogic : Instruction → Bool
-wrongLogic i = (eqb (i .kind) 0 && ltb 4 (i .logic / 16)) || (not (eqb (i .kind) 0) && not (eqb (i .logic) 0))
+wrongLogic i = (eqb (i .kind) logic && ltb 4 (i .logic / 16)) || (not (eqb (i .kind) logic) && not (eqb (i .logic) 0))
 
 -- "12 / 13: items too few / out buffer too short": instruction k uses an item, or room, and fewer than 32 of the bytes that there are were left by those before it, which used 32 each.
 abbrev pub lacks : (Instruction → Bool) → List ℕ → ℕ → ℕ → Bool

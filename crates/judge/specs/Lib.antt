@@ -1,4 +1,5 @@
 -- Instructions and the judge: what the contracts of this crate and of those above it cite.
+pub mod Kinds
 pub mod Judge
 pub mod Numbers
 pub mod Steps

@@ -9,6 +9,7 @@ use Rattle.bits.specs.Search.{first, count}
 use Rattle.judge.specs.declared.Instruction.{Instruction}
 use Rattle.judge.specs.declared.Lengths.{Lengths}
 use Rattle.judge.specs.declared.Tally.{Tally}
+use Rattle.judge.specs.Kinds.{memoryBytes, mostBytes}
 use Rattle.judge.specs.Judge.{instructionAt, takes, gives, wrongKind, wrongSource, lacksTag, wrongTag, idleAccess, faultOf, faulty}
 
 -- Bytes 2, 3 and 4 are 0, as row 9 asks where memory is not touched.
@@ -31,9 +32,9 @@ tallyOf list =
 
 -- What holds where the judge says done, of a run and of a step: no instruction has a number, and each finds its item and its room (proofs/Accepted.antt).
 pub record Accepted (l : Lengths) (list : List ℕ) : Type 0 where
-  pub memory : l .memory ≡ 8192
+  pub memory : l .memory ≡ memoryBytes
   pub whole : length list % 8 ≡ 0
-  pub size : length list ≤ 32768
+  pub size : length list ≤ mostBytes
   pub formed : (k : ℕ) → k < length list / 8 → faultOf (instructionAt list k) ≡ 0
   pub supplied : (k : ℕ) → k < length list / 8 → takes (instructionAt list k) ≡ true
       → 32 * count (λ j. takes (instructionAt list j)) k + 32 ≤ l .items

@@ -1,5 +1,11 @@
 // Has an instruction none of the numbers 5 to 11? Its bytes are read in the list, kind by kind, and the first that is wrong answers: every instruction of a
 // list that stands is asked this, and `rows::fault` makes the number of the one that is refused.
+use crate::kinds::LOGIC;
+use crate::kinds::MASKED_STORE;
+use crate::kinds::MEMORY;
+use crate::kinds::OUTSIDE;
+use crate::kinds::RESOLVE;
+use crate::kinds::STORE;
 ghost use mathlib.Core.Path.{_≡_};
 ghost use mathlib.Core.Bool.{true, false, not};
 ghost use Prim.Native.Nat.{_+_, _*_, _≤_};
@@ -26,10 +32,10 @@ fn source_fits(list: &[u8], k: usize) -> bool
 {
     let at = 8 * k;
     let source = list[at + 1];
-    if source == 0 {
+    if source == MEMORY {
         return list[at + 2] == 1;
     }
-    !(source > 4) & idle(list, k)
+    !(source > OUTSIDE) & idle(list, k)
 }
 
 // Rows 5 to 9 for kinds 2 and 3: a source that is not memory, and a mode given.
@@ -40,7 +46,7 @@ fn store_fits(list: &[u8], k: usize) -> bool
 {
     let at = 8 * k;
     let source = list[at + 1];
-    !(source == 0) & !(source > 4) & (list[at + 2] == 1)
+    !(source == MEMORY) & !(source > OUTSIDE) & (list[at + 2] == 1)
 }
 
 // Rows 5 to 9 for kind 5: no source and no mode.
@@ -60,13 +66,13 @@ fn pass_fits(list: &[u8], k: usize) -> bool
     let at = 8 * k;
     let kind = list[at];
     let code = list[at + 6];
-    if kind == 5 {
+    if kind == RESOLVE {
         return (code == 0) & (list[at + 5] == 0);
     }
     if code == 0 {
         return true;
     }
-    if (kind == 2) | (kind == 3) {
+    if (kind == STORE) | (kind == MASKED_STORE) {
         return false;
     }
     network::codes::is_code(code)
@@ -82,7 +88,7 @@ pub fn formed(list: &[u8], k: usize) -> bool
     if !pass_fits(list, k) {
         return false;
     }
-    if kind == 0 {
+    if kind == LOGIC {
         if list[at + 7] / 16 > 4 {
             return false;
         }
@@ -91,13 +97,13 @@ pub fn formed(list: &[u8], k: usize) -> bool
     if list[at + 7] != 0 {
         return false;
     }
-    if (kind == 2) | (kind == 3) {
+    if (kind == STORE) | (kind == MASKED_STORE) {
         return store_fits(list, k);
     }
-    if kind == 5 {
+    if kind == RESOLVE {
         return resolve_fits(list, k);
     }
-    if kind > 5 {
+    if kind > RESOLVE {
         return false;
     }
     source_fits(list, k)

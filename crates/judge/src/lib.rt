@@ -1,5 +1,6 @@
 // The judge: the number that a run gives back, with its place and its counts, from the lengths and the list alone. Document 01, Numbers given back.
 mod forms;
+pub mod kinds;
 pub mod rows;
 pub mod searches;
 
@@ -8,7 +9,15 @@ ghost use mathlib.Core.Path.{_≡_};
 ghost use Prim.Native.Nat.{_+_, _*_, _<_, _≤_};
 ghost use lib.ListN.{length};
 ghost use Rattle.bits.specs.Rows.{numberOf};
+ghost use Rattle.judge.specs.Kinds.{mostBytes};
 ghost use Rattle.judge.specs.Judge.{instructionAt, unfit, runRows, stepRows, refusal, orElse, judgedList, judged, judgedStep};
+
+// The lengths that stand: of the memory, of the registers, and the most that a list or items may have.
+pub const MEMORY_BYTES: usize = 8192;
+
+pub const REGISTER_BYTES: usize = 96;
+
+pub const MOST_BYTES: usize = 32768;
 
 // An instruction, its eight bytes in order.
 pub struct Instruction {
@@ -69,7 +78,7 @@ fn unfit(unit: usize, size: usize) -> bool
     requires { ⌜ 0 < unit ⌝ }
     ensures { λ r. ⌜ r ≡ unfit unit size ⌝ }
 {
-    !(size % unit == 0) | (size > 32768)
+    !(size % unit == 0) | (size > MOST_BYTES)
 }
 
 // The number of what a run is lent, 1 to 4: 0 where nothing is wrong.
@@ -78,8 +87,8 @@ fn run_fault(l: Lengths, list: &[u8]) -> u8
 {
     let from4 = number_or(unfit(32, l.items), 4, 0);
     let from3 = number_or(unfit(8, list.len()), 3, from4);
-    let from2 = number_or(!(l.registers == 96), 2, from3);
-    number_or(!(l.memory == 8192), 1, from2)
+    let from2 = number_or(!(l.registers == REGISTER_BYTES), 2, from3);
+    number_or(!(l.memory == MEMORY_BYTES), 1, from2)
 }
 
 // The number of what a step is lent.
@@ -88,7 +97,7 @@ fn step_fault(l: Lengths, instruction: &[u8]) -> u8
 {
     let from4 = number_or(unfit(32, l.items), 4, 0);
     let from3 = number_or(!(instruction.len() == 8), 3, from4);
-    number_or(!(l.memory == 8192), 1, from3)
+    number_or(!(l.memory == MEMORY_BYTES), 1, from3)
 }
 
 fn refused(number: u8, place: usize) -> Answer
@@ -106,7 +115,7 @@ fn refused(number: u8, place: usize) -> Answer
 // Each instruction in turn, 5 to 11; then 12; then 13. A list that stands is walked once: what all of it takes and gives is there exactly if each instruction
 // finds its own, so that only a list that lacks some is searched for the instruction.
 fn judge_list(l: Lengths, list: &[u8]) -> Answer
-    requires { ⌜ length (now list) ≤ 32768 ⌝ }
+    requires { ⌜ length (now list) ≤ mostBytes ⌝ }
     ensures { λ r. ⌜ r ≡ judgedList l (now (list .entry)) ⌝ }
 {
     let n = list.len() / 8;
@@ -132,7 +141,7 @@ fn judge_list(l: Lengths, list: &[u8]) -> Answer
 
 // What is lent first, whose number is `wrong`; then the list.
 fn judge_by(wrong: u8, l: Lengths, list: &[u8]) -> Answer
-    requires { ⌜ (wrong ≡ 0 → length (now list) ≤ 32768) ⌝ }
+    requires { ⌜ (wrong ≡ 0 → length (now list) ≤ mostBytes) ⌝ }
     ensures { λ r. ⌜ r ≡ orElse (refusal wrong 0) (judgedList l (now (list .entry))) ⌝ }
 {
     if wrong != 0 {

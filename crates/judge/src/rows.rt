@@ -1,5 +1,13 @@
 // The rows of the table that look at one instruction, 5 to 11, each as the document words it.
 use crate::Instruction;
+use crate::kinds::DELIVER;
+use crate::kinds::LOGIC;
+use crate::kinds::MASKED_STORE;
+use crate::kinds::MEMORY;
+use crate::kinds::OUTSIDE;
+use crate::kinds::RESOLVE;
+use crate::kinds::SET_M;
+use crate::kinds::STORE;
 use bits::choices::number_or;
 ghost use mathlib.Core.Path.{_≡_};
 ghost use Rattle.judge.specs.Judge.{stores, touches, wrongKind, wrongSource, lacksTag, wrongTag, idleAccess, wrongPass, wrongLogic, faultOf, takes, gives};
@@ -7,28 +15,31 @@ ghost use Rattle.judge.specs.Judge.{stores, touches, wrongKind, wrongSou
 fn stores(i: Instruction) -> bool
     ensures { λ r. ⌜ r ≡ stores i ⌝ }
 {
-    (i.kind == 2) | (i.kind == 3)
+    (i.kind == STORE) | (i.kind == MASKED_STORE)
 }
 
 // Does it touch memory?
 fn touches(i: Instruction) -> bool
     ensures { λ r. ⌜ r ≡ touches i ⌝ }
 {
-    stores(i) | ((i.source == 0) & ((i.kind == 0) | (i.kind == 1) | (i.kind == 4)))
+    stores(i)
+        | ((i.source == MEMORY) & ((i.kind == LOGIC) | (i.kind == SET_M) | (i.kind == DELIVER)))
 }
 
 // 5
 fn wrong_kind(i: Instruction) -> bool
     ensures { λ r. ⌜ r ≡ wrongKind i ⌝ }
 {
-    i.kind > 5
+    i.kind > RESOLVE
 }
 
 // 6
 fn wrong_source(i: Instruction) -> bool
     ensures { λ r. ⌜ r ≡ wrongSource i ⌝ }
 {
-    (i.source > 4) | (stores(i) & (i.source == 0)) | ((i.kind == 5) & !(i.source == 0))
+    (i.source > OUTSIDE)
+        | (stores(i) & (i.source == MEMORY))
+        | ((i.kind == RESOLVE) & !(i.source == 0))
 }
 
 // 7
@@ -58,14 +69,14 @@ fn wrong_pass(i: Instruction) -> bool
 {
     !network::codes::is_code(i.code)
         | (stores(i) & !(i.code == 0))
-        | ((i.kind == 5) & (!(i.flip == 0) | !(i.code == 0)))
+        | ((i.kind == RESOLVE) & (!(i.flip == 0) | !(i.code == 0)))
 }
 
 // 11
 fn wrong_logic(i: Instruction) -> bool
     ensures { λ r. ⌜ r ≡ wrongLogic i ⌝ }
 {
-    ((i.kind == 0) & (i.logic / 16 > 4)) | (!(i.kind == 0) & !(i.logic == 0))
+    ((i.kind == LOGIC) & (i.logic / 16 > 4)) | (!(i.kind == LOGIC) & !(i.logic == 0))
 }
 
 // The number of an instruction, 5 to 11: 0 where it has none.
@@ -85,12 +96,12 @@ pub fn fault(i: Instruction) -> u8
 pub fn takes(i: Instruction) -> bool
     ensures { λ r. ⌜ r ≡ takes i ⌝ }
 {
-    i.source == 4
+    i.source == OUTSIDE
 }
 
 // Does it give one?
 pub fn gives(i: Instruction) -> bool
     ensures { λ r. ⌜ r ≡ gives i ⌝ }
 {
-    (i.kind == 4) | (i.kind == 5)
+    (i.kind == DELIVER) | (i.kind == RESOLVE)
 }

@@ -9,6 +9,7 @@ ghost use mathlib.Core.Path.{_≡_};
 ghost use Prim.Native.Nat.{_/_, _≤_};
 ghost use lib.ListN.{length};
 ghost use Rattle.bits.specs.Search.{first};
+ghost use Rattle.judge.specs.Kinds.{mostBytes};
 ghost use Rattle.judge.specs.Judge.{lacks, uses};
 ghost use Rattle.judge.specs.Steps.{tallyOf};
 
@@ -49,7 +50,7 @@ fn uses(room: bool, i: Instruction) -> bool
 
 // The first instruction that lacks its room, or its item, in a buffer of `have` bytes, or how many there are.
 pub fn shortage(room: bool, list: &[u8], have: usize) -> usize
-    requires { ⌜ length (now list) ≤ 32768 ⌝ }
+    requires { ⌜ length (now list) ≤ mostBytes ⌝ }
     ensures { λ r. ⌜ r ≡ first (lacks (uses room) (now (list .entry)) have) 0 (length (now (list .entry)) / 8) ⌝ }
 {
     let n = list.len() / 8;

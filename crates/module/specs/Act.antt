@@ -13,6 +13,7 @@ use Rattle.registers.specs.Rows.{withM}
 use Rattle.registers.specs.Logic.{logicOf}
 use Rattle.registers.specs.Resolver.{resolved}
 use Rattle.judge.specs.declared.Instruction.{Instruction}
+use Rattle.judge.specs.Kinds.{logic, setM, store, maskedStore, deliver, resolve}
 use Rattle.judge.specs.Judge.{takes, gives}
 
 -- ---- parts of a buffer
@@ -55,19 +56,19 @@ passedBy i mem items r taken = passedItem (sourceItem i mem items r taken) (i .f
 
 -- The registers: kind 0 is logic, kind 1 sets M.
 unfoldable pub regsAfter : Instruction → Registers → List ℕ → Registers
-regsAfter i r f = cond (eqb (i .kind) 0) (logicOf r f (i .logic)) (cond (eqb (i .kind) 1) (withM r f) r)
+regsAfter i r f = cond (eqb (i .kind) logic) (logicOf r f (i .logic)) (cond (eqb (i .kind) setM) (withM r f) r)
 
 -- The memory, under a mode: kind 2 stores at all lines, kind 3 at those that the mask rule gives for M and the flip.
 unfoldable pub memAfter : Instruction → ℕ → List ℕ → List ℕ → List ℕ → List ℕ
 memAfter i mode mem m f =
-    cond (eqb (i .kind) 2) (stored mem mode (i .addr) every (bitOf f))
-    (cond (eqb (i .kind) 3) (stored mem mode (i .addr) (maskOf m (i .flip)) (bitOf f)) mem)
+    cond (eqb (i .kind) store) (stored mem mode (i .addr) every (bitOf f))
+    (cond (eqb (i .kind) maskedStore) (stored mem mode (i .addr) (maskOf m (i .flip)) (bitOf f)) mem)
 
 -- The out buffer: kind 4 puts the item out, kind 5 what the resolver says of Y.
 unfoldable pub outAfter : Instruction → List ℕ → ℕ → List ℕ → List ℕ → List ℕ
 outAfter i out given f y =
-    cond (eqb (i .kind) 4) (putPart out given f)
-    (cond (eqb (i .kind) 5) (putPart out given (resolved (bitOf y))) out)
+    cond (eqb (i .kind) deliver) (putPart out given f)
+    (cond (eqb (i .kind) resolve) (putPart out given (resolved (bitOf y))) out)
 
 -- ---- an instruction
 

@@ -5,10 +5,11 @@ use mathlib.Core.List.{List}
 use Prim.Native.Nat.{ℕ, _+_, _*_, _≤_}
 use lib.ListN.{length}
 use Rattle.judge.specs.declared.Instruction.{Instruction}
+use Rattle.judge.specs.Kinds.{memoryBytes}
 use Rattle.judge.specs.Judge.{faultOf, takes, gives}
 
 pub record Ready (mem items out : List ℕ) (i : Instruction) (taken given : ℕ) : Type 0 where
-  pub memory : length mem ≡ 8192
+  pub memory : length mem ≡ memoryBytes
   pub formed : faultOf i ≡ 0
   pub supplied : takes i ≡ true → 32 * taken + 32 ≤ length items
   pub roomy : gives i ≡ true → 32 * given + 32 ≤ length out

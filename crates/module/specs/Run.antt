@@ -8,6 +8,7 @@ use Rattle.registers.specs.declared.Registers.{Registers}
 use Rattle.registers.specs.Rows.{registersOf, bytesOf}
 use Rattle.judge.specs.declared.Lengths.{Lengths}
 use Rattle.judge.specs.declared.Answer.{Answer}
+use Rattle.judge.specs.Kinds.{registerBytes}
 use Rattle.judge.specs.Judge.{instructionAt, judged, judgedStep}
 use Rattle.module.specs.Act.{State, acted}
 
@@ -37,7 +38,7 @@ abbrev pub runLengths : Lent (List ℕ) → Lengths
 runLengths l = record { memory = length (l .memory); registers = length (l .registers); items = length (l .items); out = length (l .out) }
 
 abbrev pub stepLengths : Lent Registers → Lengths
-stepLengths l = record { memory = length (l .memory); registers = 96; items = length (l .items); out = length (l .out) }
+stepLengths l = record { memory = length (l .memory); registers = registerBytes; items = length (l .items); out = length (l .out) }
 
 -- ---- the instructions, one after the other
 

@@ -2,6 +2,15 @@
 use bits::choices::one_if;
 use bits::copies::copy;
 use judge::Instruction;
+use judge::kinds::DELIVER;
+use judge::kinds::LOGIC;
+use judge::kinds::M;
+use judge::kinds::MASKED_STORE;
+use judge::kinds::MEMORY;
+use judge::kinds::RESOLVE;
+use judge::kinds::SET_M;
+use judge::kinds::STORE;
+use judge::kinds::X;
 use registers::Registers;
 ghost use mathlib.Core.Path.{_≡_};
 ghost use mathlib.Core.Bool.{true, cond};
@@ -11,6 +20,7 @@ ghost use lib.ListN.{length};
 ghost use Rattle.bits.specs.Bits.{bitOf};
 ghost use Rattle.network.specs.Shifts.{permitted};
 ghost use Rattle.registers.specs.Resolver.{resolved};
+ghost use Rattle.judge.specs.Kinds.{memoryBytes, deliver};
 ghost use Rattle.judge.specs.Judge.{gives, takes};
 ghost use Rattle.module.specs.Act.{modeOf, heldItem, passedBy, regsAfter, memAfter, outAfter, acted};
 ghost use Rattle.module.specs.Ready.{Ready};
@@ -31,17 +41,17 @@ fn mode_of(i: Instruction, r: Registers) -> u8
 
 // The item that the module itself holds: of memory, M, X or Y.
 fn held_item(mem: &[u8], r: Registers, i: Instruction) -> [u8; 32]
-    requires { ⌜ (length (now mem) ≡ 8192) × (i .source < 4) ⌝ }
+    requires { ⌜ (length (now mem) ≡ memoryBytes) × (i .source < 4) ⌝ }
     ensures { λ f. ⌜ f ≡ heldItem i (now (mem .entry)) r ⌝ }
 {
-    if i.source == 0 {
+    if i.source == MEMORY {
         return memory::load(mem, mode_of(i, r), i.addr);
     }
-    if i.source == 1 {
+    if i.source == M {
         let m = r.m;
         return m;
     }
-    if i.source == 2 {
+    if i.source == X {
         let x = r.x;
         return x;
     }
@@ -51,10 +61,10 @@ fn held_item(mem: &[u8], r: Registers, i: Instruction) -> [u8; 32]
 
 // The source item, passed. An outside item is handed to the pass as the part of the lent items that it is; a resolve reads no source. Most instructions move no line: a call of the pass would cost them more than the copy.
 fn passed_item(mem: &[u8], r: Registers, i: Instruction, items: &[u8], taken: usize) -> [u8; 32]
-    requires { ⌜ (length (now mem) ≡ 8192) × (i .source ≤ 4) × (permitted (i .code) ≡ true) × (takes i ≡ true → 32 * taken + 32 ≤ length (now items)) ⌝ }
+    requires { ⌜ (length (now mem) ≡ memoryBytes) × (i .source ≤ 4) × (permitted (i .code) ≡ true) × (takes i ≡ true → 32 * taken + 32 ≤ length (now items)) ⌝ }
     ensures { λ f. ⌜ ((i .kind ≡ 5 → ⊥) → f ≡ passedBy i (now (mem .entry)) (now (items .entry)) r taken) ⌝ }
 {
-    if i.kind == 5 {
+    if i.kind == RESOLVE {
         return [0u8; 32];
     }
     if judge::rows::takes(i) {
@@ -72,10 +82,10 @@ fn turn(i: Instruction, r: Registers, f: &[u8; 32]) -> Registers
     requires { ⌜ (i .kind ≡ 0 → i .logic < 80) ⌝ }
     ensures { λ s. ⌜ s ≡ regsAfter i r (now (f .entry)) ⌝ }
 {
-    if i.kind == 0 {
+    if i.kind == LOGIC {
         return registers::logic(r, f, i.logic);
     }
-    if i.kind == 1 {
+    if i.kind == SET_M {
         return registers::set_m(r, f);
     }
     r
@@ -83,14 +93,14 @@ fn turn(i: Instruction, r: Registers, f: &[u8; 32]) -> Registers
 
 // The memory after it: store and masked store change it.
 fn keep<'a>(mem: &mut [u8], i: Instruction, mode: u8, m: &'a [u8; 32], f: &'a [u8; 32])
-    requires { ⌜ length (now mem) ≡ 8192 ⌝ }
+    requires { ⌜ length (now mem) ≡ memoryBytes ⌝ }
     ensures { λ r. ⌜ now (mem .exit) ≡ memAfter i mode (now (mem .entry)) (now (m .entry)) (now (f .entry)) ⌝ }
 {
-    if i.kind == 2 {
+    if i.kind == STORE {
         memory::store(mem, mode, i.addr, f);
         return;
     }
-    if i.kind == 3 {
+    if i.kind == MASKED_STORE {
         let mask = memory::line_mask(m, i.flip);
         memory::store_masked(mem, mode, i.addr, f, &mask);
     }
@@ -98,9 +108,9 @@ fn keep<'a>(mem: &mut [u8], i: Instruction, mode: u8, m: &'a [u8; 32], f: &'a [u
 
 // What is put out: the passed item, or what the resolver says.
 fn outgoing<'a>(i: Instruction, f: &'a [u8; 32], y: &'a [u8; 32]) -> [u8; 32]
-    ensures { λ r. ⌜ r ≡ cond (eqb (i .kind) 4) (now (f .entry)) (resolved (bitOf (now (y .entry)))) ⌝ }
+    ensures { λ r. ⌜ r ≡ cond (eqb (i .kind) deliver) (now (f .entry)) (resolved (bitOf (now (y .entry)))) ⌝ }
 {
-    if i.kind == 4 {
+    if i.kind == DELIVER {
         let x = *f;
         return x;
     }

@@ -4,6 +4,7 @@ mod acting;
 use acting::Acted;
 use judge::Answer;
 use judge::Lengths;
+use judge::REGISTER_BYTES;
 use registers::Registers;
 ghost use mathlib.Core.Path.{_≡_};
 ghost use Rattle.judge.specs.Steps.{Accepted};
@@ -86,7 +87,7 @@ pub fn advance(
 {
     let lengths = Lengths {
         memory: mem.len(),
-        registers: 96,
+        registers: REGISTER_BYTES,
         items: items.len(),
         out: out.len(),
     };
