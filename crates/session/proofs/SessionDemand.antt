@@ -2,7 +2,6 @@
 use mathlib.Core.Path.{_≡_, refl, sym, ap, _∙_}
 use mathlib.Core.List.{List, []}
 use Prim.Native.Nat.{ℕ, _*_}
-use native.Mathlib.Omega.{arith}
 use lib.ListN.{length}
 use Rattle.contents.specs.File.{done, refused, blockCount, blocksOf}
 use Rattle.contents.specs.Content.{over}
@@ -15,16 +14,18 @@ use Rattle.report.proofs.ReportLaws.{report-unique}
 use Rattle.session.specs.declared.Counts.{Counts}
 use Rattle.session.specs.Session.{File, absent, failed, Outcome, contentAnswer, onlyLine, finished, outcome}
 use Rattle.session.specs.Shown.{Shown}
-use Rattle.session.proofs.SessionLaws.{outcome-p, after-none, after-done}
+use Rattle.session.proofs.SessionLaws.{after-none, after-done}
 
 -- ---- absent, and not to be read
 
 -- "An absent before.pic .. refused with 20", whatever the other files are; so is one that cannot be read
 pub absent-picture : (list items : File) → outcome absent list items ≡ onlyLine 112 (refused 20 0)
-absent-picture list items = outcome-p absent list items (refused 20 0) refl (λ z. omega arith)
+unfolding outcome
+absent-picture list items = refl
 
 pub failed-picture : (list items : File) → outcome failed list items ≡ onlyLine 112 (refused 20 0)
-failed-picture list items = outcome-p failed list items (refused 20 0) refl (λ z. omega arith)
+unfolding outcome
+failed-picture list items = refl
 
 -- "An absent run.lst is the empty list and an absent in.itm means no items": both stand, with no bytes
 pub absent-content : (kind : ℕ) → contentAnswer kind absent ≡ done 0

@@ -1,11 +1,10 @@
 -- The numbers of a run are small and its items are there; the outcome by the first refused file. Assumes nothing.
 use mathlib.Core.Path.{_≡_, refl, sym, ap, ap₂, subst, _∙_}
-use mathlib.Core.Bool.{Bool, true, false, cond, not, _&&_}
+use mathlib.Core.Bool.{Bool, true, cond, not, _&&_}
 use mathlib.Core.List.{List, [], _++_}
-use Prim.Native.Nat.{ℕ, _*_, _/_, _≤_}
+use Prim.Native.Nat.{ℕ, _*_, _≤_}
 use native.Mathlib.Decide.{ℕ-discrete}
 use native.Mathlib.Omega.{arith}
-use lib.Dec.{eqb}
 use lib.ListN.{length, drop}
 use borrow.Author.Tests.{eq-eqb, ne-eqb}
 use Rattle.judge.specs.declared.Lengths.{Lengths}
@@ -19,13 +18,13 @@ use Rattle.module.proofs.RunLaws.{ran-answer}
 use Rattle.contents.specs.declared.Moved.{Moved}
 use Rattle.contents.specs.File.{done, kindRight, blockCount, blocksOf}
 use Rattle.contents.specs.Content.{over, ContentLeft}
-use Rattle.pictures.specs.Picture.{pictureOf, scrambled, pictureFits, pictureWritten}
+use Rattle.pictures.specs.Picture.{pictureOf, pictureFits, pictureWritten}
 use Rattle.contents.proofs.AnswerLaws.{changed-done, left-parts, write-done}
 use Rattle.contents.proofs.RoundTrip.{all-length}
 use Rattle.pictures.proofs.PictureLaws.{length-picture}
 use Rattle.report.specs.Report.{itemLines, printed}
 use Rattle.session.specs.declared.Counts.{Counts}
-use Rattle.session.specs.Session.{File, Outcome, pictureAnswer, contentAnswer, contentIn, onlyLine, afterOf, finished, outBytes, lentBy, outcome}
+use Rattle.session.specs.Session.{Outcome, onlyLine, afterOf, finished, unlessRefused}
 use Rattle.session.specs.Shown.{Shown}
 use Rattle.session.specs.Steps.{Small}
 
@@ -54,50 +53,33 @@ pub line-alone : (letter number place : ℕ) (out : List ℕ) → printed letter
 unfolding printed itemLines
 line-alone letter number place out = refl
 
-module _ (p l i : File) where
-  pub outcome-p : (a : Moved) → a ≡ pictureAnswer p → (a .number ≡ 0 → ⊥) → outcome p l i ≡ onlyLine 112 a
-  unfolding outcome
-  outcome-p a e u = rw (sym e) (ap (λ (t : Bool). cond (not t) (onlyLine 112 a) rest) (ne-eqb (a .number) 0 u))
-    where
-      rest : Outcome
-      rest =
-          cond (not (eqb (contentAnswer 2 l .number) 0)) (onlyLine 108 (contentAnswer 2 l))
-          (cond (not (eqb (contentAnswer 3 i .number) 0)) (onlyLine 105 (contentAnswer 3 i))
-          (finished (ran (lentBy p l i))))
+-- the answer `a`, which is that on the stage's file, decides: its line, or the next stage
+module _ (letter : ℕ) (a b : Moved) (next : Outcome) (e : a ≡ b) where
+  refused-first : (a .number ≡ 0 → ⊥) → unlessRefused letter b next ≡ onlyLine letter a
+  refused-first u = rw (sym e) (ap (λ (t : Bool). cond (not t) (onlyLine letter a) next) (ne-eqb (a .number) 0 u))
 
-  module _ (good-p : pictureAnswer p .number ≡ 0) where
-    pub outcome-l : (a : Moved) → a ≡ contentAnswer 2 l → (a .number ≡ 0 → ⊥) → outcome p l i ≡ onlyLine 108 a
-    unfolding outcome
-    outcome-l a e u =
-        let n : eqb (contentAnswer 2 l .number) 0 ≡ false = ne-eqb (contentAnswer 2 l .number) 0 (λ z. u (ap (λ (x : Moved). x .number) e ∙ z)) in
-        simp (eq-eqb (pictureAnswer p .number) 0 good-p, n) (ap (onlyLine 108) (sym e))
-
-    module _ (good-l : contentAnswer 2 l .number ≡ 0) where
-      pub outcome-i : (a : Moved) → a ≡ contentAnswer 3 i → (a .number ≡ 0 → ⊥) → outcome p l i ≡ onlyLine 105 a
-      unfolding outcome
-      outcome-i a e u =
-          let n : eqb (contentAnswer 3 i .number) 0 ≡ false = ne-eqb (contentAnswer 3 i .number) 0 (λ z. u (ap (λ (x : Moved). x .number) e ∙ z)) in
-          simp (eq-eqb (pictureAnswer p .number) 0 good-p, eq-eqb (contentAnswer 2 l .number) 0 good-l, n) (ap (onlyLine 105) (sym e))
-
-      pub outcome-r : contentAnswer 3 i .number ≡ 0 → (mem regs list items out : List ℕ) → mem ≡ scrambled (contentIn p) → regs ≡ drop 8192 (contentIn p)
-          → list ≡ contentIn l → items ≡ contentIn i → out ≡ outBytes
-          → outcome p l i ≡ finished (ran (record { memory = mem; registers = regs; list = list; items = items; out = out }))
-      unfolding outcome
-      outcome-r good-i mem regs list items out em er el ei eo =
-          simp (eq-eqb (pictureAnswer p .number) 0 good-p, eq-eqb (contentAnswer 2 l .number) 0 good-l, eq-eqb (contentAnswer 3 i .number) 0 good-i)
-          (λ j. finished (ran (record { memory = sym em j; registers = sym er j; list = sym el j; items = sym ei j; out = sym eo j })))
+  stands-first : a .number ≡ 0 → unlessRefused letter b next ≡ next
+  stands-first z = rw (sym e) (ap (λ (t : Bool). cond (not t) (onlyLine letter a) next) (eq-eqb (a .number) 0 z))
 
 -- ---- what stands in the buffers
 
--- a refusal leaves after.pic's buffer as it was
-pub line-shown : (o : Outcome) (letter : ℕ) (a : Moved) (r : Counts) (old text after : List ℕ) → o ≡ onlyLine letter a → Shown (onlyLine letter a) r old text
-    → Shown o r old text × (after ≡ over (o .after) after)
-line-shown o letter a r old text after e s = (subst (λ (x : Outcome). Shown x r old text) (sym e) s, sym (ap (λ (x : Outcome). over (x .after) after) e))
+-- An outcome stands in both buffers.
+abbrev pub Both : Outcome → Counts → List ℕ → List ℕ → List ℕ → List ℕ → Type 0
+Both o r old text after after′ = Shown o r old text × (after′ ≡ over (o .after) after)
 
--- the same outcome stands there under another name
-pub finished-as : (o o′ : Outcome) (r : Counts) (old text after after′ : List ℕ) → o ≡ o′ → Shown o′ r old text → after′ ≡ over (o′ .after) after
-    → Shown o r old text × (after′ ≡ over (o .after) after)
-finished-as o o′ r old text after after′ e s k = subst (λ (x : Outcome). Shown x r old text × (after′ ≡ over (x .after) after)) (sym e) (s, k)
+-- a stage whose file is refused leaves after.pic's buffer as it was
+pub line-shown : (letter : ℕ) (a b : Moved) (next : Outcome) (r : Counts) (old text after : List ℕ)
+    → a ≡ b → (a .number ≡ 0 → ⊥) → Shown (onlyLine letter a) r old text
+    → Both (unlessRefused letter b next) r old text after after
+line-shown letter a b next r old text after e u s =
+    subst (λ (o : Outcome). Both o r old text after after) (sym (refused-first letter a b next e u)) (s, refl)
+
+-- a stage whose file stands is the next stage
+pub next-shown : (letter : ℕ) (a b : Moved) (next next′ : Outcome) (r : Counts) (old text after after′ : List ℕ)
+    → a ≡ b → a .number ≡ 0 → next ≡ next′ → Both next′ r old text after after′
+    → Both (unlessRefused letter b next) r old text after after′
+next-shown letter a b next next′ r old text after after′ e z q s =
+    subst (λ (o : Outcome). Both o r old text after after′) (sym (stands-first letter a b next e z ∙ q)) s
 
 -- a run's lines and its picture
 pub finished-shown : (o : Outcome) (s : Left (List ℕ) Answer) (m g out : List ℕ) (a : Answer) (n w : ℕ) (old text after after′ : List ℕ)
@@ -105,10 +87,10 @@ pub finished-shown : (o : Outcome) (s : Left (List ℕ) Answer) (m g out : List 
     → n ≤ length text → n ≡ length (printed 114 (a .number) (a .place) (a .steps) (a .taken) (a .given) out)
     → text ≡ printed 114 (a .number) (a .place) (a .steps) (a .taken) (a .given) out ++ drop n old
     → w ≤ 8704 → w ≡ length (afterOf (a .number) m g) → after′ ≡ over (afterOf (a .number) m g) after
-    → Shown o (record { text = n; after = w }) old text × (after′ ≡ over (o .after) after)
+    → Both o (record { text = n; after = w }) old text after after′
 unfolding finished
 finished-shown o s m g out a n w old text after after′ e q h l t most c k =
-    subst (λ (x : Outcome). Shown x (record { text = n; after = w }) old text × (after′ ≡ over (x .after) after)) (sym (e ∙ ap finished (sym q)))
+    subst (λ (x : Outcome). Both x (record { text = n; after = w }) old text after after′) (sym (e ∙ ap finished (sym q)))
     (record { room = h; count = l; printed = t; written = c; most = most }, k)
 
 -- ---- after.pic

@@ -8,7 +8,7 @@ use Rattle.contents.specs.declared.Moved.{Moved}
 use Rattle.contents.specs.File.{done, refused, contentOf, fileJudged, blocksOf}
 use Rattle.pictures.specs.Picture.{pictureOf, scrambled}
 use Rattle.judge.specs.declared.Answer.{Answer}
-use Rattle.module.specs.Run.{Lent, Left, ran}
+use Rattle.module.specs.Run.{Left, ran}
 use Rattle.report.specs.Report.{printed}
 use Rattle.session.specs.declared.Found.{Found}
 use Rattle.session.specs.declared.Found.the-variants.{Absent, Failed, Bytes}
@@ -77,21 +77,25 @@ finished s =
 unfoldable pub outBytes : List ℕ
 outBytes = replicate 8192 0
 
--- What the run is lent: the contents of the three files, and those out bytes.
-abbrev pub lentBy : File → File → File → Lent (List ℕ)
-lentBy picture list items =
-    record {
-      memory = scrambled (contentIn picture);
-      registers = drop 8192 (contentIn picture);
-      list = contentIn list;
-      items = contentIn items;
-      out = outBytes;
-    }
+-- A stage: the line of its file where that is refused, else the next stage.
+abbrev pub unlessRefused : ℕ → Moved → Outcome → Outcome
+unlessRefused letter a next = cond (not (eqb (a .number) 0)) (onlyLine letter a) next
 
 -- "It reads before.pic, run.lst and in.itm in that order", and runs: the letters are p, l and i.
+-- The last stage, with the memory, the registers and the list that were taken before.
+unfoldable pub withItems : List ℕ → List ℕ → List ℕ → File → Outcome
+withItems memory registers list items =
+    unlessRefused 105 (contentAnswer 3 items)
+    (finished (ran (record { memory = memory; registers = registers; list = list; items = contentIn items; out = outBytes })))
+
+-- The second, with the memory and the registers.
+unfoldable pub withList : List ℕ → List ℕ → File → File → Outcome
+withList memory registers list items =
+    unlessRefused 108 (contentAnswer 2 list)
+    (withItems memory registers (contentIn list) items)
+
+-- The first, and so the program.
 unfoldable pub outcome : File → File → File → Outcome
 outcome picture list items =
-    cond (not (eqb (pictureAnswer picture .number) 0)) (onlyLine 112 (pictureAnswer picture))
-    (cond (not (eqb (contentAnswer 2 list .number) 0)) (onlyLine 108 (contentAnswer 2 list))
-    (cond (not (eqb (contentAnswer 3 items .number) 0)) (onlyLine 105 (contentAnswer 3 items))
-    (finished (ran (lentBy picture list items)))))
+    unlessRefused 112 (pictureAnswer picture)
+    (withList (scrambled (contentIn picture)) (drop 8192 (contentIn picture)) list items)

@@ -11,7 +11,7 @@ ghost use Rattle.contents.specs.Content.{changed, over};
 ghost use Rattle.module.specs.Run.{ran};
 ghost use Rattle.report.specs.Report.{printed};
 ghost use Rattle.session.specs.Session.{fileOf, pictureAnswer, contentAnswer, contentIn};
-ghost use Rattle.session.specs.Session.{onlyLine, afterOf, finished, outBytes, outcome};
+ghost use Rattle.session.specs.Session.{onlyLine, afterOf, finished, outBytes, withItems, withList, outcome};
 ghost use Rattle.session.specs.Shown.{Shown};
 ghost use Rattle.session.specs.Steps.{Small};
 
@@ -166,16 +166,26 @@ fn finish(
     after: &mut [u8],
     text: &mut [u8],
 ) -> Counts
-    requires { ⌜ (length (now memory) ≡ 8192) × (length (now registers) ≡ 96) × (length (now out) ≡ 8192) × (length (now after) ≡ 8704) × (16697 ≤ length (now text)) ⌝ }
-    ensures text { λ r. ⌜
-        Shown (finished (ran (record { memory = now (memory .entry); registers = now (registers .entry); list = now (list .entry); items = now (items .entry); out = now (out .entry) })))
-        r (now (text .entry)) (now (text .exit))
-        ⌝ }
-    ensures after { λ r. ⌜
-        now (after .exit)
-        ≡ over (finished (ran (record { memory = now (memory .entry); registers = now (registers .entry); list = now (list .entry); items = now (items .entry); out = now (out .entry) })) .after)
-        (now (after .entry))
-        ⌝ }
+    requires { ⌜ (length (now memory) ≡ 8192) × (length (now registers) ≡ 96) × (length (now out) ≡ 8192)
+        × (length (now after) ≡ 8704) × (16697 ≤ length (now text)) ⌝ }
+    ensures text { λ r. ⌜ Shown
+        (finished (ran (record {
+          memory = now (memory .entry);
+          registers = now (registers .entry);
+          list = now (list .entry);
+          items = now (items .entry);
+          out = now (out .entry);
+        })))
+        r (now (text .entry)) (now (text .exit)) ⌝ }
+    ensures after { λ r. ⌜ now (after .exit) ≡ over
+        (finished (ran (record {
+          memory = now (memory .entry);
+          registers = now (registers .entry);
+          list = now (list .entry);
+          items = now (items .entry);
+          out = now (out .entry);
+        })) .after)
+        (now (after .entry)) ⌝ }
 {
     let a = module::run(memory, registers, list, items, out);
     let n = print_run(a, out, text);
@@ -183,9 +193,63 @@ fn finish(
     Counts { text: n, after: w }
 }
 
+// The last stage, in.itm: its line, or the run on it and on what was taken before.
+fn with_items(
+    memory: &mut [u8],
+    registers: &mut [u8],
+    list: &[u8],
+    i: Found,
+    items: &[u8],
+    after: &mut [u8],
+    text: &mut [u8],
+) -> Counts
+    requires { ⌜ (length (now memory) ≡ 8192) × (length (now registers) ≡ 96)
+        × (length (now after) ≡ 8704) × (16697 ≤ length (now text)) ⌝ }
+    ensures text { λ r. ⌜ Shown (withItems (now (memory .entry)) (now (registers .entry)) (now (list .entry))
+        (fileOf i (now (items .entry)))) r (now (text .entry)) (now (text .exit)) ⌝ }
+    ensures after { λ r. ⌜ now (after .exit) ≡ over (withItems (now (memory .entry)) (now (registers .entry))
+        (now (list .entry)) (fileOf i (now (items .entry))) .after) (now (after .entry)) ⌝ }
+{
+    let mut lent = blank();
+    let read_i = take_content(i, 3, items, &mut lent);
+    if read_i.number != 0 {
+        return print_line(b'i', read_i, text);
+    }
+    let n = read_i.bytes;
+    let mut out = blank();
+    finish(memory, registers, list, &lent[..n], &mut out, after, text)
+}
+
+// The second stage, run.lst: its line, or the last stage.
+fn with_list(
+    memory: &mut [u8],
+    registers: &mut [u8],
+    l: Found,
+    i: Found,
+    list: &[u8],
+    items: &[u8],
+    after: &mut [u8],
+    text: &mut [u8],
+) -> Counts
+    requires { ⌜ (length (now memory) ≡ 8192) × (length (now registers) ≡ 96)
+        × (length (now after) ≡ 8704) × (16697 ≤ length (now text)) ⌝ }
+    ensures text { λ r. ⌜ Shown (withList (now (memory .entry)) (now (registers .entry)) (fileOf l (now (list .entry)))
+        (fileOf i (now (items .entry)))) r (now (text .entry)) (now (text .exit)) ⌝ }
+    ensures after { λ r. ⌜ now (after .exit) ≡ over (withList (now (memory .entry)) (now (registers .entry))
+        (fileOf l (now (list .entry))) (fileOf i (now (items .entry))) .after) (now (after .entry)) ⌝ }
+{
+    let mut instructions = blank();
+    let read_l = take_content(l, 2, list, &mut instructions);
+    if read_l.number != 0 {
+        return print_line(b'l', read_l, text);
+    }
+    let n = read_l.bytes;
+    with_items(memory, registers, &instructions[..n], i, items, after, text)
+}
+
 // The program, from what was found of before.pic, run.lst and in.itm and the buffers that they were read into: the text to
 // print, and the bytes of after.pic. What stands behind either stays, and all of after.pic's buffer where it is not to be
-// written.
+// written. The first of three stages, before.pic: its line, or the second stage.
 pub fn session(
     p: Found,
     l: Found,
@@ -208,26 +272,5 @@ pub fn session(
     if read_p.number != 0 {
         return print_line(b'p', read_p, text);
     }
-    let mut instructions = blank();
-    let read_l = take_content(l, 2, list, &mut instructions);
-    if read_l.number != 0 {
-        return print_line(b'l', read_l, text);
-    }
-    let mut lent = blank();
-    let read_i = take_content(i, 3, items, &mut lent);
-    if read_i.number != 0 {
-        return print_line(b'i', read_i, text);
-    }
-    let n = read_l.bytes;
-    let m = read_i.bytes;
-    let mut out = blank();
-    finish(
-        &mut memory,
-        &mut registers,
-        &instructions[..n],
-        &lent[..m],
-        &mut out,
-        after,
-        text,
-    )
+    with_list(&mut memory, &mut registers, l, i, list, items, after, text)
 }

@@ -1,0 +1,108 @@
+-- `with_list`: the line of run.lst where it is refused, else what `with_items` shows.
+use mathlib.Core.Path.{refl, sym, ap}
+use mathlib.Core.List.{List}
+use Prim.Native.Nat.{ℕ}
+use native.Mathlib.Omega.{arith}
+use denote.Ref.{now}
+use lib.Seq.{length-take-le}
+use Rattle.contents.specs.File.{done}
+use Rattle.session.specs.Session.{fileOf, withItems, withList}
+use Rattle.session.proofs.FileLaws.{place-small}
+use Rattle.session.proofs.SessionLaws.{line-shown, next-shown}
+use borrow.Author.Needs.{needs}
+use Rattle.session.proofs.with_list.Statement.{statement}
+use Rattle.session.proofs.with_list.Tie as tie
+
+-- where the stage begins, from where run.lst is read
+abbrev start : tie.After-take-content → tie.Start
+start c = c .before .before .before .before .before .before .before .before .before
+
+blank-requires : tie.Need-blank-requires
+blank-requires c κs = search needs
+
+slice-aggregate-take-content : tie.Need-slice-aggregate-take-content
+slice-aggregate-take-content c = search needs
+
+take-content-requires : tie.Need-take-content-requires
+take-content-requires c κs = search needs
+
+print-line-requires : tie.Need-print-line-requires
+print-line-requires c κs =
+    let t = c .before .before .before .before in
+    let a = start t .args in
+    let r = t .take-content in (
+      place-small (done 0) 8192 2 (fileOf (a .l) (now (a .list))) (r .result) (r .ensures .0) refl (omega arith),
+      omega (arith, start t .pre .3),
+    )
+
+same-length : tie.Need-same-length
+same-length c = search needs
+
+returns : tie.Need-returns
+unfolding withList
+returns c =
+    let n = c .before .before .before .before in
+    let t = n .before .before .before in
+    let a = start t .args in
+    let r = t .take-content in
+    let p = c .before .before .print-line in
+    line-shown 108 (r .result) _ _ (p .result) (now (a .text)) _ (now (a .after))
+    (r .ensures .0) (n .if1 .taken) (p .ensures)
+
+array-share-prefix-instructions : tie.Need-array-share-prefix-instructions
+array-share-prefix-instructions c =
+    let n = c .before .before in
+    n .before .before .before .take-content .ensures .1 (n .if1 .left) .0
+
+slice-aggregate-with-items : tie.Need-slice-aggregate-with-items
+slice-aggregate-with-items c =
+    let n = c .before .before .before in
+    let r = n .before .before .before .take-content in
+    sym (length-take-le (r .result .bytes) (r .last .1 .1 .1 .0) (r .ensures .1 (n .if1 .left) .0))
+
+with-items-requires : tie.Need-with-items-requires
+with-items-requires c κs = search needs
+
+same-length-2 : tie.Need-same-length-2
+same-length-2 c = search needs
+
+same-length-3 : tie.Need-same-length-3
+same-length-3 c = search needs
+
+same-length-4 : tie.Need-same-length-4
+same-length-4 c = search needs
+
+same-length-5 : tie.Need-same-length-5
+same-length-5 c = search needs
+
+returns-2 : tie.Need-returns-2
+unfolding withList
+returns-2 c =
+    let w = c .before .before .before .before .before .before .before .before in
+    let n = w .before .before .before .before .before .before in
+    let t = n .before .before .before in
+    let a = start t .args in
+    let r = t .take-content in
+    next-shown 108 (r .result) _ _ _ (w .with-items .result) (now (a .text)) _ (now (a .after)) _ (r .ensures .0) (n .if1 .left)
+    (ap (λ (list : List ℕ). withItems (now (a .memory)) (now (a .registers)) list (fileOf (a .i) (now (a .items))))
+    (sym (r .ensures .1 (n .if1 .left) .1)))
+    (w .with-items .ensures)
+
+pub with-list-spec : {M : Type 1} → statement M
+with-list-spec =
+    tie.close
+    (tie.spec
+    blank-requires
+    slice-aggregate-take-content
+    take-content-requires
+    print-line-requires
+    same-length
+    returns
+    array-share-prefix-instructions
+    slice-aggregate-with-items
+    with-items-requires
+    same-length-2
+    same-length-3
+    same-length-4
+    same-length-5
+    returns-2)
