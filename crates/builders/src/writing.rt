@@ -1,4 +1,5 @@
 // Instructions put into a list's buffer and items into theirs, for every builder of lists. `at` is the instruction's number, or the item's.
+use bits::copies::copy;
 use judge::Instruction;
 ghost use mathlib.Core.Path.{_≡_};
 ghost use mathlib.Core.List.{[], _∷_};
@@ -7,24 +8,12 @@ ghost use lib.ListN.{length};
 ghost use Rattle.bits.specs.Steps.{putAt};
 ghost use Rattle.builders.specs.Lists.{encoded, logicFrom, logicAt, storeAt};
 
-// The part that is lent becomes these bytes: 8 of an instruction, or 32 of an item.
-fn write_part(part: &mut [u8], bytes: &[u8])
-    requires { ⌜ length (now part) ≡ length (now bytes) ⌝ }
-    ensures { λ r. ⌜ now (part .exit) ≡ now (bytes .entry) ⌝ }
-{
-    let mut j: usize = 0;
-    while j < part.len() {
-        part[j] = bytes[j];
-        j += 1;
-    }
-}
-
 // Any item. No list of document 01 takes one: this is what the builders of lists with items (document 02, One and Five) stand on.
 pub fn put_item(items: &mut [u8], at: usize, item: &[u8; 32])
     requires { ⌜ (32 * at + 32 ≤ length (now items)) × (length (now item) ≡ 32) ⌝ }
     ensures { λ r. ⌜ now (items .exit) ≡ putAt (32 * at) (now (item .entry)) (now (items .entry)) ⌝ }
 {
-    write_part(&mut items[32 * at..32 * at + 32], item);
+    copy(item, &mut items[32 * at..32 * at + 32]);
 }
 
 // Any instruction.
@@ -42,7 +31,7 @@ pub fn put(list: &mut [u8], at: usize, i: Instruction)
         i.code,
         i.logic,
     ];
-    write_part(&mut list[8 * at..8 * at + 8], &bytes);
+    copy(&bytes, &mut list[8 * at..8 * at + 8]);
 }
 
 // Logic with a register as its source.

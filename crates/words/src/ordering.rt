@@ -1,5 +1,6 @@
 // Eight neighbouring words in plain order and in the chips. Bit B of word W is location B of chip B xor W: mode 255 reads the
 // same byte of each chip for the words 8v to 8v+7, and those 256 bytes hold the eight words turned.
+use bits::copies::copy;
 use bits::lanes::keep_lane;
 ghost use mathlib.Core.Path.{_≡_};
 ghost use Prim.Native.Nat.{_+_, _*_, _/_, _%_, _<_};
@@ -26,18 +27,6 @@ fn gather_word(bytes: &[u8], addr: u8) -> [u8; 32]
     out
 }
 
-// The writer of a row, to which a row's part is lent by itself.
-fn put_row<'a>(row: &'a [u8], part: &mut [u8])
-    requires { ⌜ (length (now row) ≡ 32) × (length (now part) ≡ 32) ⌝ }
-    ensures { λ _. ⌜ now (part .exit) ≡ now (row .entry) ⌝ }
-{
-    let mut i: usize = 0;
-    while i < 32 {
-        part[i] = row[i];
-        i += 1;
-    }
-}
-
 // Eight rows turned: from the bytes read of the chips to the words, or back, for it is its own inverse.
 pub fn turned(bytes: &[u8]) -> [u8; 256]
     requires { ⌜ length (now bytes) ≡ 256 ⌝ }
@@ -47,7 +36,7 @@ pub fn turned(bytes: &[u8]) -> [u8; 256]
     let mut a: usize = 0;
     while a < 8 {
         let row = gather_word(bytes, a as u8);
-        put_row(&row, &mut out[32 * a..32 * a + 32]);
+        copy(&row, &mut out[32 * a..32 * a + 32]);
         a += 1;
     }
     out

@@ -38,43 +38,25 @@ used-is c =
 used-ok : (c : tie.Else5) → c .before .before .two-at4 .result ≤ 496
 used-ok c = used-le _ _ (c .before .before .two-at4 .result) (sym (c .before .used-right .ensures) ∙ not-false _ (c .if5 .left))
 
-sums-right-requires : tie.Need-sums-right-requires
-sums-right-requires c κs = search needs
-
 returns : tie.Need-returns
 returns c =
     let a = c .before .before .before .args in
     fault-21 (now (a .block)) (a .kind) (a .place) (a .count) (sym (c .before .sums-right .ensures) ∙ not-true _ (c .if1 .taken))
-
-two-at-requires : tie.Need-two-at-requires
-two-at-requires c κs = search needs
 
 returns-2 : tie.Need-returns-2
 returns-2 c =
     let a = c .before .before .before .before .before .args in
     fault-22 (now (a .block)) (a .kind) (a .place) (a .count) (sums-ok (c .before .before)) (λ e. c .if2 .taken (c .before .two-at .ensures .0 ∙ e))
 
-two-at-requires-2 : tie.Need-two-at-requires-2
-two-at-requires-2 c κs = search needs
-
 returns-3 : tie.Need-returns-3
 returns-3 c =
     let a = c .before .before .before .before .before .before .before .args in
     fault-place (now (a .block)) (a .kind) (a .place) (a .count) (sums-ok (c .before .before .before .before)) (kind-ok (c .before .before)) (λ e. c .if3 .taken (c .before .two-at2 .ensures .0 ∙ e))
 
-two-at-requires-3 : tie.Need-two-at-requires-3
-two-at-requires-3 c κs = search needs
-
 returns-4 : tie.Need-returns-4
 returns-4 c =
     let a = c .before .before .before .before .before .before .before .before .before .args in
     fault-count (now (a .block)) (a .kind) (a .place) (a .count) (sums-ok (c .before .before .before .before .before .before)) (kind-ok (c .before .before .before .before)) (place-ok (c .before .before)) (λ e. c .if4 .taken (c .before .two-at3 .ensures .0 ∙ e))
-
-two-at-requires-4 : tie.Need-two-at-requires-4
-two-at-requires-4 c κs = search needs
-
-used-right-requires : tie.Need-used-right-requires
-used-right-requires c κs = search needs
 
 returns-5 : tie.Need-returns-5
 returns-5 c = sym (last (c .before .before .before) false _ (used-is (c .before) ∙ not-true _ (c .if5 .taken)) refl)
@@ -92,16 +74,16 @@ pub fault-spec : {M : Type 1} → statement M
 fault-spec =
     tie.close
     (tie.spec
-    sums-right-requires
+    (λ c κs. search needs)
     returns
-    two-at-requires
+    (λ c κs. search needs)
     returns-2
-    two-at-requires-2
+    (λ c κs. search needs)
     returns-3
-    two-at-requires-3
+    (λ c κs. search needs)
     returns-4
-    two-at-requires-4
-    used-right-requires
+    (λ c κs. search needs)
+    (λ c κs. search needs)
     returns-5
     zeros-right-requires
     returns-6

@@ -22,9 +22,6 @@ loop-holds c = (omega arith, refl, refl, omega arith, omega arith)
 shared-slice-read-wide : tie.Need-shared-slice-read-wide Inv-loop μ-loop
 shared-slice-read-wide c = omega arith
 
-wide-requires : tie.Need-wide-requires Inv-loop μ-loop
-wide-requires c κs = search needs
-
 add-a : tie.Need-add-a Inv-loop μ-loop
 add-a c = omega arith
 
@@ -61,7 +58,7 @@ sums-spec =
     μ-loop
     loop-holds
     shared-slice-read-wide
-    wide-requires
+    (λ c κs. search needs)
     add-a
     add-b
     add-i

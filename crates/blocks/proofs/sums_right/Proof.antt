@@ -9,15 +9,6 @@ use Rattle.blocks.specs.Block.{twoAt, sumsRight}
 use Rattle.blocks.proofs.sums_right.Statement.{statement}
 use Rattle.blocks.proofs.sums_right.Tie as tie
 
-sums-requires : tie.Need-sums-requires
-sums-requires c κs = search needs
-
-two-at-requires : tie.Need-two-at-requires
-two-at-requires c κs = search needs
-
-two-at-requires-2 : tie.Need-two-at-requires-2
-two-at-requires-2 c κs = search needs
-
 returns : tie.Need-returns
 unfolding sumsRight
 returns c =
@@ -35,4 +26,4 @@ returns-2 c =
 
 pub sums-right-spec : {M : Type 1} → statement M
 sums-right-spec =
-    tie.close (tie.spec sums-requires two-at-requires two-at-requires-2 returns returns-2)
+    tie.close (tie.spec (λ c κs. search needs) (λ c κs. search needs) (λ c κs. search needs) returns returns-2)

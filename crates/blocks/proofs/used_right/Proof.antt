@@ -5,9 +5,6 @@ use Rattle.blocks.specs.Block.{usedRight}
 use Rattle.blocks.proofs.used_right.Statement.{statement}
 use Rattle.blocks.proofs.used_right.Tie as tie
 
-add-if1 : tie.Need-add-if1
-add-if1 c = search needs
-
 returns : tie.Need-returns
 unfolding usedRight
 returns c = simp (lt-ltb _ _ (c .if1 .taken))
@@ -25,4 +22,4 @@ unfolding usedRight
 returns-4 c = simp (le-ltb _ _ (c .before .before .if1 .left), le-leb _ _ (c .before .if2 .left), ne-eqb _ _ (c .if3 .left))
 
 pub used-right-spec : {M : Type 1} → statement M
-used-right-spec = tie.close (tie.spec add-if1 returns returns-2 returns-3 returns-4)
+used-right-spec = tie.close (tie.spec (λ c. search needs) returns returns-2 returns-3 returns-4)

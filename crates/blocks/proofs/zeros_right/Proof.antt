@@ -7,33 +7,6 @@ use Rattle.blocks.specs.Block.{part, allZero, zerosRight}
 use Rattle.blocks.proofs.zeros_right.Statement.{statement}
 use Rattle.blocks.proofs.zeros_right.Tie as tie
 
-sub-all-zero : tie.Need-sub-all-zero
-sub-all-zero c = search needs
-
-part-all-zero-start : tie.Need-part-all-zero-start
-part-all-zero-start c = search needs
-
-part-all-zero-end : tie.Need-part-all-zero-end
-part-all-zero-end c = search needs
-
-all-zero-requires : tie.Need-all-zero-requires
-all-zero-requires c κs = search needs
-
-add-all-zero : tie.Need-add-all-zero
-add-all-zero c = search needs
-
-sub-all-zero-2 : tie.Need-sub-all-zero-2
-sub-all-zero-2 c = search needs
-
-part-all-zero-start-2 : tie.Need-part-all-zero-start-2
-part-all-zero-start-2 c = search needs
-
-part-all-zero-end-2 : tie.Need-part-all-zero-end-2
-part-all-zero-end-2 c = search needs
-
-all-zero-requires-2 : tie.Need-all-zero-requires-2
-all-zero-requires-2 c κs = search needs
-
 returns : tie.Need-returns
 unfolding zerosRight
 returns c =
@@ -48,14 +21,14 @@ pub zeros-right-spec : {M : Type 1} → statement M
 zeros-right-spec =
     tie.close
     (tie.spec
-    sub-all-zero
-    part-all-zero-start
-    part-all-zero-end
-    all-zero-requires
-    add-all-zero
-    sub-all-zero-2
-    part-all-zero-start-2
-    part-all-zero-end-2
-    all-zero-requires-2
+    (λ c. search needs)
+    (λ c. search needs)
+    (λ c. search needs)
+    (λ c κs. search needs)
+    (λ c. search needs)
+    (λ c. search needs)
+    (λ c. search needs)
+    (λ c. search needs)
+    (λ c κs. search needs)
     returns
     returns-2)

@@ -8,9 +8,6 @@ use Rattle.builders.proofs.Refusals.{sound, built-refused, built-done}
 use Rattle.builders.proofs.difference_list.Statement.{statement}
 use Rattle.builders.proofs.difference_list.Tie as tie
 
-fields-fault-requires : tie.Need-fields-fault-requires
-fields-fault-requires c κs = search needs
-
 returns : tie.Need-returns
 unfolding differenceBuilt
 returns c =
@@ -22,12 +19,6 @@ put-difference-requires c κs =
     let a = c .before .before .before .before .args in
     sound 2 (a .a) (a .b) (a .s) (a .n) _ _ (c .before .before .fields-fault .ensures) (c .before .if1 .left)
 
-list-length-requires : tie.Need-list-length-requires
-list-length-requires c κs = search needs
-
-same-length : tie.Need-same-length
-same-length c = search needs
-
 returns-2 : tie.Need-returns-2
 unfolding differenceBuilt
 returns-2 c =
@@ -37,4 +28,4 @@ returns-2 c =
     _ _ (e .if1 .left) (difference-length (a .a) (a .b) (a .s) (a .n)) (c .list-length .ensures) (c .before .before .before .put-difference .ensures)
 
 pub difference-list-spec : {M : Type 1} → statement M
-difference-list-spec = tie.close (tie.spec fields-fault-requires returns put-difference-requires list-length-requires same-length returns-2)
+difference-list-spec = tie.close (tie.spec (λ c κs. search needs) returns put-difference-requires (λ c κs. search needs) (λ c. search needs) returns-2)

@@ -8,9 +8,6 @@ use Rattle.builders.proofs.Refusals.{sound, built-refused, built-done}
 use Rattle.builders.proofs.sum_list.Statement.{statement}
 use Rattle.builders.proofs.sum_list.Tie as tie
 
-fields-fault-requires : tie.Need-fields-fault-requires
-fields-fault-requires c κs = search needs
-
 returns : tie.Need-returns
 unfolding sumBuilt
 returns c =
@@ -22,12 +19,6 @@ put-sum-requires c κs =
     let a = c .before .before .before .before .args in
     sound 1 (a .a) (a .b) (a .s) (a .n) _ _ (c .before .before .fields-fault .ensures) (c .before .if1 .left)
 
-list-length-requires : tie.Need-list-length-requires
-list-length-requires c κs = search needs
-
-same-length : tie.Need-same-length
-same-length c = search needs
-
 returns-2 : tie.Need-returns-2
 unfolding sumBuilt
 returns-2 c =
@@ -37,4 +28,4 @@ returns-2 c =
     _ _ (e .if1 .left) (sum-length (a .a) (a .b) (a .s) (a .n)) (c .list-length .ensures) (c .before .before .before .put-sum .ensures)
 
 pub sum-list-spec : {M : Type 1} → statement M
-sum-list-spec = tie.close (tie.spec fields-fault-requires returns put-sum-requires list-length-requires same-length returns-2)
+sum-list-spec = tie.close (tie.spec (λ c κs. search needs) returns put-sum-requires (λ c κs. search needs) (λ c. search needs) returns-2)

@@ -63,22 +63,10 @@ settled c =
     let e : l .i ≡ length b / 512 = omega arith in
     file-good (a .kind) b (kind-ok (c .before .before .before .before)) (len-ok (c .before .before)) (l .size) (sym (ap (blocksJudged (a .kind) b (length b / 512)) e) ∙ l .inv .1) (l .inv .2 ∙ ap (λ (k : ℕ). length (gathered b k)) e)
 
-kind-right-requires : tie.Need-kind-right-requires Inv-loop μ-loop
-kind-right-requires c κs = search needs
-
-refused-requires : tie.Need-refused-requires Inv-loop μ-loop
-refused-requires c κs = search needs
-
 returns : tie.Need-returns Inv-loop μ-loop
 returns c =
     let a = c .before .before .before .before .args in
     c .refused .ensures ∙ file-22 (a .kind) (now (a .bytes)) (sym (c .before .before .kind-right .ensures) ∙ not-true _ (c .before .if1 .taken))
-
-length-right-requires : tie.Need-length-right-requires Inv-loop μ-loop
-length-right-requires c κs = search needs
-
-refused-requires-2 : tie.Need-refused-requires-2 Inv-loop μ-loop
-refused-requires-2 c κs = search needs
 
 returns-2 : tie.Need-returns-2 Inv-loop μ-loop
 returns-2 c =
@@ -111,9 +99,6 @@ fault-requires : tie.Need-fault-requires Inv-loop μ-loop
 fault-requires c κs =
     let b = now (c .before .before .before .before .before .before .before .before .args .bytes) in
     (ap length (block-part b (c .before .before .loop .i)) ∙ block-len b (c .before .before .loop .i) (inside (c .before)), omega arith)
-
-refused-requires-3 : tie.Need-refused-requires-3 Inv-loop μ-loop
-refused-requires-3 c κs = search needs
 
 returns-3 : tie.Need-returns-3 Inv-loop μ-loop
 returns-3 c =
@@ -166,19 +151,10 @@ loop-again c =
       omega arith,
     )
 
-size-fits-requires : tie.Need-size-fits-requires Inv-loop μ-loop
-size-fits-requires c κs = search needs
-
-done-requires : tie.Need-done-requires Inv-loop μ-loop
-done-requires c κs = search needs
-
 returns-4 : tie.Need-returns-4 Inv-loop μ-loop
 returns-4 c =
     let s = c .before .before .before .before .loop .size in
     c .done .ensures ∙ sym (settled (c .before .before .before) ∙ ap (λ (t : Bool). cond t (done s) (refused 25 0)) (sym (c .before .before .size-fits .ensures) ∙ c .before .if4 .taken))
-
-refused-requires-4 : tie.Need-refused-requires-4 Inv-loop μ-loop
-refused-requires-4 c κs = search needs
 
 returns-5 : tie.Need-returns-5 Inv-loop μ-loop
 returns-5 c =
@@ -191,11 +167,11 @@ judge-file-spec =
     (tie.spec
     Inv-loop
     μ-loop
-    kind-right-requires
-    refused-requires
+    (λ c κs. search needs)
+    (λ c κs. search needs)
     returns
-    length-right-requires
-    refused-requires-2
+    (λ c κs. search needs)
+    (λ c κs. search needs)
     returns-2
     loop-holds
     mul-fault
@@ -205,7 +181,7 @@ judge-file-spec =
     part-fault-start
     part-fault-end
     fault-requires
-    refused-requires-3
+    (λ c κs. search needs)
     returns-3
     mul-two-at
     mul-two-at-2
@@ -218,8 +194,8 @@ judge-file-spec =
     add-i
     loop-less
     loop-again
-    size-fits-requires
-    done-requires
+    (λ c κs. search needs)
+    (λ c κs. search needs)
     returns-4
-    refused-requires-4
+    (λ c κs. search needs)
     returns-5)

@@ -23,18 +23,12 @@ stands c =
     let a = c .before .before .before .before .before .before .args in
     file-stands (a .kind) (now (a .bytes)) (sym (ap (λ x. x .number) (c .before .before .before .judge-file .ensures)) ∙ c .before .before .if1 .left)
 
-judge-file-requires : tie.Need-judge-file-requires
-judge-file-requires c κs = search needs
-
 returns : tie.Need-returns
 unfolding contentRead
 returns c =
     let a = c .before .before .before .before .args in
     let j = c .before .judge-file in
     left-old (j .result) _ _ _ (read-refused (a .kind) (now (a .bytes)) _ (j .result) (j .ensures) (c .if1 .taken)) (c .if1 .taken)
-
-refused-requires : tie.Need-refused-requires
-refused-requires c κs = search needs
 
 returns-2 : tie.Need-returns-2
 unfolding contentRead
@@ -44,9 +38,6 @@ returns-2 c =
     let f : targetFits (a .kind) (now (a .bytes)) (now (a .target)) ≡ false = ap (λ (t : Bool). t && leb (length (contentOf (now (a .bytes)))) (length (now (a .target)))) (le-ltb 1 (a .kind) (c .before .if2 .taken)) in
     left-old (c .refused .result) _ _ _ (c .refused .ensures ∙ read-26 (a .kind) (now (a .bytes)) _ (j .result) (j .ensures) (c .before .before .if1 .left) f)
     (refused-not (c .refused .result) 26 0 (c .refused .ensures) (λ x. omega arith))
-
-refused-requires-2 : tie.Need-refused-requires-2
-refused-requires-2 c κs = search needs
 
 returns-3 : tie.Need-returns-3
 unfolding contentRead
@@ -60,15 +51,6 @@ returns-3 c =
     left-old (c .refused2 .result) _ _ _ (c .refused2 .ensures ∙ read-26 (a .kind) b _ (j .result) (j .ensures) (c .before .before .before .if1 .left) f)
     (refused-not (c .refused2 .result) 26 0 (c .refused2 .ensures) (λ x. omega arith))
 
-sub-part-of : tie.Need-sub-part-of
-sub-part-of c = search needs
-
-part-part-of-start : tie.Need-part-part-of-start
-part-part-of-start c = search needs
-
-part-part-of-end : tie.Need-part-part-of-end
-part-part-of-end c = search needs
-
 part-of-requires : tie.Need-part-of-requires
 part-of-requires c κs =
     let a = c .before .before .before .before .before .before .before .args in
@@ -77,9 +59,6 @@ part-of-requires c κs =
     let size = j .result .bytes in
     let s = stands (c .before) in
     payloads-room (a .kind) (now (a .bytes)) s _ (omega (arith, mid-len 0 size t (c .before .if3 .left), ap (λ x. x .bytes) (j .ensures ∙ s .answer)))
-
-same-length : tie.Need-same-length
-same-length c = search needs
 
 returns-4 : tie.Need-returns-4
 unfolding contentRead
@@ -100,15 +79,15 @@ pub read-content-spec : {M : Type 1} → statement M
 read-content-spec =
     tie.close
     (tie.spec
-    judge-file-requires
+    (λ c κs. search needs)
     returns
-    refused-requires
+    (λ c κs. search needs)
     returns-2
-    refused-requires-2
+    (λ c κs. search needs)
     returns-3
-    sub-part-of
-    part-part-of-start
-    part-part-of-end
+    (λ c. search needs)
+    (λ c. search needs)
+    (λ c. search needs)
     part-of-requires
-    same-length
+    (λ c. search needs)
     returns-4)

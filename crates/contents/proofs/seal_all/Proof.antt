@@ -26,40 +26,10 @@ loop-holds : tie.Need-loop-holds Inv-loop μ-loop
 unfolding firstBlocks
 loop-holds c = (omega arith, refl, refl)
 
-mul-lesser : tie.Need-mul-lesser Inv-loop μ-loop
-mul-lesser c = search needs
-
-sub-lesser : tie.Need-sub-lesser Inv-loop μ-loop
-sub-lesser c = search needs
-
-lesser-requires : tie.Need-lesser-requires Inv-loop μ-loop
-lesser-requires c κs = search needs
-
-mul-from : tie.Need-mul-from Inv-loop μ-loop
-mul-from c = search needs
-
-add-seal : tie.Need-add-seal Inv-loop μ-loop
-add-seal c = search needs
-
-sub-seal : tie.Need-sub-seal Inv-loop μ-loop
-sub-seal c = search needs
-
-part-seal-start : tie.Need-part-seal-start Inv-loop μ-loop
-part-seal-start c = search needs
-
-part-seal-end : tie.Need-part-seal-end Inv-loop μ-loop
-part-seal-end c = search needs
-
 seal-requires : tie.Need-seal-requires Inv-loop μ-loop
 seal-requires c κs =
     let l = c .before .before .before .loop in
     (omega arith, omega arith, omega arith, omega arith, mid-len (512 * l .i) (512 * l .i + 512) (l .out) (omega arith) ∙ omega arith)
-
-add-i : tie.Need-add-i Inv-loop μ-loop
-add-i c = search needs
-
-loop-less : tie.Need-loop-less Inv-loop μ-loop
-loop-less c = search needs
 
 loop-again : tie.Need-loop-again Inv-loop μ-loop
 loop-again c =
@@ -73,9 +43,6 @@ loop-again c =
       blocks-more (a .kind) (payloads (now (a .out)) 0 (a .size)) (a .count) (l .i) (l .out) (now (a .out)) _ (l .inv .2)
           (p .ensures ∙ ap (block (a .kind) (l .i) (a .count)) (sealed-part (a .kind) (a .size) (a .count) (l .i) (u .lesser .result) (l .out) (now (a .out)) (u .lesser .ensures) (omega arith) (l .inv .2))),
     )
-
-same-length : tie.Need-same-length Inv-loop μ-loop
-same-length c = search needs
 
 returns : tie.Need-returns Inv-loop μ-loop
 returns c =
@@ -91,17 +58,17 @@ seal-all-spec =
     Inv-loop
     μ-loop
     loop-holds
-    mul-lesser
-    sub-lesser
-    lesser-requires
-    mul-from
-    add-seal
-    sub-seal
-    part-seal-start
-    part-seal-end
+    (λ c. search needs)
+    (λ c. search needs)
+    (λ c κs. search needs)
+    (λ c. search needs)
+    (λ c. search needs)
+    (λ c. search needs)
+    (λ c. search needs)
+    (λ c. search needs)
     seal-requires
-    add-i
-    loop-less
+    (λ c. search needs)
+    (λ c. search needs)
     loop-again
-    same-length
+    (λ c. search needs)
     returns)

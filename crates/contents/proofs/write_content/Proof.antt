@@ -26,12 +26,6 @@ fit-ok c = sym (c .before .size-fits .ensures) ∙ not-false _ (c .if3 .left)
 both : (c : tie.Else3) → contentFits (c .before .before .before .before .before .before .before .args .kind) (now (c .before .before .before .before .before .before .before .args .content)) ≡ true
 both c = ap₂ _&&_ (lt-ltb 1 (c .before .before .before .before .before .before .before .args .kind) (c .before .before .if2 .left)) (fit-ok c)
 
-kind-right-requires : tie.Need-kind-right-requires
-kind-right-requires c κs = search needs
-
-refused-requires : tie.Need-refused-requires
-refused-requires c κs = search needs
-
 returns : tie.Need-returns
 unfolding contentWritten
 returns c =
@@ -39,9 +33,6 @@ returns c =
     let r = c .refused in
     left-old (r .result) _ _ _ (r .ensures ∙ write-22 (a .kind) _ _ _ (sym (c .before .before .kind-right .ensures) ∙ not-true _ (c .before .if1 .taken)))
     (refused-not (r .result) 22 0 (r .ensures) (λ x. omega arith))
-
-refused-requires-2 : tie.Need-refused-requires-2
-refused-requires-2 c κs = search needs
 
 returns-2 : tie.Need-returns-2
 unfolding contentWritten
@@ -51,12 +42,6 @@ returns-2 c =
     let f : contentFits (a .kind) (now (a .content)) ≡ false = ap (λ (t : Bool). t && sizeFits (a .kind) (length (now (a .content)))) (le-ltb 1 (a .kind) (c .before .if2 .taken)) in
     left-old (r .result) _ _ _ (r .ensures ∙ write-26 (a .kind) _ _ _ (kind-ok (c .before .before)) f)
     (refused-not (r .result) 26 0 (r .ensures) (λ x. omega arith))
-
-size-fits-requires : tie.Need-size-fits-requires
-size-fits-requires c κs = search needs
-
-refused-requires-3 : tie.Need-refused-requires-3
-refused-requires-3 c κs = search needs
 
 returns-3 : tie.Need-returns-3
 unfolding contentWritten
@@ -69,12 +54,6 @@ returns-3 c =
 
 block-count-requires : tie.Need-block-count-requires
 block-count-requires c κs = size-le (c .before .before .before .before .before .before .before .args .kind) _ (fit-ok c)
-
-mul-if4 : tie.Need-mul-if4
-mul-if4 c = search needs
-
-refused-requires-4 : tie.Need-refused-requires-4
-refused-requires-4 c κs = search needs
 
 returns-4 : tie.Need-returns-4
 unfolding contentWritten
@@ -97,15 +76,6 @@ seal-all-requires c κs =
     let n = e .before .block-count .ensures in
     (omega arith, omega arith, n, omega arith)
 
-mul-done : tie.Need-mul-done
-mul-done c = search needs
-
-done-requires : tie.Need-done-requires
-done-requires c κs = search needs
-
-same-length : tie.Need-same-length
-same-length c = search needs
-
 returns-5 : tie.Need-returns-5
 unfolding contentWritten
 returns-5 c =
@@ -126,21 +96,21 @@ pub write-content-spec : {M : Type 1} → statement M
 write-content-spec =
     tie.close
     (tie.spec
-    kind-right-requires
-    refused-requires
+    (λ c κs. search needs)
+    (λ c κs. search needs)
     returns
-    refused-requires-2
+    (λ c κs. search needs)
     returns-2
-    size-fits-requires
-    refused-requires-3
+    (λ c κs. search needs)
+    (λ c κs. search needs)
     returns-3
     block-count-requires
-    mul-if4
-    refused-requires-4
+    (λ c. search needs)
+    (λ c κs. search needs)
     returns-4
     put-part-requires
     seal-all-requires
-    mul-done
-    done-requires
-    same-length
+    (λ c. search needs)
+    (λ c κs. search needs)
+    (λ c. search needs)
     returns-5)

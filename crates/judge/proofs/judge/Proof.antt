@@ -9,9 +9,6 @@ use borrow.Author.Needs.{needs}
 use Rattle.judge.proofs.judge.Statement.{statement}
 use Rattle.judge.proofs.judge.Tie as tie
 
-run-fault-requires : tie.Need-run-fault-requires
-run-fault-requires c κs = search needs
-
 judge-by-requires : tie.Need-judge-by-requires
 judge-by-requires c κs =
     let a = c .before .before .args in
@@ -24,4 +21,4 @@ returns c =
     c .judge-by .ensures ∙ ap (λ (n : ℕ). orElse (refusal n 0) (judgedList (a .l) (now (a .list)))) (c .before .run-fault .ensures)
 
 pub judge-spec : {M : Type 1} → statement M
-judge-spec = tie.close (tie.spec run-fault-requires judge-by-requires returns)
+judge-spec = tie.close (tie.spec (λ c κs. search needs) judge-by-requires returns)

@@ -16,9 +16,6 @@ use Rattle.judge.proofs.judge_by.Tie as tie
 abbrev by-test : ℕ → Lengths → List ℕ → Bool → Answer
 by-test wrong l list t = cond t (judgedList l list) (refusal wrong 0)
 
-refused-requires : tie.Need-refused-requires
-refused-requires c κs = search needs
-
 returns : tie.Need-returns
 returns c =
     let a = c .before .before .before .args in
@@ -33,4 +30,4 @@ returns-2 c =
     c .judge-list .ensures ∙ sym (ap (by-test (a .wrong) (a .l) (now (a .list))) (eq-eqb (a .wrong) 0 (c .before .if1 .left)))
 
 pub judge-by-spec : {M : Type 1} → statement M
-judge-by-spec = tie.close (tie.spec refused-requires returns judge-list-requires returns-2)
+judge-by-spec = tie.close (tie.spec (λ c κs. search needs) returns judge-list-requires returns-2)

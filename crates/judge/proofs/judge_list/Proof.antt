@@ -19,18 +19,6 @@ whole : (c : tie.Else1) → let list = now (c .before .before .before .args .lis
     (length list / 8 ≤ first (faulty list) 0 (length list / 8)) × (t .taken ≡ done list .taken) × (t .given ≡ done list .given)
 whole c = tally-whole _ (c .before .tally .result) (c .before .tally .ensures) (c .if1 .left)
 
-tally-requires : tie.Need-tally-requires
-tally-requires c κs = search needs
-
-decode-requires : tie.Need-decode-requires
-decode-requires c κs = search needs
-
-fault-requires : tie.Need-fault-requires
-fault-requires c κs = search needs
-
-refused-requires : tie.Need-refused-requires
-refused-requires c κs = search needs
-
 returns : tie.Need-returns
 returns c =
     let d = c .before .before .before .before in
@@ -48,12 +36,6 @@ mul-if2 c =
     let w = whole (c .before) in
     omega (arith, count-le (λ k. takes (instructionAt list k)) (length list / 8))
 
-shortage-requires : tie.Need-shortage-requires
-shortage-requires c κs = search needs
-
-refused-requires-2 : tie.Need-refused-requires-2
-refused-requires-2 c κs = search needs
-
 returns-2 : tie.Need-returns-2
 returns-2 c =
     let e = c .before .before .before .before .before in
@@ -68,12 +50,6 @@ mul-if3 c =
     let list = now (c .before .before .before .before .before .before .before .args .list) in
     let w = whole (c .before .before .before .before) in
     omega (arith, count-le (λ k. gives (instructionAt list k)) (length list / 8))
-
-shortage-requires-2 : tie.Need-shortage-requires-2
-shortage-requires-2 c κs = search needs
-
-refused-requires-3 : tie.Need-refused-requires-3
-refused-requires-3 c κs = search needs
 
 returns-3 : tie.Need-returns-3
 returns-3 c =
@@ -100,17 +76,17 @@ pub judge-list-spec : {M : Type 1} → statement M
 judge-list-spec =
     tie.close
     (tie.spec
-    tally-requires
-    decode-requires
-    fault-requires
-    refused-requires
+    (λ c κs. search needs)
+    (λ c κs. search needs)
+    (λ c κs. search needs)
+    (λ c κs. search needs)
     returns
     mul-if2
-    shortage-requires
-    refused-requires-2
+    (λ c κs. search needs)
+    (λ c κs. search needs)
     returns-2
     mul-if3
-    shortage-requires-2
-    refused-requires-3
+    (λ c κs. search needs)
+    (λ c κs. search needs)
     returns-3
     returns-4)

@@ -9,9 +9,6 @@ use borrow.Author.Needs.{needs}
 use Rattle.judge.proofs.judge_step.Statement.{statement}
 use Rattle.judge.proofs.judge_step.Tie as tie
 
-step-fault-requires : tie.Need-step-fault-requires
-step-fault-requires c κs = search needs
-
 judge-by-requires : tie.Need-judge-by-requires
 judge-by-requires c κs =
     let a = c .before .before .args in
@@ -24,4 +21,4 @@ returns c =
     c .judge-by .ensures ∙ ap (λ (n : ℕ). orElse (refusal n 0) (judgedList (a .l) (now (a .instruction)))) (c .before .step-fault .ensures)
 
 pub judge-step-spec : {M : Type 1} → statement M
-judge-step-spec = tie.close (tie.spec step-fault-requires judge-by-requires returns)
+judge-step-spec = tie.close (tie.spec (λ c κs. search needs) judge-by-requires returns)

@@ -4,15 +4,9 @@ use Rattle.library.proofs.LeftLaws.{difference-small, difference-left}
 use Rattle.library.proofs.staran_difference_list.Statement.{statement}
 use Rattle.library.proofs.staran_difference_list.Tie as tie
 
-difference-list-requires : tie.Need-difference-list-requires
-difference-list-requires c κs = search needs
-
 two-requires : tie.Need-two-requires
 two-requires c κs =
     difference-small _ _ _ _ _ _ (c .before .before .difference-list .ensures)
-
-same-length : tie.Need-same-length
-same-length c = search needs
 
 returns : tie.Need-returns
 returns c =
@@ -20,4 +14,4 @@ returns c =
 
 pub staran-difference-list-spec : {M : Type 1} → statement M
 staran-difference-list-spec =
-    tie.close (tie.spec difference-list-requires two-requires same-length returns)
+    tie.close (tie.spec (λ c κs. search needs) two-requires (λ c. search needs) returns)

@@ -4,15 +4,9 @@ use Rattle.library.proofs.LeftLaws.{read-small, read-left}
 use Rattle.library.proofs.staran_read_content.Statement.{statement}
 use Rattle.library.proofs.staran_read_content.Tie as tie
 
-read-content-requires : tie.Need-read-content-requires
-read-content-requires c κs = search needs
-
 three-requires : tie.Need-three-requires
 three-requires c κs =
     read-small _ _ _ _ (c .before .before .read-content .ensures)
-
-same-length : tie.Need-same-length
-same-length c = search needs
 
 returns : tie.Need-returns
 returns c =
@@ -20,4 +14,4 @@ returns c =
 
 pub staran-read-content-spec : {M : Type 1} → statement M
 staran-read-content-spec =
-    tie.close (tie.spec read-content-requires three-requires same-length returns)
+    tie.close (tie.spec (λ c κs. search needs) three-requires (λ c. search needs) returns)

@@ -4,18 +4,9 @@ use Rattle.library.proofs.LeftLaws.{read-picture-small, read-picture-le
 use Rattle.library.proofs.staran_read_picture.Statement.{statement}
 use Rattle.library.proofs.staran_read_picture.Tie as tie
 
-read-picture-requires : tie.Need-read-picture-requires
-read-picture-requires c κs = search needs
-
 three-requires : tie.Need-three-requires
 three-requires c κs =
     read-picture-small _ _ _ _ _ (c .before .before .before .before .read-picture .ensures)
-
-same-length : tie.Need-same-length
-same-length c = search needs
-
-same-length-2 : tie.Need-same-length-2
-same-length-2 c = search needs
 
 returns : tie.Need-returns
 returns c =
@@ -23,4 +14,4 @@ returns c =
 
 pub staran-read-picture-spec : {M : Type 1} → statement M
 staran-read-picture-spec =
-    tie.close (tie.spec read-picture-requires three-requires same-length same-length-2 returns)
+    tie.close (tie.spec (λ c κs. search needs) three-requires (λ c. search needs) (λ c. search needs) returns)

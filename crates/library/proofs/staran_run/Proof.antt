@@ -4,21 +4,9 @@ use Rattle.library.proofs.LeftLaws.{ran-small, run-left}
 use Rattle.library.proofs.staran_run.Statement.{statement}
 use Rattle.library.proofs.staran_run.Tie as tie
 
-run-requires : tie.Need-run-requires
-run-requires c κs = search needs
-
 five-requires : tie.Need-five-requires
 five-requires c κs =
     ran-small _ _ (c .before .before .before .before .before .before .run .ensures)
-
-same-length : tie.Need-same-length
-same-length c = search needs
-
-same-length-2 : tie.Need-same-length-2
-same-length-2 c = search needs
-
-same-length-3 : tie.Need-same-length-3
-same-length-3 c = search needs
 
 returns : tie.Need-returns
 returns c =
@@ -26,4 +14,4 @@ returns c =
 
 pub staran-run-spec : {M : Type 1} → statement M
 staran-run-spec =
-    tie.close (tie.spec run-requires five-requires same-length same-length-2 same-length-3 returns)
+    tie.close (tie.spec (λ c κs. search needs) five-requires (λ c. search needs) (λ c. search needs) (λ c. search needs) returns)

@@ -4,15 +4,9 @@ use Rattle.library.proofs.LeftLaws.{sum-small, sum-left}
 use Rattle.library.proofs.staran_sum_list.Statement.{statement}
 use Rattle.library.proofs.staran_sum_list.Tie as tie
 
-sum-list-requires : tie.Need-sum-list-requires
-sum-list-requires c κs = search needs
-
 two-requires : tie.Need-two-requires
 two-requires c κs =
     sum-small _ _ _ _ _ _ (c .before .before .sum-list .ensures)
-
-same-length : tie.Need-same-length
-same-length c = search needs
 
 returns : tie.Need-returns
 returns c =
@@ -20,4 +14,4 @@ returns c =
 
 pub staran-sum-list-spec : {M : Type 1} → statement M
 staran-sum-list-spec =
-    tie.close (tie.spec sum-list-requires two-requires same-length returns)
+    tie.close (tie.spec (λ c κs. search needs) two-requires (λ c. search needs) returns)

@@ -4,16 +4,10 @@ use Rattle.library.proofs.LeftLaws.{pass-left}
 use Rattle.library.proofs.staran_wired_pass.Statement.{statement}
 use Rattle.library.proofs.staran_wired_pass.Tie as tie
 
-wired-pass-requires : tie.Need-wired-pass-requires
-wired-pass-requires c κs = search needs
-
-cast-t8 : tie.Need-cast-t8
-cast-t8 c = search needs
-
 returns : tie.Need-returns
 returns c =
     pass-left _ _ _ _ (c .before .before .before .wired-pass .ensures)
 
 pub staran-wired-pass-spec : {M : Type 1} → statement M
 staran-wired-pass-spec =
-    tie.close (tie.spec wired-pass-requires cast-t8 returns)
+    tie.close (tie.spec (λ c κs. search needs) (λ c. search needs) returns)

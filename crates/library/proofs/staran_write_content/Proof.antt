@@ -4,15 +4,9 @@ use Rattle.library.proofs.LeftLaws.{write-small, write-left}
 use Rattle.library.proofs.staran_write_content.Statement.{statement}
 use Rattle.library.proofs.staran_write_content.Tie as tie
 
-write-content-requires : tie.Need-write-content-requires
-write-content-requires c κs = search needs
-
 three-requires : tie.Need-three-requires
 three-requires c κs =
     write-small _ _ _ _ (c .before .before .write-content .ensures)
-
-same-length : tie.Need-same-length
-same-length c = search needs
 
 returns : tie.Need-returns
 returns c =
@@ -20,4 +14,4 @@ returns c =
 
 pub staran-write-content-spec : {M : Type 1} → statement M
 staran-write-content-spec =
-    tie.close (tie.spec write-content-requires three-requires same-length returns)
+    tie.close (tie.spec (λ c κs. search needs) three-requires (λ c. search needs) returns)

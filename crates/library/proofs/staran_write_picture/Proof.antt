@@ -4,15 +4,9 @@ use Rattle.library.proofs.LeftLaws.{write-picture-small, write-picture-
 use Rattle.library.proofs.staran_write_picture.Statement.{statement}
 use Rattle.library.proofs.staran_write_picture.Tie as tie
 
-write-picture-requires : tie.Need-write-picture-requires
-write-picture-requires c κs = search needs
-
 three-requires : tie.Need-three-requires
 three-requires c κs =
     write-picture-small _ _ _ _ _ (c .before .before .write-picture .ensures)
-
-same-length : tie.Need-same-length
-same-length c = search needs
 
 returns : tie.Need-returns
 returns c =
@@ -20,4 +14,4 @@ returns c =
 
 pub staran-write-picture-spec : {M : Type 1} → statement M
 staran-write-picture-spec =
-    tie.close (tie.spec write-picture-requires three-requires same-length returns)
+    tie.close (tie.spec (λ c κs. search needs) three-requires (λ c. search needs) returns)

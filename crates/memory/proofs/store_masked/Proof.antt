@@ -13,27 +13,6 @@ use borrow.Author.Needs.{needs}
 use Rattle.memory.proofs.store_masked.Statement.{statement}
 use Rattle.memory.proofs.store_masked.Tie as tie
 
-masked-requires : tie.Need-masked-requires
-masked-requires c κs = search needs
-
-spread-requires : tie.Need-spread-requires
-spread-requires c κs = search needs
-
-kept-requires : tie.Need-kept-requires
-kept-requires c κs = search needs
-
-slice-aggregate-write-all : tie.Need-slice-aggregate-write-all
-slice-aggregate-write-all c = search needs
-
-slice-aggregate-write-all-2 : tie.Need-slice-aggregate-write-all-2
-slice-aggregate-write-all-2 c = search needs
-
-write-all-requires : tie.Need-write-all-requires
-write-all-requires c κs = search needs
-
-same-length : tie.Need-same-length
-same-length c = search needs
-
 returns : tie.Need-returns
 returns c =
     let s = c .before .before .before .before .before .before .before .before .before .before .before in
@@ -58,11 +37,11 @@ pub store-masked-spec : {M : Type 1} → statement M
 store-masked-spec =
     tie.close
     (tie.spec
-    masked-requires
-    spread-requires
-    kept-requires
-    slice-aggregate-write-all
-    slice-aggregate-write-all-2
-    write-all-requires
-    same-length
+    (λ c κs. search needs)
+    (λ c κs. search needs)
+    (λ c κs. search needs)
+    (λ c. search needs)
+    (λ c. search needs)
+    (λ c κs. search needs)
+    (λ c. search needs)
     returns)

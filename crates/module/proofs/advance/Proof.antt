@@ -13,20 +13,11 @@ lent c =
     let a = c .before .before .before .before .before .args in
     record { memory = now (a .mem); registers = a .r; list = now (a .instruction); items = now (a .items); out = now (a .out) }
 
-judge-step-requires : tie.Need-judge-step-requires
-judge-step-requires c κs = search needs
-
 run-list-requires : tie.Need-run-list-requires
 run-list-requires c κs =
     let t = c .before .before in
     let j = t .before .before in
     instruction-accepted (lent j) (j .judge-step .result) (j .judge-step .ensures) (t .if1 .taken)
-
-same-length : tie.Need-same-length
-same-length c = search needs
-
-same-length-2 : tie.Need-same-length-2
-same-length-2 c = search needs
 
 returns : tie.Need-returns
 returns c =
@@ -42,4 +33,4 @@ returns-2 c =
 pub advance-spec : {M : Type 1} → statement M
 advance-spec =
     tie.close
-    (tie.spec judge-step-requires run-list-requires same-length same-length-2 returns returns-2)
+    (tie.spec (λ c κs. search needs) run-list-requires (λ c. search needs) (λ c. search needs) returns returns-2)

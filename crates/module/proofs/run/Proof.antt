@@ -19,9 +19,6 @@ lent c =
 done : (c : tie.Then1) → c .before .before .judge .result .number ≡ 0
 done c = let j = c .before .before .judge in steps-done (lent (c .before .before)) (j .result) (j .ensures) (c .if1 .taken)
 
-judge-requires : tie.Need-judge-requires
-judge-requires c κs = search needs
-
 registers-of-requires : tie.Need-registers-of-requires
 registers-of-requires c κs =
     let t = c .before in
@@ -39,15 +36,6 @@ write-registers-requires c κs =
     let t = c .before .before .before .before .before .before .before .before .before .before .before in
     let j = t .before .before .judge in
     registers-long (lent (t .before .before)) (j .result) (j .ensures) (done t)
-
-same-length : tie.Need-same-length
-same-length c = search needs
-
-same-length-2 : tie.Need-same-length-2
-same-length-2 c = search needs
-
-same-length-3 : tie.Need-same-length-3
-same-length-3 c = search needs
 
 returns : tie.Need-returns
 returns c =
@@ -67,12 +55,12 @@ pub run-spec : {M : Type 1} → statement M
 run-spec =
     tie.close
     (tie.spec
-    judge-requires
+    (λ c κs. search needs)
     registers-of-requires
     run-list-requires
     write-registers-requires
-    same-length
-    same-length-2
-    same-length-3
+    (λ c. search needs)
+    (λ c. search needs)
+    (λ c. search needs)
     returns
     returns-2)

@@ -64,12 +64,6 @@ loop-again c =
       more-run (now (a .list)) (now (a .items)) (l .k) _ e old _ (d .act .ensures) (begun (lent (now (a .mem)) (a .r) (now (a .list)) (now (a .items)) (now (a .out))) (a .r)) (l .inv .5),
     )
 
-same-length : tie.Need-same-length Inv-loop μ-loop
-same-length c = search needs
-
-same-length-2 : tie.Need-same-length-2 Inv-loop μ-loop
-same-length-2 c = search needs
-
 returns : tie.Need-returns Inv-loop μ-loop
 returns c =
     let l = c .before .loop in
@@ -89,6 +83,6 @@ run-list-spec =
     add-k
     loop-less
     loop-again
-    same-length
-    same-length-2
+    (λ c. search needs)
+    (λ c. search needs)
     returns)

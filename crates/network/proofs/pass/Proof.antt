@@ -5,9 +5,6 @@ use Rattle.network.proofs.AnswerLaws.{given, refused}
 use Rattle.network.proofs.pass.Statement.{statement}
 use Rattle.network.proofs.pass.Tie as tie
 
-is-code-requires : tie.Need-is-code-requires
-is-code-requires c κs = search needs
-
 pass-item-requires : tie.Need-pass-item-requires
 pass-item-requires c κs = sym (c .before .is-code .ensures) ∙ c .if1 .taken
 
@@ -18,4 +15,4 @@ returns-2 : tie.Need-returns-2
 returns-2 c = refused _ _ _ (sym (c .before .is-code .ensures) ∙ c .if1 .left)
 
 pub pass-spec : {M : Type 1} → statement M
-pass-spec = tie.close (tie.spec is-code-requires pass-item-requires returns returns-2)
+pass-spec = tie.close (tie.spec (λ c κs. search needs) pass-item-requires returns returns-2)

@@ -7,9 +7,6 @@ use Rattle.network.proofs.AnswerLaws.{flip-shift, flip-none}
 use Rattle.network.proofs.pass_item.Statement.{statement}
 use Rattle.network.proofs.pass_item.Tie as tie
 
-flipped-requires : tie.Need-flipped-requires
-flipped-requires c κs = search needs
-
 returns : tie.Need-returns
 returns c =
     let a = c .before .before .args in
@@ -28,4 +25,4 @@ returns-2 c =
     ∙ flip-shift (now (s .args .lines)) _ (s .args .flip) (s .args .code) (s .fits .code .fits) (s .pre) (c .before .before .before .flipped .ensures)
 
 pub pass-item-spec : {M : Type 1} → statement M
-pass-item-spec = tie.close (tie.spec flipped-requires returns shift-requires returns-2)
+pass-item-spec = tie.close (tie.spec (λ c κs. search needs) returns shift-requires returns-2)

@@ -7,16 +7,10 @@ use Rattle.network.specs.Answer.{passedItem}
 use Rattle.network.proofs.pass_part.Statement.{statement}
 use Rattle.network.proofs.pass_part.Tie as tie
 
-item-of-requires : tie.Need-item-of-requires
-item-of-requires c κs = search needs
-
-pass-item-requires : tie.Need-pass-item-requires
-pass-item-requires c κs = search needs
-
 returns : tie.Need-returns
 returns c =
     let a = c .before .before .before .before .args in
     c .pass-item .ensures ∙ ap (λ (l : List ℕ). passedItem l (a .flip) (a .code)) (c .before .before .item-of .ensures)
 
 pub pass-part-spec : {M : Type 1} → statement M
-pass-part-spec = tie.close (tie.spec item-of-requires pass-item-requires returns)
+pass-part-spec = tie.close (tie.spec (λ c κs. search needs) (λ c κs. search needs) returns)

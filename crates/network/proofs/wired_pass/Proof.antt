@@ -4,15 +4,6 @@ use Rattle.network.proofs.AnswerLaws.{found-permitted, lost-refused, gi
 use Rattle.network.proofs.wired_pass.Statement.{statement}
 use Rattle.network.proofs.wired_pass.Tie as tie
 
-find-requires : tie.Need-find-requires
-find-requires c κs = search needs
-
-signal-table-requires : tie.Need-signal-table-requires
-signal-table-requires c κs = search needs
-
-wired-item-requires : tie.Need-wired-item-requires
-wired-item-requires c κs = search needs
-
 returns : tie.Need-returns
 returns c =
     let t = c .before .before .before .before in
@@ -26,4 +17,4 @@ returns-2 c = refused _ _ _ (lost-refused (c .before .before .args .code) (c .be
 
 pub wired-pass-spec : {M : Type 1} → statement M
 wired-pass-spec =
-    tie.close (tie.spec find-requires signal-table-requires wired-item-requires returns returns-2)
+    tie.close (tie.spec (λ c κs. search needs) (λ c κs. search needs) (λ c κs. search needs) returns returns-2)

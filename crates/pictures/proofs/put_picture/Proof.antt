@@ -23,24 +23,6 @@ loop-holds : tie.Need-loop-holds Inv-loop μ-loop
 unfolding written
 loop-holds c = (omega arith, refl, refl)
 
-words-out-requires : tie.Need-words-out-requires Inv-loop μ-loop
-words-out-requires c κs = search needs
-
-slice-aggregate-put-part : tie.Need-slice-aggregate-put-part Inv-loop μ-loop
-slice-aggregate-put-part c = search needs
-
-mul-put-part : tie.Need-mul-put-part Inv-loop μ-loop
-mul-put-part c = search needs
-
-put-part-requires : tie.Need-put-part-requires Inv-loop μ-loop
-put-part-requires c κs = search needs
-
-add-v : tie.Need-add-v Inv-loop μ-loop
-add-v c = search needs
-
-loop-less : tie.Need-loop-less Inv-loop μ-loop
-loop-less c = search needs
-
 loop-again : tie.Need-loop-again Inv-loop μ-loop
 loop-again c =
     let l = c .before .before .before .before .before .before .before .loop in
@@ -51,15 +33,6 @@ loop-again c =
       p .kept .1 .1 .0 ∙ l .inv .1,
       p .ensures ∙ words-laid (plainWords (now (a .memory))) (now (a .out)) (l .out) (w .result) (l .v) (omega (arith, length-plain (now (a .memory)))) (l .inv .2) (w .ensures),
     )
-
-put-part-requires-2 : tie.Need-put-part-requires-2 Inv-loop μ-loop
-put-part-requires-2 c κs = search needs
-
-seal-all-requires : tie.Need-seal-all-requires Inv-loop μ-loop
-seal-all-requires c κs = search needs
-
-same-length : tie.Need-same-length Inv-loop μ-loop
-same-length c = search needs
 
 returns : tie.Need-returns Inv-loop μ-loop
 returns c =
@@ -82,14 +55,14 @@ put-picture-spec =
     Inv-loop
     μ-loop
     loop-holds
-    words-out-requires
-    slice-aggregate-put-part
-    mul-put-part
-    put-part-requires
-    add-v
-    loop-less
+    (λ c κs. search needs)
+    (λ c. search needs)
+    (λ c. search needs)
+    (λ c κs. search needs)
+    (λ c. search needs)
+    (λ c. search needs)
     loop-again
-    put-part-requires-2
-    seal-all-requires
-    same-length
+    (λ c κs. search needs)
+    (λ c κs. search needs)
+    (λ c. search needs)
     returns)

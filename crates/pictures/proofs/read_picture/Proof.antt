@@ -28,21 +28,12 @@ judged-ok c =
     let j = c .before .before .before .judge-file in
     picture-judged (a .kind) (now (a .bytes)) (lengths c .0) (sym (ap (λ x. x .number) (j .ensures)) ∙ c .before .before .if1 .left)
 
-judge-file-requires : tie.Need-judge-file-requires
-judge-file-requires c κs = search needs
-
 returns : tie.Need-returns
 unfolding pictureRead
 returns c =
     let a = c .before .before .before .before .before .args in
     let j = c .before .judge-file in
     both-old (j .result) _ _ _ _ _ (read-refused (a .kind) (now (a .bytes)) _ (j .result) (j .ensures) (c .if1 .taken)) (c .if1 .taken)
-
-picture-fits-requires : tie.Need-picture-fits-requires
-picture-fits-requires c κs = search needs
-
-refused-requires : tie.Need-refused-requires
-refused-requires c κs = search needs
 
 returns-2 : tie.Need-returns-2
 unfolding pictureRead
@@ -59,12 +50,6 @@ unload-picture-requires c κs =
     let e = c .before .before in
     (judged-ok e, lengths e .1, lengths e .2)
 
-same-length : tie.Need-same-length
-same-length c = search needs
-
-same-length-2 : tie.Need-same-length-2
-same-length-2 c = search needs
-
 returns-3 : tie.Need-returns-3
 unfolding pictureRead
 returns-3 c =
@@ -79,12 +64,12 @@ pub read-picture-spec : {M : Type 1} → statement M
 read-picture-spec =
     tie.close
     (tie.spec
-    judge-file-requires
+    (λ c κs. search needs)
     returns
-    picture-fits-requires
-    refused-requires
+    (λ c κs. search needs)
+    (λ c κs. search needs)
     returns-2
     unload-picture-requires
-    same-length
-    same-length-2
+    (λ c. search needs)
+    (λ c. search needs)
     returns-3)

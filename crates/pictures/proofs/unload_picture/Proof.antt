@@ -31,29 +31,11 @@ loop-holds c =
     let s = c .before .before .before in
     (omega arith, s .pre .1, words-start (contentOf (now (s .args .bytes))) (now (s .args .memory)) (s .pre .1) (λ i. c .before .slice-known .given i .fits))
 
-mul-part-of : tie.Need-mul-part-of Inv-loop μ-loop
-mul-part-of c = search needs
-
-slice-aggregate-part-of : tie.Need-slice-aggregate-part-of Inv-loop μ-loop
-slice-aggregate-part-of c = search needs
-
 part-of-requires : tie.Need-part-of-requires Inv-loop μ-loop
 part-of-requires c κs =
     let s = c .before .before .before .before .before .before in
     let b = now (s .args .bytes) in
     payloads-room 1 b (picture-stands b (s .pre .0)) _ (omega (arith, picture-size b (s .pre .0)))
-
-slice-aggregate-words-in : tie.Need-slice-aggregate-words-in Inv-loop μ-loop
-slice-aggregate-words-in c = search needs
-
-words-in-requires : tie.Need-words-in-requires Inv-loop μ-loop
-words-in-requires c κs = search needs
-
-add-v : tie.Need-add-v Inv-loop μ-loop
-add-v c = search needs
-
-loop-less : tie.Need-loop-less Inv-loop μ-loop
-loop-less c = search needs
 
 loop-again : tie.Need-loop-again Inv-loop μ-loop
 loop-again c =
@@ -76,12 +58,6 @@ part-of-requires-2 c κs =
     let s = c .before .before .before .before .before .before in
     let b = now (s .args .bytes) in
     payloads-room 1 b (picture-stands b (s .pre .0)) _ (omega (arith, picture-size b (s .pre .0)))
-
-same-length : tie.Need-same-length Inv-loop μ-loop
-same-length c = search needs
-
-same-length-2 : tie.Need-same-length-2 Inv-loop μ-loop
-same-length-2 c = search needs
 
 returns : tie.Need-returns Inv-loop μ-loop
 returns c =
@@ -108,15 +84,15 @@ unload-picture-spec =
     Inv-loop
     μ-loop
     loop-holds
-    mul-part-of
-    slice-aggregate-part-of
+    (λ c. search needs)
+    (λ c. search needs)
     part-of-requires
-    slice-aggregate-words-in
-    words-in-requires
-    add-v
-    loop-less
+    (λ c. search needs)
+    (λ c κs. search needs)
+    (λ c. search needs)
+    (λ c. search needs)
     loop-again
     part-of-requires-2
-    same-length
-    same-length-2
+    (λ c. search needs)
+    (λ c. search needs)
     returns)

@@ -27,12 +27,6 @@ lengths c =
     let a = c .before .before .before .before .before .before .before .args in
     fits-are (a .kind) (length (now (a .memory))) (length (now (a .registers))) (fits-ok c)
 
-kind-right-requires : tie.Need-kind-right-requires
-kind-right-requires c κs = search needs
-
-refused-requires : tie.Need-refused-requires
-refused-requires c κs = search needs
-
 returns : tie.Need-returns
 unfolding pictureWritten
 returns c =
@@ -40,12 +34,6 @@ returns c =
     let r = c .refused in
     left-old (r .result) _ _ _ (r .ensures ∙ write-22 (a .kind) _ _ _ (sym (c .before .before .kind-right .ensures) ∙ not-true _ (c .before .if1 .taken)))
     (refused-not (r .result) 22 0 (r .ensures) (λ x. omega arith))
-
-picture-fits-requires : tie.Need-picture-fits-requires
-picture-fits-requires c κs = search needs
-
-refused-requires-2 : tie.Need-refused-requires-2
-refused-requires-2 c κs = search needs
 
 returns-2 : tie.Need-returns-2
 unfolding pictureWritten
@@ -55,9 +43,6 @@ returns-2 c =
     let f : pictureFits (a .kind) (length (now (a .memory))) (length (now (a .registers))) ≡ false = sym (c .before .before .picture-fits .ensures) ∙ not-true _ (c .before .if2 .taken) in
     left-old (r .result) _ _ _ (r .ensures ∙ write-26 (a .kind) _ _ _ (kind-ok (c .before .before .before)) f)
     (refused-not (r .result) 26 0 (r .ensures) (λ x. omega arith))
-
-refused-requires-3 : tie.Need-refused-requires-3
-refused-requires-3 c κs = search needs
 
 returns-3 : tie.Need-returns-3
 unfolding pictureWritten
@@ -71,12 +56,6 @@ put-picture-requires : tie.Need-put-picture-requires
 put-picture-requires c κs =
     let n = lengths (c .before .before) in
     (n .1, n .2, c .before .if3 .left)
-
-done-requires : tie.Need-done-requires
-done-requires c κs = search needs
-
-same-length : tie.Need-same-length
-same-length c = search needs
 
 returns-4 : tie.Need-returns-4
 unfolding pictureWritten
@@ -93,15 +72,15 @@ pub write-picture-spec : {M : Type 1} → statement M
 write-picture-spec =
     tie.close
     (tie.spec
-    kind-right-requires
-    refused-requires
+    (λ c κs. search needs)
+    (λ c κs. search needs)
     returns
-    picture-fits-requires
-    refused-requires-2
+    (λ c κs. search needs)
+    (λ c κs. search needs)
     returns-2
-    refused-requires-3
+    (λ c κs. search needs)
     returns-3
     put-picture-requires
-    done-requires
-    same-length
+    (λ c κs. search needs)
+    (λ c. search needs)
     returns-4)

@@ -27,30 +27,6 @@ loop-holds : tie.Need-loop-holds Inv-loop μ-loop
 unfolding listed
 loop-holds c = (omega arith, refl, refl, refl, refl)
 
-array-read-old : tie.Need-array-read-old Inv-loop μ-loop
-array-read-old c = search needs
-
-element-copy-out-y-byte : tie.Need-element-copy-out-y-byte Inv-loop μ-loop
-element-copy-out-y-byte c = search needs
-
-y-byte-requires : tie.Need-y-byte-requires Inv-loop μ-loop
-y-byte-requires c κs = search needs
-
-array-read-x-byte : tie.Need-array-read-x-byte Inv-loop μ-loop
-array-read-x-byte c = search needs
-
-element-copy-out-x-byte : tie.Need-element-copy-out-x-byte Inv-loop μ-loop
-element-copy-out-x-byte c = search needs
-
-x-byte-requires : tie.Need-x-byte-requires Inv-loop μ-loop
-x-byte-requires c κs = search needs
-
-array-write-nx : tie.Need-array-write-nx Inv-loop μ-loop
-array-write-nx c = search needs
-
-array-write-ny : tie.Need-array-write-ny Inv-loop μ-loop
-array-write-ny c = search needs
-
 add-i : tie.Need-add-i Inv-loop μ-loop
 add-i c = omega arith
 
@@ -88,14 +64,14 @@ logic-spec =
     Inv-loop
     μ-loop
     loop-holds
-    array-read-old
-    element-copy-out-y-byte
-    y-byte-requires
-    array-read-x-byte
-    element-copy-out-x-byte
-    x-byte-requires
-    array-write-nx
-    array-write-ny
+    (λ c. search needs)
+    (λ c. search needs)
+    (λ c κs. search needs)
+    (λ c. search needs)
+    (λ c. search needs)
+    (λ c κs. search needs)
+    (λ c. search needs)
+    (λ c. search needs)
     add-i
     loop-less
     loop-again

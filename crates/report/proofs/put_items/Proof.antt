@@ -21,33 +21,6 @@ loop-holds : tie.Need-loop-holds Inv-loop μ-loop
 unfolding itemLines
 loop-holds c = (omega arith, refl, omega arith, none-put _ _)
 
-mul-put-item : tie.Need-mul-put-item Inv-loop μ-loop
-mul-put-item c = search needs
-
-mul-put-item-2 : tie.Need-mul-put-item-2 Inv-loop μ-loop
-mul-put-item-2 c = search needs
-
-add-put-item : tie.Need-add-put-item Inv-loop μ-loop
-add-put-item c = search needs
-
-sub-put-item : tie.Need-sub-put-item Inv-loop μ-loop
-sub-put-item c = search needs
-
-part-put-item-start : tie.Need-part-put-item-start Inv-loop μ-loop
-part-put-item-start c = search needs
-
-part-put-item-end : tie.Need-part-put-item-end Inv-loop μ-loop
-part-put-item-end c = search needs
-
-put-item-requires : tie.Need-put-item-requires Inv-loop μ-loop
-put-item-requires c κs = search needs
-
-add-k : tie.Need-add-k Inv-loop μ-loop
-add-k c = search needs
-
-loop-less : tie.Need-loop-less Inv-loop μ-loop
-loop-less c = search needs
-
 loop-again : tie.Need-loop-again Inv-loop μ-loop
 loop-again c =
     let a = c .before .before .before .before .before .before .before .before .before .args in
@@ -58,9 +31,6 @@ loop-again c =
       omega (arith, r .ensures .0),
       then-put (omega arith) (l .inv .3) (r .ensures .1) (lines-more (now (a .out)) (l .k)),
     )
-
-same-length : tie.Need-same-length Inv-loop μ-loop
-same-length c = search needs
 
 returns : tie.Need-returns Inv-loop μ-loop
 returns c =
@@ -76,15 +46,15 @@ put-items-spec =
     Inv-loop
     μ-loop
     loop-holds
-    mul-put-item
-    mul-put-item-2
-    add-put-item
-    sub-put-item
-    part-put-item-start
-    part-put-item-end
-    put-item-requires
-    add-k
-    loop-less
+    (λ c. search needs)
+    (λ c. search needs)
+    (λ c. search needs)
+    (λ c. search needs)
+    (λ c. search needs)
+    (λ c. search needs)
+    (λ c κs. search needs)
+    (λ c. search needs)
+    (λ c. search needs)
     loop-again
-    same-length
+    (λ c. search needs)
     returns)

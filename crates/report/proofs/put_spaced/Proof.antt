@@ -6,16 +6,10 @@ use native.Mathlib.Omega.{arith}
 use Rattle.report.proofs.put_spaced.Statement.{statement}
 use Rattle.report.proofs.put_spaced.Tie as tie
 
-put-requires : tie.Need-put-requires
-put-requires c κs = search needs
-
 put-decimal-requires : tie.Need-put-decimal-requires
 put-decimal-requires c κs =
     let a = c .before .before .before .before .before .before .args in
     omega (arith, c .before .before .before .put .ensures .behind, length-decimal 9 (a .n) (omega arith))
-
-same-length : tie.Need-same-length
-same-length c = search needs
 
 returns : tie.Need-returns
 returns c =
@@ -27,4 +21,4 @@ returns c =
     )
 
 pub put-spaced-spec : {M : Type 1} → statement M
-put-spaced-spec = tie.close (tie.spec put-requires put-decimal-requires same-length returns)
+put-spaced-spec = tie.close (tie.spec (λ c κs. search needs) put-decimal-requires (λ c. search needs) returns)

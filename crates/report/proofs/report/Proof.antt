@@ -7,15 +7,6 @@ use native.Mathlib.Omega.{arith}
 use Rattle.report.proofs.report.Statement.{statement}
 use Rattle.report.proofs.report.Tie as tie
 
-put-line-requires : tie.Need-put-line-requires
-put-line-requires c κs = search needs
-
-put-items-requires : tie.Need-put-items-requires
-put-items-requires c κs = search needs
-
-same-length : tie.Need-same-length
-same-length c = search needs
-
 returns : tie.Need-returns
 unfolding printed
 returns c =
@@ -26,4 +17,4 @@ returns c =
     )
 
 pub report-spec : {M : Type 1} → statement M
-report-spec = tie.close (tie.spec put-line-requires put-items-requires same-length returns)
+report-spec = tie.close (tie.spec (λ c κs. search needs) (λ c κs. search needs) (λ c. search needs) returns)

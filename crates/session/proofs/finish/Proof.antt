@@ -15,9 +15,6 @@ use Rattle.session.proofs.finish.Tie as tie
 abbrev lent : List ℕ → List ℕ → List ℕ → List ℕ → List ℕ → Lent (List ℕ)
 lent memory registers list items out = record { memory = memory; registers = registers; list = list; items = items; out = out }
 
-run-requires : tie.Need-run-requires
-run-requires c κs = search needs
-
 print-run-requires : tie.Need-print-run-requires
 print-run-requires c κs =
     let s = c .before .before .before .before .before .before .before .before .before .before .before .before .before .before .before .before .before .before .before in
@@ -29,24 +26,6 @@ print-run-requires c κs =
       l ∙ s .pre .2,
       s .pre .4,
     )
-
-keep-requires : tie.Need-keep-requires
-keep-requires c κs = search needs
-
-same-length : tie.Need-same-length
-same-length c = search needs
-
-same-length-2 : tie.Need-same-length-2
-same-length-2 c = search needs
-
-same-length-3 : tie.Need-same-length-3
-same-length-3 c = search needs
-
-same-length-4 : tie.Need-same-length-4
-same-length-4 c = search needs
-
-same-length-5 : tie.Need-same-length-5
-same-length-5 c = search needs
 
 returns : tie.Need-returns
 returns c =
@@ -62,12 +41,12 @@ pub finish-spec : {M : Type 1} → statement M
 finish-spec =
     tie.close
     (tie.spec
-    run-requires
+    (λ c κs. search needs)
     print-run-requires
-    keep-requires
-    same-length
-    same-length-2
-    same-length-3
-    same-length-4
-    same-length-5
+    (λ c κs. search needs)
+    (λ c. search needs)
+    (λ c. search needs)
+    (λ c. search needs)
+    (λ c. search needs)
+    (λ c. search needs)
     returns)

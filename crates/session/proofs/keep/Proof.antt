@@ -16,12 +16,6 @@ returns c =
     let e = sym (after-none (a .number) (now (a .memory)) (now (a .registers)) (c .if1 .taken)) in
     (omega arith, ap length e, ap (λ (x : List _). over x (now (a .after))) e)
 
-write-picture-requires : tie.Need-write-picture-requires
-write-picture-requires c κs = search needs
-
-same-length : tie.Need-same-length
-same-length c = search needs
-
 returns-2 : tie.Need-returns-2
 returns-2 c =
     let s = c .before .before .before .before .before .before .before .before in
@@ -30,4 +24,4 @@ returns-2 c =
     kept (a .number) (now (a .memory)) (now (a .registers)) (now (a .after)) (w .last .1 .1 .1 .0) (w .result) (c .before .before .before .before .if1 .left) (s .pre .0) (s .pre .1) (s .pre .2) (w .ensures)
 
 pub keep-spec : {M : Type 1} → statement M
-keep-spec = tie.close (tie.spec returns write-picture-requires same-length returns-2)
+keep-spec = tie.close (tie.spec returns (λ c κs. search needs) (λ c. search needs) returns-2)

@@ -10,21 +10,6 @@ use borrow.Author.Needs.{needs}
 use Rattle.session.proofs.print_line.Statement.{statement}
 use Rattle.session.proofs.print_line.Tie as tie
 
-cast-report : tie.Need-cast-report
-cast-report c = search needs
-
-cast-report-2 : tie.Need-cast-report-2
-cast-report-2 c = search needs
-
-slice-aggregate-report : tie.Need-slice-aggregate-report
-slice-aggregate-report c = search needs
-
-report-requires : tie.Need-report-requires
-report-requires c κs = search needs
-
-same-length : tie.Need-same-length
-same-length c = search needs
-
 returns : tie.Need-returns
 returns c =
     let a = c .before .before .before .before .before .before .before .before .args in
@@ -41,4 +26,4 @@ returns c =
 pub print-line-spec : {M : Type 1} → statement M
 print-line-spec =
     tie.close
-    (tie.spec cast-report cast-report-2 slice-aggregate-report report-requires same-length returns)
+    (tie.spec (λ c. search needs) (λ c. search needs) (λ c. search needs) (λ c κs. search needs) (λ c. search needs) returns)

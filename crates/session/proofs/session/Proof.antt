@@ -17,18 +17,6 @@ use Rattle.session.proofs.session.Tie as tie
 abbrev start : tie.After-take-picture → tie.Start
 start c = c .before .before .before .before .before .before .before .before .before
 
-blank-requires : tie.Need-blank-requires
-blank-requires c κs = search needs
-
-slice-aggregate-take-picture : tie.Need-slice-aggregate-take-picture
-slice-aggregate-take-picture c = search needs
-
-slice-aggregate-take-picture-2 : tie.Need-slice-aggregate-take-picture-2
-slice-aggregate-take-picture-2 c = search needs
-
-take-picture-requires : tie.Need-take-picture-requires
-take-picture-requires c κs = search needs
-
 print-line-requires : tie.Need-print-line-requires
 print-line-requires c κs =
     let t = c .before .before .before .before .before in
@@ -37,9 +25,6 @@ print-line-requires c κs =
       place-small (refused 20 0) 8704 1 (fileOf (a .p) (now (a .picture))) (r .result) (r .ensures .0) refl (omega arith),
       omega (arith, start t .pre .1),
     )
-
-same-length : tie.Need-same-length
-same-length c = search needs
 
 returns : tie.Need-returns
 unfolding outcome
@@ -51,21 +36,6 @@ returns c =
     let p = c .before .before .print-line in
     line-shown 112 (r .result) _ _ (p .result) (now (a .text)) _ (now (a .after))
     (r .ensures .0) (n .if1 .taken) (p .ensures)
-
-slice-aggregate-with-list : tie.Need-slice-aggregate-with-list
-slice-aggregate-with-list c = search needs
-
-slice-aggregate-with-list-2 : tie.Need-slice-aggregate-with-list-2
-slice-aggregate-with-list-2 c = search needs
-
-with-list-requires : tie.Need-with-list-requires
-with-list-requires c κs = search needs
-
-same-length-2 : tie.Need-same-length-2
-same-length-2 c = search needs
-
-same-length-3 : tie.Need-same-length-3
-same-length-3 c = search needs
 
 returns-2 : tie.Need-returns-2
 unfolding outcome
@@ -85,16 +55,16 @@ pub session-spec : {M : Type 1} → statement M
 session-spec =
     tie.close
     (tie.spec
-    blank-requires
-    slice-aggregate-take-picture
-    slice-aggregate-take-picture-2
-    take-picture-requires
+    (λ c κs. search needs)
+    (λ c. search needs)
+    (λ c. search needs)
+    (λ c κs. search needs)
     print-line-requires
-    same-length
+    (λ c. search needs)
     returns
-    slice-aggregate-with-list
-    slice-aggregate-with-list-2
-    with-list-requires
-    same-length-2
-    same-length-3
+    (λ c. search needs)
+    (λ c. search needs)
+    (λ c κs. search needs)
+    (λ c. search needs)
+    (λ c. search needs)
     returns-2)

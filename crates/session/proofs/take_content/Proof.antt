@@ -9,24 +9,6 @@ use borrow.Author.Needs.{needs}
 use Rattle.session.proofs.take_content.Statement.{statement}
 use Rattle.session.proofs.take_content.Tie as tie
 
-enum-told : tie.Need-enum-told
-enum-told c = search needs
-
-enum-told-2 : tie.Need-enum-told-2
-enum-told-2 c = search needs
-
-unread-requires : tie.Need-unread-requires
-unread-requires c κs = search needs
-
-enum-known-found : tie.Need-enum-known-found
-enum-known-found c = search needs
-
-front-requires : tie.Need-front-requires
-front-requires c κs = search needs
-
-unread-requires-2 : tie.Need-unread-requires-2
-unread-requires-2 c κs = search needs
-
 returns : tie.Need-returns
 returns c =
     let w = c .before .before in
@@ -34,9 +16,6 @@ returns c =
     let b = now (a .buffer) in
     content-refused (a .kind) (fileOf (a .found) b) (c .unread2 .result) _ (c .unread2 .ensures)
     (found-long (done 0) 8192 (a .kind) b (w .before .before .found .given .1) (w .front .ensures) (c .before .if1 .taken))
-
-read-content-requires : tie.Need-read-content-requires
-read-content-requires c κs = search needs
 
 returns-2 : tie.Need-returns-2
 returns-2 c =
@@ -49,9 +28,6 @@ returns-3 c =
     let a = c .before .before .before .before .before .args in
     let b = now (a .buffer) in
     content-refused (a .kind) (fileOf (a .found) b) (c .unread .result) _ (c .unread .ensures) (sym (ap (λ (f : Found). contentAnswer (a .kind) (fileOf f b)) (c .before .enum-told2 .given .1)))
-
-same-length : tie.Need-same-length
-same-length c = search needs
 
 returns-4 : tie.Need-returns-4
 returns-4 c =
@@ -67,15 +43,15 @@ pub take-content-spec : {M : Type 1} → statement M
 take-content-spec =
     tie.close
     (tie.spec
-    enum-told
-    enum-told-2
-    unread-requires
-    enum-known-found
-    front-requires
-    unread-requires-2
+    (λ c. search needs)
+    (λ c. search needs)
+    (λ c κs. search needs)
+    (λ c. search needs)
+    (λ c κs. search needs)
+    (λ c κs. search needs)
     returns
-    read-content-requires
+    (λ c κs. search needs)
     returns-2
     returns-3
-    same-length
+    (λ c. search needs)
     returns-4)

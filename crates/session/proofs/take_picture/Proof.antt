@@ -9,27 +9,6 @@ use borrow.Author.Needs.{needs}
 use Rattle.session.proofs.take_picture.Statement.{statement}
 use Rattle.session.proofs.take_picture.Tie as tie
 
-enum-told : tie.Need-enum-told
-enum-told c = search needs
-
-unread-requires : tie.Need-unread-requires
-unread-requires c κs = search needs
-
-enum-told-2 : tie.Need-enum-told-2
-enum-told-2 c = search needs
-
-unread-requires-2 : tie.Need-unread-requires-2
-unread-requires-2 c κs = search needs
-
-enum-known-found : tie.Need-enum-known-found
-enum-known-found c = search needs
-
-front-requires : tie.Need-front-requires
-front-requires c κs = search needs
-
-unread-requires-3 : tie.Need-unread-requires-3
-unread-requires-3 c κs = search needs
-
 returns : tie.Need-returns
 returns c =
     let w = c .before .before in
@@ -37,9 +16,6 @@ returns c =
     let b = now (a .buffer) in
     picture-refused (fileOf (a .found) b) (c .unread3 .result) (now (a .memory)) (now (a .registers)) (c .unread3 .ensures)
     (found-long (refused 20 0) 8704 1 b (w .before .before .found .given .1) (w .front .ensures) (c .before .if1 .taken))
-
-read-picture-requires : tie.Need-read-picture-requires
-read-picture-requires c κs = search needs
 
 returns-2 : tie.Need-returns-2
 returns-2 c =
@@ -52,12 +28,6 @@ returns-3 c =
     let a = c .before .before .before .before .before .before .args in
     let b = now (a .buffer) in
     picture-refused (fileOf (a .found) b) (c .unread2 .result) (now (a .memory)) (now (a .registers)) (c .unread2 .ensures) (sym (ap (λ (f : Found). pictureAnswer (fileOf f b)) (c .before .enum-told2 .given .1)))
-
-same-length : tie.Need-same-length
-same-length c = search needs
-
-same-length-2 : tie.Need-same-length-2
-same-length-2 c = search needs
 
 returns-4 : tie.Need-returns-4
 returns-4 c =
@@ -73,17 +43,17 @@ pub take-picture-spec : {M : Type 1} → statement M
 take-picture-spec =
     tie.close
     (tie.spec
-    enum-told
-    unread-requires
-    enum-told-2
-    unread-requires-2
-    enum-known-found
-    front-requires
-    unread-requires-3
+    (λ c. search needs)
+    (λ c κs. search needs)
+    (λ c. search needs)
+    (λ c κs. search needs)
+    (λ c. search needs)
+    (λ c κs. search needs)
+    (λ c κs. search needs)
     returns
-    read-picture-requires
+    (λ c κs. search needs)
     returns-2
     returns-3
-    same-length
-    same-length-2
+    (λ c. search needs)
+    (λ c. search needs)
     returns-4)

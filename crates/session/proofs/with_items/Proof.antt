@@ -18,15 +18,6 @@ use Rattle.session.proofs.with_items.Tie as tie
 abbrev start : tie.After-take-content → tie.Start
 start c = c .before .before .before .before .before .before .before .before .before
 
-blank-requires : tie.Need-blank-requires
-blank-requires c κs = search needs
-
-slice-aggregate-take-content : tie.Need-slice-aggregate-take-content
-slice-aggregate-take-content c = search needs
-
-take-content-requires : tie.Need-take-content-requires
-take-content-requires c κs = search needs
-
 print-line-requires : tie.Need-print-line-requires
 print-line-requires c κs =
     let t = c .before .before .before .before in
@@ -35,9 +26,6 @@ print-line-requires c κs =
       place-small (done 0) 8192 3 (fileOf (a .i) (now (a .items))) (r .result) (r .ensures .0) refl (omega arith),
       omega (arith, start t .pre .3),
     )
-
-same-length : tie.Need-same-length
-same-length c = search needs
 
 returns : tie.Need-returns
 unfolding withItems
@@ -50,9 +38,6 @@ returns c =
     line-shown 105 (r .result) _ _ (p .result) (now (a .text)) _ (now (a .after))
     (r .ensures .0) (n .if1 .taken) (p .ensures)
 
-blank-requires-2 : tie.Need-blank-requires-2
-blank-requires-2 c κs = search needs
-
 array-share-prefix-lent : tie.Need-array-share-prefix-lent
 array-share-prefix-lent c =
     let n = c .before .before .before in
@@ -63,24 +48,6 @@ slice-aggregate-finish c =
     let n = c .before .before .before .before in
     let r = n .before .before .before .take-content in
     sym (length-take-le (r .result .bytes) (r .last .1 .1 .1 .0) (r .ensures .1 (n .if1 .left) .0))
-
-slice-aggregate-finish-2 : tie.Need-slice-aggregate-finish-2
-slice-aggregate-finish-2 c = search needs
-
-finish-requires : tie.Need-finish-requires
-finish-requires c κs = search needs
-
-same-length-2 : tie.Need-same-length-2
-same-length-2 c = search needs
-
-same-length-3 : tie.Need-same-length-3
-same-length-3 c = search needs
-
-same-length-4 : tie.Need-same-length-4
-same-length-4 c = search needs
-
-same-length-5 : tie.Need-same-length-5
-same-length-5 c = search needs
 
 returns-2 : tie.Need-returns-2
 unfolding withItems
@@ -101,19 +68,19 @@ pub with-items-spec : {M : Type 1} → statement M
 with-items-spec =
     tie.close
     (tie.spec
-    blank-requires
-    slice-aggregate-take-content
-    take-content-requires
+    (λ c κs. search needs)
+    (λ c. search needs)
+    (λ c κs. search needs)
     print-line-requires
-    same-length
+    (λ c. search needs)
     returns
-    blank-requires-2
+    (λ c κs. search needs)
     array-share-prefix-lent
     slice-aggregate-finish
-    slice-aggregate-finish-2
-    finish-requires
-    same-length-2
-    same-length-3
-    same-length-4
-    same-length-5
+    (λ c. search needs)
+    (λ c κs. search needs)
+    (λ c. search needs)
+    (λ c. search needs)
+    (λ c. search needs)
+    (λ c. search needs)
     returns-2)

@@ -17,15 +17,6 @@ use Rattle.session.proofs.with_list.Tie as tie
 abbrev start : tie.After-take-content → tie.Start
 start c = c .before .before .before .before .before .before .before .before .before
 
-blank-requires : tie.Need-blank-requires
-blank-requires c κs = search needs
-
-slice-aggregate-take-content : tie.Need-slice-aggregate-take-content
-slice-aggregate-take-content c = search needs
-
-take-content-requires : tie.Need-take-content-requires
-take-content-requires c κs = search needs
-
 print-line-requires : tie.Need-print-line-requires
 print-line-requires c κs =
     let t = c .before .before .before .before in
@@ -34,9 +25,6 @@ print-line-requires c κs =
       place-small (done 0) 8192 2 (fileOf (a .l) (now (a .list))) (r .result) (r .ensures .0) refl (omega arith),
       omega (arith, start t .pre .3),
     )
-
-same-length : tie.Need-same-length
-same-length c = search needs
 
 returns : tie.Need-returns
 unfolding withList
@@ -60,21 +48,6 @@ slice-aggregate-with-items c =
     let r = n .before .before .before .take-content in
     sym (length-take-le (r .result .bytes) (r .last .1 .1 .1 .0) (r .ensures .1 (n .if1 .left) .0))
 
-with-items-requires : tie.Need-with-items-requires
-with-items-requires c κs = search needs
-
-same-length-2 : tie.Need-same-length-2
-same-length-2 c = search needs
-
-same-length-3 : tie.Need-same-length-3
-same-length-3 c = search needs
-
-same-length-4 : tie.Need-same-length-4
-same-length-4 c = search needs
-
-same-length-5 : tie.Need-same-length-5
-same-length-5 c = search needs
-
 returns-2 : tie.Need-returns-2
 unfolding withList
 returns-2 c =
@@ -92,17 +65,17 @@ pub with-list-spec : {M : Type 1} → statement M
 with-list-spec =
     tie.close
     (tie.spec
-    blank-requires
-    slice-aggregate-take-content
-    take-content-requires
+    (λ c κs. search needs)
+    (λ c. search needs)
+    (λ c κs. search needs)
     print-line-requires
-    same-length
+    (λ c. search needs)
     returns
     array-share-prefix-instructions
     slice-aggregate-with-items
-    with-items-requires
-    same-length-2
-    same-length-3
-    same-length-4
-    same-length-5
+    (λ c κs. search needs)
+    (λ c. search needs)
+    (λ c. search needs)
+    (λ c. search needs)
+    (λ c. search needs)
     returns-2)

@@ -7,18 +7,6 @@ use borrow.Author.Needs.{needs}
 use Rattle.words.proofs.words_in.Statement.{statement}
 use Rattle.words.proofs.words_in.Tie as tie
 
-turned-requires : tie.Need-turned-requires
-turned-requires c κs = search needs
-
-slice-aggregate-put-all : tie.Need-slice-aggregate-put-all
-slice-aggregate-put-all c = search needs
-
-put-all-requires : tie.Need-put-all-requires
-put-all-requires c κs = search needs
-
-same-length : tie.Need-same-length
-same-length c = search needs
-
 returns : tie.Need-returns
 returns c =
     let k = c .before .before .before .before .before .before .before in
@@ -30,4 +18,4 @@ returns c =
 pub words-in-spec : {M : Type 1} → statement M
 words-in-spec =
     tie.close
-    (tie.spec turned-requires slice-aggregate-put-all put-all-requires same-length returns)
+    (tie.spec (λ c κs. search needs) (λ c. search needs) (λ c κs. search needs) (λ c. search needs) returns)

@@ -7,21 +7,6 @@ use borrow.Author.Needs.{needs}
 use Rattle.words.proofs.words_out.Statement.{statement}
 use Rattle.words.proofs.words_out.Tie as tie
 
-mul-read-all : tie.Need-mul-read-all
-mul-read-all c = search needs
-
-cast-read-all : tie.Need-cast-read-all
-cast-read-all c = search needs
-
-read-all-requires : tie.Need-read-all-requires
-read-all-requires c κs = search needs
-
-slice-aggregate-turned : tie.Need-slice-aggregate-turned
-slice-aggregate-turned c = search needs
-
-turned-requires : tie.Need-turned-requires
-turned-requires c κs = search needs
-
 returns : tie.Need-returns
 returns c =
     let a = c .before .before .before .before .args in
@@ -32,9 +17,9 @@ pub words-out-spec : {M : Type 1} → statement M
 words-out-spec =
     tie.close
     (tie.spec
-    mul-read-all
-    cast-read-all
-    read-all-requires
-    slice-aggregate-turned
-    turned-requires
+    (λ c. search needs)
+    (λ c. search needs)
+    (λ c κs. search needs)
+    (λ c. search needs)
+    (λ c κs. search needs)
     returns)

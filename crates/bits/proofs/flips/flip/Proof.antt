@@ -20,30 +20,9 @@ Inv-loop lines f turned out₀ i₀ out i = (i ≤ 32) × (length out ≡ 32) ×
 abbrev μ-loop : tie.MeasureT-loop
 μ-loop lines f turned out₀ i₀ out i = 32 - i
 
-cast-flip-bytes : tie.Need-cast-flip-bytes Inv-loop μ-loop
-cast-flip-bytes c = search needs
-
-flip-bytes-requires : tie.Need-flip-bytes-requires Inv-loop μ-loop
-flip-bytes-requires c κs = search needs
-
 loop-holds : tie.Need-loop-holds Inv-loop μ-loop
 unfolding listed
 loop-holds c = (omega arith, refl, refl)
-
-array-read-flip-byte : tie.Need-array-read-flip-byte Inv-loop μ-loop
-array-read-flip-byte c = search needs
-
-flip-byte-requires : tie.Need-flip-byte-requires Inv-loop μ-loop
-flip-byte-requires c κs = search needs
-
-array-write-out : tie.Need-array-write-out Inv-loop μ-loop
-array-write-out c = search needs
-
-add-i : tie.Need-add-i Inv-loop μ-loop
-add-i c = search needs
-
-loop-less : tie.Need-loop-less Inv-loop μ-loop
-loop-less c = search needs
 
 loop-again : tie.Need-loop-again Inv-loop μ-loop
 loop-again c =
@@ -67,13 +46,13 @@ flip-spec =
     (tie.spec
     Inv-loop
     μ-loop
-    cast-flip-bytes
-    flip-bytes-requires
+    (λ c. search needs)
+    (λ c κs. search needs)
     loop-holds
-    array-read-flip-byte
-    flip-byte-requires
-    array-write-out
-    add-i
-    loop-less
+    (λ c. search needs)
+    (λ c κs. search needs)
+    (λ c. search needs)
+    (λ c. search needs)
+    (λ c. search needs)
     loop-again
     returns)

@@ -10,15 +10,6 @@ use native.Mathlib.Omega.{arith}
 use Rattle.bits.proofs.flips.flip_byte.Statement.{statement}
 use Rattle.bits.proofs.flips.flip_byte.Tie as tie
 
-swap-if-requires : tie.Need-swap-if-requires
-swap-if-requires c κs = search needs
-
-swap-if-requires-2 : tie.Need-swap-if-requires-2
-swap-if-requires-2 c κs = search needs
-
-swap-if-requires-3 : tie.Need-swap-if-requires-3
-swap-if-requires-3 c κs = search needs
-
 returns : tie.Need-returns
 returns c =
     λ j h.
@@ -34,4 +25,4 @@ returns c =
 
 pub flip-byte-spec : {M : Type 1} → statement M
 flip-byte-spec =
-    tie.close (tie.spec swap-if-requires swap-if-requires-2 swap-if-requires-3 returns)
+    tie.close (tie.spec (λ c κs. search needs) (λ c κs. search needs) (λ c κs. search needs) returns)

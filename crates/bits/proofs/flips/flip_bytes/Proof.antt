@@ -24,15 +24,6 @@ loop-holds c = (omega arith, refl, refl)
 element-copy-out-out : tie.Need-element-copy-out-out Inv-loop μ-loop
 element-copy-out-out c = xor-lt 5 (c .before .before .args .g) (c .before .loop .i) (omega arith) (omega arith)
 
-array-write-out : tie.Need-array-write-out Inv-loop μ-loop
-array-write-out c = search needs
-
-add-i : tie.Need-add-i Inv-loop μ-loop
-add-i c = search needs
-
-loop-less : tie.Need-loop-less Inv-loop μ-loop
-loop-less c = search needs
-
 loop-again : tie.Need-loop-again Inv-loop μ-loop
 loop-again c =
     let l = c .before .before .loop in
@@ -49,8 +40,8 @@ flip-bytes-spec =
     μ-loop
     loop-holds
     element-copy-out-out
-    array-write-out
-    add-i
-    loop-less
+    (λ c. search needs)
+    (λ c. search needs)
+    (λ c. search needs)
     loop-again
     returns)

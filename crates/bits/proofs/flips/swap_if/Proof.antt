@@ -7,9 +7,6 @@ use borrow.Author.Needs.{needs}
 use Rattle.bits.proofs.flips.swap_if.Statement.{statement}
 use Rattle.bits.proofs.flips.swap_if.Tie as tie
 
-swap-requires : tie.Need-swap-requires
-swap-requires c κs = search needs
-
 returns : tie.Need-returns
 returns c =
     let a = c .before .before .args in
@@ -21,4 +18,4 @@ returns-2 c =
     sym (ap (λ (b : Bool). cond b (swapped (a .m) (a .k) (a .x)) (a .x)) (ne-eqb (a .on) 1 (c .if1 .left)))
 
 pub swap-if-spec : {M : Type 1} → statement M
-swap-if-spec = tie.close (tie.spec swap-requires returns returns-2)
+swap-if-spec = tie.close (tie.spec (λ c κs. search needs) returns returns-2)

@@ -22,24 +22,6 @@ loop-holds : tie.Need-loop-holds Inv-loop μ-loop
 unfolding listed
 loop-holds c = (omega arith, refl, refl)
 
-element-copy-out-out : tie.Need-element-copy-out-out Inv-loop μ-loop
-element-copy-out-out c = search needs
-
-shared-slice-read-moved-digit : tie.Need-shared-slice-read-moved-digit Inv-loop μ-loop
-shared-slice-read-moved-digit c = search needs
-
-moved-digit-requires : tie.Need-moved-digit-requires Inv-loop μ-loop
-moved-digit-requires c κs = search needs
-
-array-write-out : tie.Need-array-write-out Inv-loop μ-loop
-array-write-out c = search needs
-
-add-i : tie.Need-add-i Inv-loop μ-loop
-add-i c = search needs
-
-loop-less : tie.Need-loop-less Inv-loop μ-loop
-loop-less c = search needs
-
 loop-again : tie.Need-loop-again Inv-loop μ-loop
 loop-again c =
     let a = c .before .before .before .before .before .before .args in
@@ -56,11 +38,11 @@ gather-lane-spec =
     Inv-loop
     μ-loop
     loop-holds
-    element-copy-out-out
-    shared-slice-read-moved-digit
-    moved-digit-requires
-    array-write-out
-    add-i
-    loop-less
+    (λ c. search needs)
+    (λ c. search needs)
+    (λ c κs. search needs)
+    (λ c. search needs)
+    (λ c. search needs)
+    (λ c. search needs)
     loop-again
     returns)

@@ -11,12 +11,6 @@ one : {v : ℕ} → Bit v → (v ≡ 0 → ⊥) → 1 ≡ v
 one off h = absurd (h refl)
 one on h = refl
 
-shr-if1 : tie.Need-shr-if1
-shr-if1 c = search needs
-
-shl-result : tie.Need-shl-result
-shl-result c = search needs
-
 returns : tie.Need-returns
 returns c =
     let a = c .before .args in
@@ -28,4 +22,4 @@ returns-2 c =
     ap (λ (v : ℕ). v * 2 ^ (a .s) % 256) (one (digit-bit (a .x) (a .j)) (c .if1 .left))
 
 pub moved-digit-spec : {M : Type 1} → statement M
-moved-digit-spec = tie.close (tie.spec shr-if1 shl-result returns returns-2)
+moved-digit-spec = tie.close (tie.spec (λ c. search needs) (λ c. search needs) returns returns-2)

@@ -22,21 +22,6 @@ loop-holds : tie.Need-loop-holds Inv-loop μ-loop
 unfolding listed
 loop-holds c = (omega arith, c .before .pre .0, refl)
 
-element-copy-out-moved-digit : tie.Need-element-copy-out-moved-digit Inv-loop μ-loop
-element-copy-out-moved-digit c = search needs
-
-moved-digit-requires : tie.Need-moved-digit-requires Inv-loop μ-loop
-moved-digit-requires c κs = search needs
-
-slice-write-out : tie.Need-slice-write-out Inv-loop μ-loop
-slice-write-out c = search needs
-
-add-i : tie.Need-add-i Inv-loop μ-loop
-add-i c = search needs
-
-loop-less : tie.Need-loop-less Inv-loop μ-loop
-loop-less c = search needs
-
 loop-again : tie.Need-loop-again Inv-loop μ-loop
 loop-again c =
     let a = c .before .before .before .before .before .args in
@@ -46,9 +31,6 @@ loop-again c =
     ∙ ap (λ (x : ℕ). x * 2 ^ a .s % 256) (sym (bitOf-at (now (a .item)) (l .i) (a .j) (omega arith)))
     ∙ shl-exact 1 (a .s) 8 (bit-lt (bitOf-bit (now (a .item)) (8 * l .i + a .j))) (omega arith) in
     (omega arith, simp length-set (l .inv .1), fill-more _ (l .out) (l .i) _ (omega arith) (l .inv .2) v)
-
-same-length : tie.Need-same-length Inv-loop μ-loop
-same-length c = search needs
 
 returns : tie.Need-returns Inv-loop μ-loop
 returns c = fill-done _ (c .before .loop .out) 32 _ (c .before .loop .inv .1) (omega arith) (c .before .loop .inv .2)
@@ -60,11 +42,11 @@ spread-lane-spec =
     Inv-loop
     μ-loop
     loop-holds
-    element-copy-out-moved-digit
-    moved-digit-requires
-    slice-write-out
-    add-i
-    loop-less
+    (λ c. search needs)
+    (λ c κs. search needs)
+    (λ c. search needs)
+    (λ c. search needs)
+    (λ c. search needs)
     loop-again
-    same-length
+    (λ c. search needs)
     returns)

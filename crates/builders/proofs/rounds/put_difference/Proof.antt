@@ -9,18 +9,6 @@ use borrow.Author.Needs.{needs}
 use Rattle.builders.proofs.rounds.put_difference.Statement.{statement}
 use Rattle.builders.proofs.rounds.put_difference.Tie as tie
 
-put-logic-from-requires : tie.Need-put-logic-from-requires
-put-logic-from-requires c κs = search needs
-
-put-logic-from-requires-2 : tie.Need-put-logic-from-requires-2
-put-logic-from-requires-2 c κs = search needs
-
-put-rounds-requires : tie.Need-put-rounds-requires
-put-rounds-requires c κs = search needs
-
-same-length : tie.Need-same-length
-same-length c = search needs
-
 returns : tie.Need-returns
 returns c =
     let a = c .before .before .before .before .before .before .before .before .before .before .before .before .before .args in
@@ -35,8 +23,8 @@ pub put-difference-spec : {M : Type 1} → statement M
 put-difference-spec =
     tie.close
     (tie.spec
-    put-logic-from-requires
-    put-logic-from-requires-2
-    put-rounds-requires
-    same-length
+    (λ c κs. search needs)
+    (λ c κs. search needs)
+    (λ c κs. search needs)
+    (λ c. search needs)
     returns)

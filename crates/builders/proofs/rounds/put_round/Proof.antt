@@ -12,36 +12,6 @@ use Rattle.builders.proofs.PutLaws.{put-more}
 use Rattle.builders.proofs.rounds.put_round.Statement.{statement}
 use Rattle.builders.proofs.rounds.put_round.Tie as tie
 
-put-logic-at-requires : tie.Need-put-logic-at-requires
-put-logic-at-requires c κs = search needs
-
-add-put-logic-at : tie.Need-add-put-logic-at
-add-put-logic-at c = search needs
-
-put-logic-at-requires-2 : tie.Need-put-logic-at-requires-2
-put-logic-at-requires-2 c κs = search needs
-
-add-put-store-at : tie.Need-add-put-store-at
-add-put-store-at c = search needs
-
-put-store-at-requires : tie.Need-put-store-at-requires
-put-store-at-requires c κs = search needs
-
-add-put-logic-from : tie.Need-add-put-logic-from
-add-put-logic-from c = search needs
-
-put-logic-from-requires : tie.Need-put-logic-from-requires
-put-logic-from-requires c κs = search needs
-
-add-put-logic-from-2 : tie.Need-add-put-logic-from-2
-add-put-logic-from-2 c = search needs
-
-put-logic-from-requires-2 : tie.Need-put-logic-from-requires-2
-put-logic-from-requires-2 c κs = search needs
-
-same-length : tie.Need-same-length
-same-length c = search needs
-
 returns : tie.Need-returns
 returns c =
     let e = c .before .before .before .before .before .before .before .before .before .before .before .before .before .before .before .before .before .before .before .before .before in
@@ -68,14 +38,14 @@ pub put-round-spec : {M : Type 1} → statement M
 put-round-spec =
     tie.close
     (tie.spec
-    put-logic-at-requires
-    add-put-logic-at
-    put-logic-at-requires-2
-    add-put-store-at
-    put-store-at-requires
-    add-put-logic-from
-    put-logic-from-requires
-    add-put-logic-from-2
-    put-logic-from-requires-2
-    same-length
+    (λ c κs. search needs)
+    (λ c. search needs)
+    (λ c κs. search needs)
+    (λ c. search needs)
+    (λ c κs. search needs)
+    (λ c. search needs)
+    (λ c κs. search needs)
+    (λ c. search needs)
+    (λ c κs. search needs)
+    (λ c. search needs)
     returns)

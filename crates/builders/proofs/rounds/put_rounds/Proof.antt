@@ -24,9 +24,6 @@ abbrev μ-loop : tie.MeasureT-loop
 loop-holds : tie.Need-loop-holds Inv-loop μ-loop
 loop-holds c = (omega arith, refl, unfold rounds encoded in sym (put-nil _ _))
 
-cast-i : tie.Need-cast-i Inv-loop μ-loop
-cast-i c = search needs
-
 mul-i : tie.Need-mul-i Inv-loop μ-loop
 mul-i c = omega arith
 
@@ -51,9 +48,6 @@ add-put-round-3 c = omega arith
 cast-put-round-3 : tie.Need-cast-put-round-3 Inv-loop μ-loop
 cast-put-round-3 c = omega arith
 
-put-round-requires : tie.Need-put-round-requires Inv-loop μ-loop
-put-round-requires c κs = search needs
-
 add-k : tie.Need-add-k Inv-loop μ-loop
 add-k c = omega arith
 
@@ -73,9 +67,6 @@ loop-again c =
           (l .inv .2) (o .ensures),
     )
 
-same-length : tie.Need-same-length Inv-loop μ-loop
-same-length c = search needs
-
 returns : tie.Need-returns Inv-loop μ-loop
 returns c =
     let a = c .before .before .before .args in
@@ -90,7 +81,7 @@ put-rounds-spec =
     Inv-loop
     μ-loop
     loop-holds
-    cast-i
+    (λ c. search needs)
     mul-i
     add-i
     add-put-round
@@ -99,9 +90,9 @@ put-rounds-spec =
     cast-put-round-2
     add-put-round-3
     cast-put-round-3
-    put-round-requires
+    (λ c κs. search needs)
     add-k
     loop-less
     loop-again
-    same-length
+    (λ c. search needs)
     returns)

@@ -9,15 +9,6 @@ use borrow.Author.Needs.{needs}
 use Rattle.builders.proofs.rounds.put_sum.Statement.{statement}
 use Rattle.builders.proofs.rounds.put_sum.Tie as tie
 
-put-logic-from-requires : tie.Need-put-logic-from-requires
-put-logic-from-requires c κs = search needs
-
-put-rounds-requires : tie.Need-put-rounds-requires
-put-rounds-requires c κs = search needs
-
-same-length : tie.Need-same-length
-same-length c = search needs
-
 returns : tie.Need-returns
 returns c =
     let a = c .before .before .before .before .before .before .before .before .before .args in
@@ -29,7 +20,7 @@ pub put-sum-spec : {M : Type 1} → statement M
 put-sum-spec =
     tie.close
     (tie.spec
-    put-logic-from-requires
-    put-rounds-requires
-    same-length
+    (λ c κs. search needs)
+    (λ c κs. search needs)
+    (λ c. search needs)
     returns)

@@ -26,23 +26,8 @@ other : (c : tie.Else4) → let i = instruction (c .before .before .before .befo
 unfolding instructionAt
 other c = other-formed _ (passes (c .before .before .before)) (c .before .before .if2 .left) (c .if4 .left)
 
-mul-at : tie.Need-mul-at
-mul-at c = search needs
-
-shared-slice-read-kind : tie.Need-shared-slice-read-kind
-shared-slice-read-kind c = search needs
-
-pass-fits-requires : tie.Need-pass-fits-requires
-pass-fits-requires c κs = search needs
-
 returns : tie.Need-returns
 returns c = pass-refused (instruction (c .before)) (sym (c .before .pass-fits .ensures) ∙ not-true _ (c .if1 .taken))
-
-add-if3 : tie.Need-add-if3
-add-if3 c = search needs
-
-shared-slice-read-if3 : tie.Need-shared-slice-read-if3
-shared-slice-read-if3 c = search needs
 
 returns-2 : tie.Need-returns-2
 unfolding instructionAt
@@ -59,12 +44,6 @@ unfolding instructionAt
 returns-3 c =
     let d = c .before in
     c .source-fits .ensures ∙ logic-formed _ (passes (d .before .before .before)) (d .before .before .if2 .taken) (d .if3 .left)
-
-add-if4 : tie.Need-add-if4
-add-if4 c = search needs
-
-shared-slice-read-if4 : tie.Need-shared-slice-read-if4
-shared-slice-read-if4 c = search needs
 
 returns-4 : tie.Need-returns-4
 unfolding instructionAt
@@ -105,17 +84,17 @@ pub formed-spec : {M : Type 1} → statement M
 formed-spec =
     tie.close
     (tie.spec
-    mul-at
-    shared-slice-read-kind
-    pass-fits-requires
+    (λ c. search needs)
+    (λ c. search needs)
+    (λ c κs. search needs)
     returns
-    add-if3
-    shared-slice-read-if3
+    (λ c. search needs)
+    (λ c. search needs)
     returns-2
     source-fits-requires
     returns-3
-    add-if4
-    shared-slice-read-if4
+    (λ c. search needs)
+    (λ c. search needs)
     returns-4
     store-fits-requires
     returns-5

@@ -8,24 +8,6 @@ use borrow.Author.Needs.{needs}
 use Rattle.judge.proofs.forms.pass_fits.Statement.{statement}
 use Rattle.judge.proofs.forms.pass_fits.Tie as tie
 
-mul-at : tie.Need-mul-at
-mul-at c = search needs
-
-shared-slice-read-kind : tie.Need-shared-slice-read-kind
-shared-slice-read-kind c = search needs
-
-add-code : tie.Need-add-code
-add-code c = search needs
-
-shared-slice-read-code : tie.Need-shared-slice-read-code
-shared-slice-read-code c = search needs
-
-add-result : tie.Need-add-result
-add-result c = search needs
-
-shared-slice-read-result : tie.Need-shared-slice-read-result
-shared-slice-read-result c = search needs
-
 returns : tie.Need-returns
 unfolding instructionAt
 returns c =
@@ -47,9 +29,6 @@ returns-3 c =
     let i = instructionAt (now (a .list)) (a .k) in
     simp (ne-eqb (i .kind) 5 (c .before .before .if1 .left), ne-eqb (i .code) 0 (c .before .if2 .left), c .if3 .taken) at (pass-by-kind i)
 
-is-code-requires : tie.Need-is-code-requires
-is-code-requires c κs = search needs
-
 returns-4 : tie.Need-returns-4
 unfolding instructionAt
 returns-4 c =
@@ -63,14 +42,14 @@ pub pass-fits-spec : {M : Type 1} → statement M
 pass-fits-spec =
     tie.close
     (tie.spec
-    mul-at
-    shared-slice-read-kind
-    add-code
-    shared-slice-read-code
-    add-result
-    shared-slice-read-result
+    (λ c. search needs)
+    (λ c. search needs)
+    (λ c. search needs)
+    (λ c. search needs)
+    (λ c. search needs)
+    (λ c. search needs)
     returns
     returns-2
     returns-3
-    is-code-requires
+    (λ c κs. search needs)
     returns-4)

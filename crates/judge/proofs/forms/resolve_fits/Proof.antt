@@ -9,18 +9,6 @@ use borrow.Author.Needs.{needs}
 use Rattle.judge.proofs.forms.resolve_fits.Statement.{statement}
 use Rattle.judge.proofs.forms.resolve_fits.Tie as tie
 
-mul-result : tie.Need-mul-result
-mul-result c = search needs
-
-add-result : tie.Need-add-result
-add-result c = search needs
-
-shared-slice-read-result : tie.Need-shared-slice-read-result
-shared-slice-read-result c = search needs
-
-idle-requires : tie.Need-idle-requires
-idle-requires c κs = search needs
-
 returns : tie.Need-returns
 unfolding instructionAt
 returns c =
@@ -30,4 +18,4 @@ returns c =
 
 pub resolve-fits-spec : {M : Type 1} → statement M
 resolve-fits-spec =
-    tie.close (tie.spec mul-result add-result shared-slice-read-result idle-requires returns)
+    tie.close (tie.spec (λ c. search needs) (λ c. search needs) (λ c. search needs) (λ c κs. search needs) returns)

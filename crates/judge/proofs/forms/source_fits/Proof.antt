@@ -10,30 +10,12 @@ use borrow.Author.Needs.{needs}
 use Rattle.judge.proofs.forms.source_fits.Statement.{statement}
 use Rattle.judge.proofs.forms.source_fits.Tie as tie
 
-mul-at : tie.Need-mul-at
-mul-at c = search needs
-
-add-source : tie.Need-add-source
-add-source c = search needs
-
-shared-slice-read-source : tie.Need-shared-slice-read-source
-shared-slice-read-source c = search needs
-
-add-result : tie.Need-add-result
-add-result c = search needs
-
-shared-slice-read-result : tie.Need-shared-slice-read-result
-shared-slice-read-result c = search needs
-
 returns : tie.Need-returns
 unfolding instructionAt
 returns c =
     let s = c .before .before .before .before in
     let i = instructionAt (now (s .args .list)) (s .args .k) in
     simp (eq-eqb (i .source) 0 (c .before .if1 .taken)) at (source-fits i (s .pre .1 .1) (s .pre .1 .0))
-
-idle-requires : tie.Need-idle-requires
-idle-requires c κs = search needs
 
 returns-2 : tie.Need-returns-2
 unfolding instructionAt
@@ -47,11 +29,11 @@ pub source-fits-spec : {M : Type 1} → statement M
 source-fits-spec =
     tie.close
     (tie.spec
-    mul-at
-    add-source
-    shared-slice-read-source
-    add-result
-    shared-slice-read-result
+    (λ c. search needs)
+    (λ c. search needs)
+    (λ c. search needs)
+    (λ c. search needs)
+    (λ c. search needs)
     returns
-    idle-requires
+    (λ c κs. search needs)
     returns-2)

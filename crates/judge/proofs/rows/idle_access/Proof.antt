@@ -4,12 +4,9 @@ use Rattle.judge.specs.Judge.{idleAccess}
 use Rattle.judge.proofs.rows.idle_access.Statement.{statement}
 use Rattle.judge.proofs.rows.idle_access.Tie as tie
 
-touches-requires : tie.Need-touches-requires
-touches-requires c κs = search needs
-
 returns : tie.Need-returns
 unfolding idleAccess
 returns c = cc
 
 pub idle-access-spec : {M : Type 1} → statement M
-idle-access-spec = tie.close (tie.spec touches-requires returns)
+idle-access-spec = tie.close (tie.spec (λ c κs. search needs) returns)

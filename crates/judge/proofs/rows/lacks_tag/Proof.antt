@@ -7,12 +7,9 @@ use Rattle.judge.specs.Judge.{lacksTag}
 use Rattle.judge.proofs.rows.lacks_tag.Statement.{statement}
 use Rattle.judge.proofs.rows.lacks_tag.Tie as tie
 
-touches-requires : tie.Need-touches-requires
-touches-requires c κs = search needs
-
 returns : tie.Need-returns
 unfolding lacksTag
 returns c = let i = c .before .before .args .i in ap (λ (t : Bool). t && eqb (i .tag) 0) (c .before .touches .ensures)
 
 pub lacks-tag-spec : {M : Type 1} → statement M
-lacks-tag-spec = tie.close (tie.spec touches-requires returns)
+lacks-tag-spec = tie.close (tie.spec (λ c κs. search needs) returns)

@@ -4,15 +4,9 @@ use Rattle.judge.specs.Judge.{wrongPass}
 use Rattle.judge.proofs.rows.wrong_pass.Statement.{statement}
 use Rattle.judge.proofs.rows.wrong_pass.Tie as tie
 
-is-code-requires : tie.Need-is-code-requires
-is-code-requires c κs = search needs
-
-stores-requires : tie.Need-stores-requires
-stores-requires c κs = search needs
-
 returns : tie.Need-returns
 unfolding wrongPass
 returns c = cc
 
 pub wrong-pass-spec : {M : Type 1} → statement M
-wrong-pass-spec = tie.close (tie.spec is-code-requires stores-requires returns)
+wrong-pass-spec = tie.close (tie.spec (λ c κs. search needs) (λ c κs. search needs) returns)

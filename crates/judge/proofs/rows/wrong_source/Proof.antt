@@ -4,12 +4,9 @@ use Rattle.judge.specs.Judge.{wrongSource}
 use Rattle.judge.proofs.rows.wrong_source.Statement.{statement}
 use Rattle.judge.proofs.rows.wrong_source.Tie as tie
 
-stores-requires : tie.Need-stores-requires
-stores-requires c κs = search needs
-
 returns : tie.Need-returns
 unfolding wrongSource
 returns c = cc
 
 pub wrong-source-spec : {M : Type 1} → statement M
-wrong-source-spec = tie.close (tie.spec stores-requires returns)
+wrong-source-spec = tie.close (tie.spec (λ c κs. search needs) returns)

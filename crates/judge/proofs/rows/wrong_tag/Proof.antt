@@ -4,12 +4,9 @@ use Rattle.judge.specs.Judge.{wrongTag}
 use Rattle.judge.proofs.rows.wrong_tag.Statement.{statement}
 use Rattle.judge.proofs.rows.wrong_tag.Tie as tie
 
-touches-requires : tie.Need-touches-requires
-touches-requires c κs = search needs
-
 returns : tie.Need-returns
 unfolding wrongTag
 returns c = cc
 
 pub wrong-tag-spec : {M : Type 1} → statement M
-wrong-tag-spec = tie.close (tie.spec touches-requires returns)
+wrong-tag-spec = tie.close (tie.spec (λ c κs. search needs) returns)

@@ -26,9 +26,6 @@ loop-holds c = (omega arith, omega arith, refl, λ j h. absurd (omega arith))
 decode-requires : tie.Need-decode-requires Inv-loop μ-loop
 decode-requires c κs = omega arith
 
-uses-requires : tie.Need-uses-requires Inv-loop μ-loop
-uses-requires c κs = search needs
-
 mul-if1 : tie.Need-mul-if1 Inv-loop μ-loop
 mul-if1 c = omega arith
 
@@ -42,9 +39,6 @@ returns c =
     let u = c .before .uses .ensures ∙ ap (uses (a .room)) (c .before .before .decode .ensures) in
     found (lacks (uses (a .room)) (now (a .list)) (a .have)) (length (now (a .list)) / 8) (l .k) (omega arith) (l .inv .3)
     (sym (lacks-is (uses (a .room)) (now (a .list)) (a .have) (l .k) (l .used) _ (l .inv .2) u) ∙ c .if1 .taken)
-
-one-if-requires : tie.Need-one-if-requires Inv-loop μ-loop
-one-if-requires c κs = search needs
 
 add-used : tie.Need-add-used Inv-loop μ-loop
 add-used c = omega arith
@@ -82,11 +76,11 @@ shortage-spec =
     μ-loop
     loop-holds
     decode-requires
-    uses-requires
+    (λ c κs. search needs)
     mul-if1
     add-if1
     returns
-    one-if-requires
+    (λ c κs. search needs)
     add-used
     add-k
     loop-less

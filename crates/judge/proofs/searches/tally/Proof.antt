@@ -40,20 +40,8 @@ returns c =
 decode-requires : tie.Need-decode-requires Inv-loop μ-loop
 decode-requires c κs = omega arith
 
-takes-requires : tie.Need-takes-requires Inv-loop μ-loop
-takes-requires c κs = search needs
-
-one-if-requires : tie.Need-one-if-requires Inv-loop μ-loop
-one-if-requires c κs = search needs
-
 add-taken : tie.Need-add-taken Inv-loop μ-loop
 add-taken c = omega arith
-
-gives-requires : tie.Need-gives-requires Inv-loop μ-loop
-gives-requires c κs = search needs
-
-one-if-requires-2 : tie.Need-one-if-requires-2 Inv-loop μ-loop
-one-if-requires-2 c κs = search needs
 
 add-given : tie.Need-add-given Inv-loop μ-loop
 add-given c = omega arith
@@ -100,11 +88,11 @@ tally-spec =
     formed-requires
     returns
     decode-requires
-    takes-requires
-    one-if-requires
+    (λ c κs. search needs)
+    (λ c κs. search needs)
     add-taken
-    gives-requires
-    one-if-requires-2
+    (λ c κs. search needs)
+    (λ c κs. search needs)
     add-given
     add-k
     loop-less

@@ -6,12 +6,6 @@ use borrow.Author.Needs.{needs}
 use Rattle.judge.proofs.searches.uses.Statement.{statement}
 use Rattle.judge.proofs.searches.uses.Tie as tie
 
-gives-requires : tie.Need-gives-requires
-gives-requires c κs = search needs
-
-takes-requires : tie.Need-takes-requires
-takes-requires c κs = search needs
-
 returns : tie.Need-returns
 returns c = c .gives .ensures ∙ sym (ap (λ (b : Bool). uses b (c .before .before .args .i)) (c .before .if1 .taken))
 
@@ -19,4 +13,4 @@ returns-2 : tie.Need-returns-2
 returns-2 c = c .takes .ensures ∙ sym (ap (λ (b : Bool). uses b (c .before .before .args .i)) (c .before .if1 .left))
 
 pub uses-spec : {M : Type 1} → statement M
-uses-spec = tie.close (tie.spec gives-requires takes-requires returns returns-2)
+uses-spec = tie.close (tie.spec (λ c κs. search needs) (λ c κs. search needs) returns returns-2)

@@ -8,12 +8,6 @@ use native.Mathlib.Omega.{arith}
 use Rattle.memory.proofs.places.byte_at.Statement.{statement}
 use Rattle.memory.proofs.places.byte_at.Tie as tie
 
-wide-requires : tie.Need-wide-requires
-wide-requires c κs = search needs
-
-wide-requires-2 : tie.Need-wide-requires-2
-wide-requires-2 c κs = search needs
-
 returns : tie.Need-returns
 returns c =
     let a = c .before .before .args in
@@ -21,4 +15,4 @@ returns c =
     (e, subst (λ (x : ℕ). x < 32) (sym e) (byteAt-lt (a .mode) (a .addr) (a .k) (omega arith) (omega arith)))
 
 pub byte-at-spec : {M : Type 1} → statement M
-byte-at-spec = tie.close (tie.spec wide-requires wide-requires-2 returns)
+byte-at-spec = tie.close (tie.spec (λ c κs. search needs) (λ c κs. search needs) returns)

@@ -8,9 +8,6 @@ use native.Mathlib.Omega.{arith}
 use Rattle.memory.proofs.places.group_of.Statement.{statement}
 use Rattle.memory.proofs.places.group_of.Tie as tie
 
-wide-requires : tie.Need-wide-requires
-wide-requires c κs = search needs
-
 returns : tie.Need-returns
 returns c =
     let a = c .before .args in
@@ -18,4 +15,4 @@ returns c =
     (e, subst (λ (x : ℕ). x < 32) (sym e) (groupOf-lt (a .addr) (a .i) (omega arith) (omega arith)))
 
 pub group-of-spec : {M : Type 1} → statement M
-group-of-spec = tie.close (tie.spec wide-requires returns)
+group-of-spec = tie.close (tie.spec (λ c κs. search needs) returns)

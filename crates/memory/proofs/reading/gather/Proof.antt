@@ -22,39 +22,6 @@ loop-holds : tie.Need-loop-holds Inv-loop μ-loop
 unfolding listed digitsOf
 loop-holds c = (omega arith, refl)
 
-partner-requires : tie.Need-partner-requires Inv-loop μ-loop
-partner-requires c κs = search needs
-
-wide-requires : tie.Need-wide-requires Inv-loop μ-loop
-wide-requires c κs = search needs
-
-mul-from : tie.Need-mul-from Inv-loop μ-loop
-mul-from c = search needs
-
-add-gather-lane : tie.Need-add-gather-lane Inv-loop μ-loop
-add-gather-lane c = search needs
-
-sub-gather-lane : tie.Need-sub-gather-lane Inv-loop μ-loop
-sub-gather-lane c = search needs
-
-part-gather-lane-start : tie.Need-part-gather-lane-start Inv-loop μ-loop
-part-gather-lane-start c = search needs
-
-part-gather-lane-end : tie.Need-part-gather-lane-end Inv-loop μ-loop
-part-gather-lane-end c = search needs
-
-place-of-requires : tie.Need-place-of-requires Inv-loop μ-loop
-place-of-requires c κs = search needs
-
-gather-lane-requires : tie.Need-gather-lane-requires Inv-loop μ-loop
-gather-lane-requires c κs = search needs
-
-add-j : tie.Need-add-j Inv-loop μ-loop
-add-j c = search needs
-
-loop-less : tie.Need-loop-less Inv-loop μ-loop
-loop-less c = search needs
-
 loop-again : tie.Need-loop-again Inv-loop μ-loop
 loop-again c =
     let a = c .before .before .before .before .before .before .before .before .before .args in
@@ -82,16 +49,16 @@ gather-spec =
     Inv-loop
     μ-loop
     loop-holds
-    partner-requires
-    wide-requires
-    mul-from
-    add-gather-lane
-    sub-gather-lane
-    part-gather-lane-start
-    part-gather-lane-end
-    place-of-requires
-    gather-lane-requires
-    add-j
-    loop-less
+    (λ c κs. search needs)
+    (λ c κs. search needs)
+    (λ c. search needs)
+    (λ c. search needs)
+    (λ c. search needs)
+    (λ c. search needs)
+    (λ c. search needs)
+    (λ c κs. search needs)
+    (λ c κs. search needs)
+    (λ c. search needs)
+    (λ c. search needs)
     loop-again
     returns)

@@ -18,27 +18,9 @@ Inv-loop mem mode addr k first out₀ i₀ out i = (i % 2 ≡ 0) × (i ≤ 32) �
 abbrev μ-loop : tie.MeasureT-loop
 μ-loop mem mode addr k first out₀ i₀ out i = 32 - i
 
-group-of-requires : tie.Need-group-of-requires Inv-loop μ-loop
-group-of-requires c κs = search needs
-
-mul-first : tie.Need-mul-first Inv-loop μ-loop
-mul-first c = search needs
-
-byte-at-requires : tie.Need-byte-at-requires Inv-loop μ-loop
-byte-at-requires c κs = search needs
-
-add-first : tie.Need-add-first Inv-loop μ-loop
-add-first c = search needs
-
 loop-holds : tie.Need-loop-holds Inv-loop μ-loop
 unfolding written
 loop-holds c = (refl, omega arith, refl, refl)
-
-spot-from-requires : tie.Need-spot-from-requires Inv-loop μ-loop
-spot-from-requires c κs = search needs
-
-slice-aggregate-read-group : tie.Need-slice-aggregate-read-group Inv-loop μ-loop
-slice-aggregate-read-group c = search needs
 
 read-group-requires : tie.Need-read-group-requires Inv-loop μ-loop
 read-group-requires c κs =
@@ -50,18 +32,6 @@ read-group-requires c κs =
     let p = spot-group (a .mode) (a .addr) (l .i) (k .result) (b .result) (n .result) (omega arith) (omega arith) (omega arith) (k .ensures .0) (b .ensures .0) (n .ensures) in
     search needs
 
-add-spot-from : tie.Need-add-spot-from Inv-loop μ-loop
-add-spot-from c = search needs
-
-spot-from-requires-2 : tie.Need-spot-from-requires-2 Inv-loop μ-loop
-spot-from-requires-2 c κs = search needs
-
-add-read-group : tie.Need-add-read-group Inv-loop μ-loop
-add-read-group c = search needs
-
-slice-aggregate-read-group-2 : tie.Need-slice-aggregate-read-group-2 Inv-loop μ-loop
-slice-aggregate-read-group-2 c = search needs
-
 read-group-requires-2 : tie.Need-read-group-requires-2 Inv-loop μ-loop
 read-group-requires-2 c κs =
     let f = c .before .before .before .before .before .before .before in
@@ -71,12 +41,6 @@ read-group-requires-2 c κs =
     let n = c .before .spot-from2 in
     let p = spot-group (a .mode) (a .addr) (f .loop .i + 1) (k .result) (b .result) (n .result) (omega arith) (omega arith) (omega arith) (k .ensures .0) (b .ensures .0) (n .ensures) in
     search needs
-
-add-i : tie.Need-add-i Inv-loop μ-loop
-add-i c = search needs
-
-loop-less : tie.Need-loop-less Inv-loop μ-loop
-loop-less c = search needs
 
 loop-again : tie.Need-loop-again Inv-loop μ-loop
 loop-again c =
@@ -115,20 +79,20 @@ read-all-spec =
     (tie.spec
     Inv-loop
     μ-loop
-    group-of-requires
-    mul-first
-    byte-at-requires
-    add-first
+    (λ c κs. search needs)
+    (λ c. search needs)
+    (λ c κs. search needs)
+    (λ c. search needs)
     loop-holds
-    spot-from-requires
-    slice-aggregate-read-group
+    (λ c κs. search needs)
+    (λ c. search needs)
     read-group-requires
-    add-spot-from
-    spot-from-requires-2
-    add-read-group
-    slice-aggregate-read-group-2
+    (λ c. search needs)
+    (λ c κs. search needs)
+    (λ c. search needs)
+    (λ c. search needs)
     read-group-requires-2
-    add-i
-    loop-less
+    (λ c. search needs)
+    (λ c. search needs)
     loop-again
     returns)

@@ -19,24 +19,9 @@ Inv-loop mask mode addr lanes out₀ n₀ out n = (n ≤ 256) × (length out ≡
 abbrev μ-loop : tie.MeasureT-loop
 μ-loop mask mode addr lanes out₀ n₀ out n = 256 - n
 
-spread-requires : tie.Need-spread-requires Inv-loop μ-loop
-spread-requires c κs = search needs
-
 loop-holds : tie.Need-loop-holds Inv-loop μ-loop
 unfolding listed
 loop-holds c = (omega arith, refl, refl)
-
-array-read-out : tie.Need-array-read-out Inv-loop μ-loop
-array-read-out c = search needs
-
-array-write-out : tie.Need-array-write-out Inv-loop μ-loop
-array-write-out c = search needs
-
-add-n : tie.Need-add-n Inv-loop μ-loop
-add-n c = search needs
-
-loop-less : tie.Need-loop-less Inv-loop μ-loop
-loop-less c = search needs
 
 loop-again : tie.Need-loop-again Inv-loop μ-loop
 loop-again c =
@@ -57,11 +42,11 @@ kept-spec =
     (tie.spec
     Inv-loop
     μ-loop
-    spread-requires
+    (λ c κs. search needs)
     loop-holds
-    array-read-out
-    array-write-out
-    add-n
-    loop-less
+    (λ c. search needs)
+    (λ c. search needs)
+    (λ c. search needs)
+    (λ c. search needs)
     loop-again
     returns)

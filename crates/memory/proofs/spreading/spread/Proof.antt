@@ -23,39 +23,6 @@ loop-holds : tie.Need-loop-holds Inv-loop μ-loop
 unfolding listed
 loop-holds c = (omega arith, refl, refl)
 
-wide-requires : tie.Need-wide-requires Inv-loop μ-loop
-wide-requires c κs = search needs
-
-mul-from : tie.Need-mul-from Inv-loop μ-loop
-mul-from c = search needs
-
-partner-requires : tie.Need-partner-requires Inv-loop μ-loop
-partner-requires c κs = search needs
-
-place-of-requires : tie.Need-place-of-requires Inv-loop μ-loop
-place-of-requires c κs = search needs
-
-add-spread-lane : tie.Need-add-spread-lane Inv-loop μ-loop
-add-spread-lane c = search needs
-
-sub-spread-lane : tie.Need-sub-spread-lane Inv-loop μ-loop
-sub-spread-lane c = search needs
-
-part-out-start : tie.Need-part-out-start Inv-loop μ-loop
-part-out-start c = search needs
-
-part-out-end : tie.Need-part-out-end Inv-loop μ-loop
-part-out-end c = search needs
-
-spread-lane-requires : tie.Need-spread-lane-requires Inv-loop μ-loop
-spread-lane-requires c κs = search needs
-
-add-t : tie.Need-add-t Inv-loop μ-loop
-add-t c = search needs
-
-loop-less : tie.Need-loop-less Inv-loop μ-loop
-loop-less c = search needs
-
 loop-again : tie.Need-loop-again Inv-loop μ-loop
 loop-again c =
     let a = c .before .before .before .before .before .before .before .before .args in
@@ -79,16 +46,16 @@ spread-spec =
     Inv-loop
     μ-loop
     loop-holds
-    wide-requires
-    mul-from
-    partner-requires
-    place-of-requires
-    add-spread-lane
-    sub-spread-lane
-    part-out-start
-    part-out-end
-    spread-lane-requires
-    add-t
-    loop-less
+    (λ c κs. search needs)
+    (λ c. search needs)
+    (λ c κs. search needs)
+    (λ c κs. search needs)
+    (λ c. search needs)
+    (λ c. search needs)
+    (λ c. search needs)
+    (λ c. search needs)
+    (λ c κs. search needs)
+    (λ c. search needs)
+    (λ c. search needs)
     loop-again
     returns)

@@ -23,27 +23,12 @@ loop-holds : tie.Need-loop-holds Inv-loop μ-loop
 unfolding written
 loop-holds c = (omega arith, c .before .before .before .pre .0, refl)
 
-group-of-requires : tie.Need-group-of-requires Inv-loop μ-loop
-group-of-requires c κs = search needs
-
-byte-at-requires : tie.Need-byte-at-requires Inv-loop μ-loop
-byte-at-requires c κs = search needs
-
-rem-write-group : tie.Need-rem-write-group Inv-loop μ-loop
-rem-write-group c = search needs
-
 write-group-requires : tie.Need-write-group-requires Inv-loop μ-loop
 write-group-requires c κs =
     let a = c .before .before .before .before .before .before .before .before .args in
     let l = c .before .before .before .before .loop in
     let j : l .i % a .n < a .n = mod-lt (l .i) (omega arith) in
     search needs
-
-add-i : tie.Need-add-i Inv-loop μ-loop
-add-i c = search needs
-
-loop-less : tie.Need-loop-less Inv-loop μ-loop
-loop-less c = search needs
 
 loop-again : tie.Need-loop-again Inv-loop μ-loop
 loop-again c =
@@ -78,12 +63,12 @@ write-all-spec =
     Inv-loop
     μ-loop
     loop-holds
-    group-of-requires
-    byte-at-requires
-    rem-write-group
+    (λ c κs. search needs)
+    (λ c κs. search needs)
+    (λ c. search needs)
     write-group-requires
-    add-i
-    loop-less
+    (λ c. search needs)
+    (λ c. search needs)
     loop-again
     same-length
     returns)

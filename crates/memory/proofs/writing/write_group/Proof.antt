@@ -23,60 +23,12 @@ loop-holds : tie.Need-loop-holds Inv-loop μ-loop
 unfolding written
 loop-holds c = (omega arith, c .before .before .before .pre .0, refl)
 
-mul-c : tie.Need-mul-c Inv-loop μ-loop
-mul-c c = search needs
-
-add-c : tie.Need-add-c Inv-loop μ-loop
-add-c c = search needs
-
-mul-write-chip : tie.Need-mul-write-chip Inv-loop μ-loop
-mul-write-chip c = search needs
-
-mul-write-chip-2 : tie.Need-mul-write-chip-2 Inv-loop μ-loop
-mul-write-chip-2 c = search needs
-
-add-write-chip : tie.Need-add-write-chip Inv-loop μ-loop
-add-write-chip c = search needs
-
-sub-write-chip : tie.Need-sub-write-chip Inv-loop μ-loop
-sub-write-chip c = search needs
-
-part-write-chip-start : tie.Need-part-write-chip-start Inv-loop μ-loop
-part-write-chip-start c = search needs
-
-part-write-chip-end : tie.Need-part-write-chip-end Inv-loop μ-loop
-part-write-chip-end c = search needs
-
-mul-write-chip-3 : tie.Need-mul-write-chip-3 Inv-loop μ-loop
-mul-write-chip-3 c = search needs
-
-add-write-chip-2 : tie.Need-add-write-chip-2 Inv-loop μ-loop
-add-write-chip-2 c = search needs
-
-shared-slice-read-write-chip : tie.Need-shared-slice-read-write-chip Inv-loop μ-loop
-shared-slice-read-write-chip c = search needs
-
-mul-write-chip-4 : tie.Need-mul-write-chip-4 Inv-loop μ-loop
-mul-write-chip-4 c = search needs
-
-add-write-chip-3 : tie.Need-add-write-chip-3 Inv-loop μ-loop
-add-write-chip-3 c = search needs
-
-shared-slice-read-write-chip-2 : tie.Need-shared-slice-read-write-chip-2 Inv-loop μ-loop
-shared-slice-read-write-chip-2 c = search needs
-
 write-chip-requires : tie.Need-write-chip-requires Inv-loop μ-loop
 write-chip-requires c κs =
     let a = c .before .before .before .before .before .before .before .before .args in
     let l = c .before .before .before .before .loop in
     let n = 8 * a .k + l .t in
     omega (arith, mid-len (32 * n) (32 * n + 32) (l .mem) (omega arith))
-
-add-t : tie.Need-add-t Inv-loop μ-loop
-add-t c = search needs
-
-loop-less : tie.Need-loop-less Inv-loop μ-loop
-loop-less c = search needs
 
 loop-again : tie.Need-loop-again Inv-loop μ-loop
 loop-again c =
@@ -106,23 +58,23 @@ write-group-spec =
     Inv-loop
     μ-loop
     loop-holds
-    mul-c
-    add-c
-    mul-write-chip
-    mul-write-chip-2
-    add-write-chip
-    sub-write-chip
-    part-write-chip-start
-    part-write-chip-end
-    mul-write-chip-3
-    add-write-chip-2
-    shared-slice-read-write-chip
-    mul-write-chip-4
-    add-write-chip-3
-    shared-slice-read-write-chip-2
+    (λ c. search needs)
+    (λ c. search needs)
+    (λ c. search needs)
+    (λ c. search needs)
+    (λ c. search needs)
+    (λ c. search needs)
+    (λ c. search needs)
+    (λ c. search needs)
+    (λ c. search needs)
+    (λ c. search needs)
+    (λ c. search needs)
+    (λ c. search needs)
+    (λ c. search needs)
+    (λ c. search needs)
     write-chip-requires
-    add-t
-    loop-less
+    (λ c. search needs)
+    (λ c. search needs)
     loop-again
     same-length
     returns)

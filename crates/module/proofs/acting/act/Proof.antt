@@ -17,43 +17,16 @@ passed-item-requires c κs =
     let w = well-formed (s .args .i) (s .pre .formed) in
     (s .pre .memory, w .source, w .code, s .pre .supplied)
 
-mode-of-requires : tie.Need-mode-of-requires
-mode-of-requires c κs = search needs
-
-keep-requires : tie.Need-keep-requires
-keep-requires c κs = search needs
-
-deliver-requires : tie.Need-deliver-requires
-deliver-requires c κs = search needs
-
 turn-requires : tie.Need-turn-requires
 turn-requires c κs =
     let s = c .before .before .before .before .before .before .before .before .before .before .before .before .before .before .before .before .before .before .before .before .before in
     well-formed (s .args .i) (s .pre .formed) .logic
 
-takes-requires : tie.Need-takes-requires
-takes-requires c κs = search needs
-
-gives-requires : tie.Need-gives-requires
-gives-requires c κs = search needs
-
-one-if-requires : tie.Need-one-if-requires
-one-if-requires c κs = search needs
-
 add-used : tie.Need-add-used
 add-used c = let s = c .before .before .before .before .before .before .before .before .before .before .before .before .before .before .before .before .before .before .before .before .before .before .before .before .before in omega (arith, s .pre .few-taken, c .one-if .ensures .1)
 
-one-if-requires-2 : tie.Need-one-if-requires-2
-one-if-requires-2 c κs = search needs
-
 add-put : tie.Need-add-put
 add-put c = let s = c .before .before .before .before .before .before .before .before .before .before .before .before .before .before .before .before .before .before .before .before .before .before .before .before .before .before in omega (arith, s .pre .few-given, c .one-if2 .ensures .1)
-
-same-length : tie.Need-same-length
-same-length c = search needs
-
-same-length-2 : tie.Need-same-length-2
-same-length-2 c = search needs
 
 returns : tie.Need-returns
 returns c =
@@ -73,16 +46,16 @@ act-spec =
     tie.close
     (tie.spec
     passed-item-requires
-    mode-of-requires
-    keep-requires
-    deliver-requires
+    (λ c κs. search needs)
+    (λ c κs. search needs)
+    (λ c κs. search needs)
     turn-requires
-    takes-requires
-    gives-requires
-    one-if-requires
+    (λ c κs. search needs)
+    (λ c κs. search needs)
+    (λ c κs. search needs)
     add-used
-    one-if-requires-2
+    (λ c κs. search needs)
     add-put
-    same-length
-    same-length-2
+    (λ c. search needs)
+    (λ c. search needs)
     returns)

@@ -9,15 +9,6 @@ use native.Mathlib.Omega.{arith}
 use Rattle.module.proofs.acting.deliver.Statement.{statement}
 use Rattle.module.proofs.acting.deliver.Tie as tie
 
-gives-requires : tie.Need-gives-requires
-gives-requires c κs = search needs
-
-outgoing-requires : tie.Need-outgoing-requires
-outgoing-requires c κs = search needs
-
-slice-aggregate-copy : tie.Need-slice-aggregate-copy
-slice-aggregate-copy c = search needs
-
 mul-copy : tie.Need-mul-copy
 mul-copy c = let h = c .before .before .before .before .before .pre (sym (c .before .before .before .gives .ensures) ∙ c .before .before .if1 .taken) in omega arith
 
@@ -27,20 +18,8 @@ mul-copy-2 c = let h = c .before .before .before .before .before .pre (sym (c .b
 add-copy : tie.Need-add-copy
 add-copy c = let h = c .before .before .before .before .before .pre (sym (c .before .before .before .gives .ensures) ∙ c .before .before .if1 .taken) in omega arith
 
-sub-copy : tie.Need-sub-copy
-sub-copy c = search needs
-
-part-copy-start : tie.Need-part-copy-start
-part-copy-start c = search needs
-
 part-copy-end : tie.Need-part-copy-end
 part-copy-end c = let h = c .before .before .before .before .before .pre (sym (c .before .before .before .gives .ensures) ∙ c .before .before .if1 .taken) in omega arith
-
-copy-requires : tie.Need-copy-requires
-copy-requires c κs = search needs
-
-same-length : tie.Need-same-length
-same-length c = search needs
 
 returns : tie.Need-returns
 returns c =
@@ -58,16 +37,16 @@ pub deliver-spec : {M : Type 1} → statement M
 deliver-spec =
     tie.close
     (tie.spec
-    gives-requires
-    outgoing-requires
-    slice-aggregate-copy
+    (λ c κs. search needs)
+    (λ c κs. search needs)
+    (λ c. search needs)
     mul-copy
     mul-copy-2
     add-copy
-    sub-copy
-    part-copy-start
+    (λ c. search needs)
+    (λ c. search needs)
     part-copy-end
-    copy-requires
-    same-length
+    (λ c κs. search needs)
+    (λ c. search needs)
     returns
     returns-2)

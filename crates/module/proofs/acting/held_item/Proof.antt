@@ -12,12 +12,6 @@ use borrow.Author.Needs.{needs}
 use Rattle.module.proofs.acting.held_item.Statement.{statement}
 use Rattle.module.proofs.acting.held_item.Tie as tie
 
-mode-of-requires : tie.Need-mode-of-requires
-mode-of-requires c κs = search needs
-
-load-requires : tie.Need-load-requires
-load-requires c κs = search needs
-
 returns : tie.Need-returns
 unfolding heldItem
 returns c =
@@ -40,4 +34,4 @@ returns-4 c =
     held-y (a .i .source) (a .i .mode) (a .i .addr) (now (a .mem)) (a .r) (omega arith)
 
 pub held-item-spec : {M : Type 1} → statement M
-held-item-spec = tie.close (tie.spec mode-of-requires load-requires returns returns-2 returns-3 returns-4)
+held-item-spec = tie.close (tie.spec (λ c κs. search needs) (λ c κs. search needs) returns returns-2 returns-3 returns-4)

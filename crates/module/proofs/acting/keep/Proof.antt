@@ -9,24 +9,9 @@ use native.Mathlib.Omega.{arith}
 use Rattle.module.proofs.acting.keep.Statement.{statement}
 use Rattle.module.proofs.acting.keep.Tie as tie
 
-store-requires : tie.Need-store-requires
-store-requires c κs = search needs
-
-same-length : tie.Need-same-length
-same-length c = search needs
-
 returns : tie.Need-returns
 unfolding memAfter
 returns c = c .before .before .store .ensures ∙ simp (eq-eqb _ _ (c .before .before .before .before .if1 .taken))
-
-line-mask-requires : tie.Need-line-mask-requires
-line-mask-requires c κs = search needs
-
-store-masked-requires : tie.Need-store-masked-requires
-store-masked-requires c κs = search needs
-
-same-length-2 : tie.Need-same-length-2
-same-length-2 c = search needs
 
 returns-2 : tie.Need-returns-2
 unfolding memAfter
@@ -44,11 +29,11 @@ pub keep-spec : {M : Type 1} → statement M
 keep-spec =
     tie.close
     (tie.spec
-    store-requires
-    same-length
+    (λ c κs. search needs)
+    (λ c. search needs)
     returns
-    line-mask-requires
-    store-masked-requires
-    same-length-2
+    (λ c κs. search needs)
+    (λ c κs. search needs)
+    (λ c. search needs)
     returns-2
     returns-3)

@@ -21,9 +21,6 @@ returns c =
     let a = c .before .before .before .args in
     sym (ap (by-test (now (a .f)) (now (a .y))) (eq-eqb (a .i .kind) 4 (c .before .if1 .taken)))
 
-resolve-requires : tie.Need-resolve-requires
-resolve-requires c κs = search needs
-
 returns-2 : tie.Need-returns-2
 unfolding by-test
 returns-2 c =
@@ -31,4 +28,4 @@ returns-2 c =
     c .resolve .ensures ∙ sym (ap (by-test (now (a .f)) (now (a .y))) (ne-eqb (a .i .kind) 4 (c .before .if1 .left)))
 
 pub outgoing-spec : {M : Type 1} → statement M
-outgoing-spec = tie.close (tie.spec returns resolve-requires returns-2)
+outgoing-spec = tie.close (tie.spec returns (λ c κs. search needs) returns-2)

@@ -13,9 +13,6 @@ use Rattle.module.proofs.acting.passed_item.Tie as tie
 returns : tie.Need-returns
 returns c u = absurd (u (c .if1 .taken))
 
-takes-requires : tie.Need-takes-requires
-takes-requires c κs = search needs
-
 mul-pass-part : tie.Need-mul-pass-part
 mul-pass-part c = let h = c .before .before .before .before .before .before .pre .3 (sym (c .before .takes .ensures) ∙ c .if2 .taken) in omega arith
 
@@ -25,17 +22,8 @@ mul-pass-part-2 c = let h = c .before .before .before .before .before .before .p
 add-pass-part : tie.Need-add-pass-part
 add-pass-part c = let h = c .before .before .before .before .before .before .pre .3 (sym (c .before .takes .ensures) ∙ c .if2 .taken) in omega arith
 
-sub-pass-part : tie.Need-sub-pass-part
-sub-pass-part c = search needs
-
-part-pass-part-start : tie.Need-part-pass-part-start
-part-pass-part-start c = search needs
-
 part-pass-part-end : tie.Need-part-pass-part-end
 part-pass-part-end c = let h = c .before .before .before .before .before .before .pre .3 (sym (c .before .takes .ensures) ∙ c .if2 .taken) in omega arith
-
-pass-part-requires : tie.Need-pass-part-requires
-pass-part-requires c κs = search needs
 
 returns-2 : tie.Need-returns-2
 returns-2 c u =
@@ -49,9 +37,6 @@ held-item-requires c κs =
     let u = eqb-false (a .i .source) 4 (sym (c .before .takes .ensures) ∙ c .if2 .left) in
     (c .before .before .before .before .before .before .pre .0, omega (arith, c .before .before .before .before .before .before .pre .1))
 
-copied-requires : tie.Need-copied-requires
-copied-requires c κs = search needs
-
 returns-3 : tie.Need-returns-3
 returns-3 c u =
     let a = c .before .before .before .before .before .before .before .before .before .before .before .args in
@@ -59,9 +44,6 @@ returns-3 c u =
     c .copied .ensures
     ∙ none-moved (held .result) (a .i .flip) (a .i .code) (c .before .before .if3 .taken)
     ∙ passed-held (a .i) (now (a .mem)) (now (a .items)) (a .r) (a .taken) (sym (c .before .before .before .before .before .before .takes .ensures) ∙ c .before .before .before .before .before .if2 .left) _ (held .ensures)
-
-pass-item-requires : tie.Need-pass-item-requires
-pass-item-requires c κs = search needs
 
 returns-4 : tie.Need-returns-4
 returns-4 c u =
@@ -75,17 +57,17 @@ passed-item-spec =
     tie.close
     (tie.spec
     returns
-    takes-requires
+    (λ c κs. search needs)
     mul-pass-part
     mul-pass-part-2
     add-pass-part
-    sub-pass-part
-    part-pass-part-start
+    (λ c. search needs)
+    (λ c. search needs)
     part-pass-part-end
-    pass-part-requires
+    (λ c κs. search needs)
     returns-2
     held-item-requires
-    copied-requires
+    (λ c κs. search needs)
     returns-3
-    pass-item-requires
+    (λ c κs. search needs)
     returns-4)

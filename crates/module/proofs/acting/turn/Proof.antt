@@ -13,9 +13,6 @@ returns : tie.Need-returns
 unfolding regsAfter
 returns c = c .logic .ensures ∙ simp (eq-eqb _ _ (c .before .if1 .taken))
 
-set-m-requires : tie.Need-set-m-requires
-set-m-requires c κs = search needs
-
 returns-2 : tie.Need-returns-2
 unfolding regsAfter
 returns-2 c = c .set-m .ensures ∙ simp (ne-eqb _ _ (c .before .before .before .if1 .left), eq-eqb _ _ (c .before .if2 .taken))
@@ -25,4 +22,4 @@ unfolding regsAfter
 returns-3 c = simp (ne-eqb _ _ (c .before .before .if1 .left), ne-eqb _ _ (c .if2 .left))
 
 pub turn-spec : {M : Type 1} → statement M
-turn-spec = tie.close (tie.spec logic-requires returns set-m-requires returns-2 returns-3)
+turn-spec = tie.close (tie.spec logic-requires returns (λ c κs. search needs) returns-2 returns-3)

@@ -16,14 +16,8 @@ Inv-loop code table i₀ i = (i ≤ 37) × (indexOf code codes ≡ i + indexOf c
 abbrev μ-loop : tie.MeasureT-loop
 μ-loop code table i₀ i = 37 - i
 
-code-table-requires : tie.Need-code-table-requires Inv-loop μ-loop
-code-table-requires c κs = search needs
-
 loop-holds : tie.Need-loop-holds Inv-loop μ-loop
 loop-holds c = (omega arith, find-none (c .before .args .code) codes)
-
-array-read-if1 : tie.Need-array-read-if1 Inv-loop μ-loop
-array-read-if1 c = search needs
 
 returns : tie.Need-returns Inv-loop μ-loop
 returns c =
@@ -31,12 +25,6 @@ returns c =
     let t = c .before .before .before .code-table in
     let h : l .i < length codes = omega (arith, codes-length) in
     find-here (c .before .before .before .before .args .code) codes (l .i) h (sym (ap (λ (x : List ℕ). getD x (l .i) 0) (t .ensures)) ∙ c .if1 .taken) (l .inv .1)
-
-add-i : tie.Need-add-i Inv-loop μ-loop
-add-i c = search needs
-
-loop-less : tie.Need-loop-less Inv-loop μ-loop
-loop-less c = search needs
 
 loop-again : tie.Need-loop-again Inv-loop μ-loop
 loop-again c =
@@ -57,11 +45,11 @@ find-spec =
     (tie.spec
     Inv-loop
     μ-loop
-    code-table-requires
+    (λ c κs. search needs)
     loop-holds
-    array-read-if1
+    (λ c. search needs)
     returns
-    add-i
-    loop-less
+    (λ c. search needs)
+    (λ c. search needs)
     loop-again
     returns-2)

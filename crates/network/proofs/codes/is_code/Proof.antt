@@ -7,12 +7,9 @@ use Rattle.network.specs.Shifts.{permitted}
 use Rattle.network.proofs.codes.is_code.Statement.{statement}
 use Rattle.network.proofs.codes.is_code.Tie as tie
 
-find-requires : tie.Need-find-requires
-find-requires c κs = search needs
-
 returns : tie.Need-returns
 unfolding permitted
 returns c = ap (λ (x : ℕ). ltb x 37) (c .find .ensures)
 
 pub is-code-spec : {M : Type 1} → statement M
-is-code-spec = tie.close (tie.spec find-requires returns)
+is-code-spec = tie.close (tie.spec (λ c κs. search needs) returns)

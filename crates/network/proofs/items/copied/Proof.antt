@@ -12,9 +12,6 @@ use Rattle.bits.proofs.Items.{pack-is}
 use Rattle.network.proofs.items.copied.Statement.{statement}
 use Rattle.network.proofs.items.copied.Tie as tie
 
-item-of-requires : tie.Need-item-of-requires
-item-of-requires c κs = search needs
-
 returns : tie.Need-returns
 returns c =
     let fits : (i : ℕ) → Fits w8 (getD (c .item-of .result) i 0) = λ i. search needs in
@@ -22,4 +19,4 @@ returns c =
     (λ k h. ap (λ (l : List ℕ). bitOf l k) (c .item-of .ensures))
 
 pub copied-spec : {M : Type 1} → statement M
-copied-spec = tie.close (tie.spec item-of-requires returns)
+copied-spec = tie.close (tie.spec (λ c κs. search needs) returns)

@@ -8,14 +8,8 @@ use Rattle.network.proofs.TurnLaws.{ones-pos, mask-is, mask-lt}
 use Rattle.network.proofs.shift.mask_of.Statement.{statement}
 use Rattle.network.proofs.shift.mask_of.Tie as tie
 
-ones-requires : tie.Need-ones-requires
-ones-requires c κs = search needs
-
 div-result : tie.Need-div-result
 div-result c = let a = c .before .args in omega (arith, ones-pos (a .p) (a .m) (c .before .pre .0) (c .before .pre .1))
-
-ones-requires-2 : tie.Need-ones-requires-2
-ones-requires-2 c κs = search needs
 
 product : (c : tie.After-ones2) → 255 / c .before .ones .result * c .ones2 .result ≡ mask (c .before .before .args .p) (c .before .before .args .m)
 product c =
@@ -31,4 +25,4 @@ returns : tie.Need-returns
 returns c = product c
 
 pub mask-of-spec : {M : Type 1} → statement M
-mask-of-spec = tie.close (tie.spec ones-requires div-result ones-requires-2 mul-result returns)
+mask-of-spec = tie.close (tie.spec (λ c κs. search needs) div-result (λ c κs. search needs) mul-result returns)

@@ -5,12 +5,6 @@ use Rattle.network.proofs.TurnLaws.{Room, room, place-is}
 use Rattle.network.proofs.shift.place_from.Statement.{statement}
 use Rattle.network.proofs.shift.place_from.Tie as tie
 
-pow2-requires : tie.Need-pow2-requires
-pow2-requires c κs = search needs
-
-pow2-requires-2 : tie.Need-pow2-requires-2
-pow2-requires-2 c κs = search needs
-
 facts : (c : tie.After-pow22) → Room (c .before .pow2 .result) (c .pow22 .result) (c .before .before .args .k)
 facts c =
     let s = c .before .before in
@@ -46,8 +40,8 @@ pub place-from-spec : {M : Type 1} → statement M
 place-from-spec =
     tie.close
     (tie.spec
-    pow2-requires
-    pow2-requires-2
+    (λ c κs. search needs)
+    (λ c κs. search needs)
     div-result
     mul-result
     rem-result

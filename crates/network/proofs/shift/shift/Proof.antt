@@ -19,52 +19,19 @@ Inv-loop lines p m round up down which out₀ i₀ out i =
 abbrev μ-loop : tie.MeasureT-loop
 μ-loop lines p m round up down which out₀ i₀ out i = 32 - i
 
-wrap-requires : tie.Need-wrap-requires Inv-loop μ-loop
-wrap-requires c κs = search needs
-
-places-requires : tie.Need-places-requires Inv-loop μ-loop
-places-requires c κs = search needs
-
-places-requires-2 : tie.Need-places-requires-2 Inv-loop μ-loop
-places-requires-2 c κs = search needs
-
 sub-down : tie.Need-sub-down Inv-loop μ-loop
 sub-down c =
     let s = c .before .before .before in
     omega (arith, reach-le (s .args .p) (s .args .m) (s .pre .0) (s .pre .1))
 
-mask-of-requires : tie.Need-mask-of-requires Inv-loop μ-loop
-mask-of-requires c κs = search needs
-
 loop-holds : tie.Need-loop-holds Inv-loop μ-loop
 unfolding listed
 loop-holds c = (omega arith, refl, refl)
-
-element-copy-out-mix : tie.Need-element-copy-out-mix Inv-loop μ-loop
-element-copy-out-mix c = search needs
-
-shl-mix : tie.Need-shl-mix Inv-loop μ-loop
-shl-mix c = search needs
-
-array-read-mix : tie.Need-array-read-mix Inv-loop μ-loop
-array-read-mix c = search needs
 
 shr-mix : tie.Need-shr-mix Inv-loop μ-loop
 shr-mix c =
     let s = c .before .before .before .before .before .before .before in
     omega (arith, reach-pos (s .args .p) (s .args .m) (s .pre .0) (s .pre .1), reach-lt (s .args .p) (s .args .m) (s .pre .0) (s .pre .1))
-
-mix-requires : tie.Need-mix-requires Inv-loop μ-loop
-mix-requires c κs = search needs
-
-array-write-out : tie.Need-array-write-out Inv-loop μ-loop
-array-write-out c = search needs
-
-add-i : tie.Need-add-i Inv-loop μ-loop
-add-i c = search needs
-
-loop-less : tie.Need-loop-less Inv-loop μ-loop
-loop-less c = search needs
 
 loop-again : tie.Need-loop-again Inv-loop μ-loop
 loop-again c =
@@ -88,19 +55,19 @@ shift-spec =
     (tie.spec
     Inv-loop
     μ-loop
-    wrap-requires
-    places-requires
-    places-requires-2
+    (λ c κs. search needs)
+    (λ c κs. search needs)
+    (λ c κs. search needs)
     sub-down
-    mask-of-requires
+    (λ c κs. search needs)
     loop-holds
-    element-copy-out-mix
-    shl-mix
-    array-read-mix
+    (λ c. search needs)
+    (λ c. search needs)
+    (λ c. search needs)
     shr-mix
-    mix-requires
-    array-write-out
-    add-i
-    loop-less
+    (λ c κs. search needs)
+    (λ c. search needs)
+    (λ c. search needs)
+    (λ c. search needs)
     loop-again
     returns)

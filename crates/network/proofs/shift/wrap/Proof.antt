@@ -18,30 +18,9 @@ Inv-loop lines p m a b out₀ i₀ out i = (i ≤ 32) × (length out ≡ 32) × 
 abbrev μ-loop : tie.MeasureT-loop
 μ-loop lines p m a b out₀ i₀ out i = 32 - i
 
-over-byte-requires : tie.Need-over-byte-requires Inv-loop μ-loop
-over-byte-requires c κs = search needs
-
-over-byte-requires-2 : tie.Need-over-byte-requires-2 Inv-loop μ-loop
-over-byte-requires-2 c κs = search needs
-
 loop-holds : tie.Need-loop-holds Inv-loop μ-loop
 unfolding listed
 loop-holds c = (omega arith, refl, refl)
-
-place-from-requires : tie.Need-place-from-requires Inv-loop μ-loop
-place-from-requires c κs = search needs
-
-element-copy-out-out : tie.Need-element-copy-out-out Inv-loop μ-loop
-element-copy-out-out c = search needs
-
-array-write-out : tie.Need-array-write-out Inv-loop μ-loop
-array-write-out c = search needs
-
-add-i : tie.Need-add-i Inv-loop μ-loop
-add-i c = search needs
-
-loop-less : tie.Need-loop-less Inv-loop μ-loop
-loop-less c = search needs
 
 loop-again : tie.Need-loop-again Inv-loop μ-loop
 unfolding wrapped
@@ -65,13 +44,13 @@ wrap-spec =
     (tie.spec
     Inv-loop
     μ-loop
-    over-byte-requires
-    over-byte-requires-2
+    (λ c κs. search needs)
+    (λ c κs. search needs)
     loop-holds
-    place-from-requires
-    element-copy-out-out
-    array-write-out
-    add-i
-    loop-less
+    (λ c κs. search needs)
+    (λ c. search needs)
+    (λ c. search needs)
+    (λ c. search needs)
+    (λ c. search needs)
     loop-again
     returns)

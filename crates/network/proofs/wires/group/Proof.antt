@@ -11,9 +11,6 @@ use Rattle.network.proofs.wires.group.Tie as tie
 returns : tie.Need-returns
 returns c = group-is (c .args .line) (c .args .j) (c .pre)
 
-shl-result : tie.Need-shl-result
-shl-result c = search needs
-
 rem-result : tie.Need-rem-result
 rem-result c = omega (arith, one-up (c .args .j) (c .pre), pow-pos (c .args .j))
 
@@ -21,4 +18,4 @@ sub-result : tie.Need-sub-result
 sub-result c = leading-le 8 _
 
 pub group-spec : {M : Type 1} → statement M
-group-spec = tie.close (tie.spec shl-result rem-result sub-result returns)
+group-spec = tie.close (tie.spec (λ c. search needs) rem-result sub-result returns)

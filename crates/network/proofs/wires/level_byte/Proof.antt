@@ -23,27 +23,6 @@ loop-holds : tie.Need-loop-holds Inv-loop μ-loop
 unfolding digitsOf
 loop-holds c = (omega arith, refl)
 
-mul-level-line : tie.Need-mul-level-line Inv-loop μ-loop
-mul-level-line c = search needs
-
-add-level-line : tie.Need-add-level-line Inv-loop μ-loop
-add-level-line c = search needs
-
-level-line-requires : tie.Need-level-line-requires Inv-loop μ-loop
-level-line-requires c κs = search needs
-
-bit-at-requires : tie.Need-bit-at-requires Inv-loop μ-loop
-bit-at-requires c κs = search needs
-
-shl-acc : tie.Need-shl-acc Inv-loop μ-loop
-shl-acc c = search needs
-
-add-d : tie.Need-add-d Inv-loop μ-loop
-add-d c = search needs
-
-loop-less : tie.Need-loop-less Inv-loop μ-loop
-loop-less c = search needs
-
 -- the digit that a turn reads
 read : (c : tie.After-bit-at Inv-loop μ-loop)
     → let a = c .before .before .before .before .args in
@@ -73,12 +52,12 @@ level-byte-spec =
     Inv-loop
     μ-loop
     loop-holds
-    mul-level-line
-    add-level-line
-    level-line-requires
-    bit-at-requires
-    shl-acc
-    add-d
-    loop-less
+    (λ c. search needs)
+    (λ c. search needs)
+    (λ c κs. search needs)
+    (λ c κs. search needs)
+    (λ c. search needs)
+    (λ c. search needs)
+    (λ c. search needs)
     loop-again
     returns)

@@ -4,21 +4,6 @@ use Rattle.network.proofs.WireLaws.{level-off, level-on}
 use Rattle.network.proofs.wires.level_line.Statement.{statement}
 use Rattle.network.proofs.wires.level_line.Tie as tie
 
-group-requires : tie.Need-group-requires
-group-requires c κs = search needs
-
-cast-signal-at : tie.Need-cast-signal-at
-cast-signal-at c = search needs
-
-signal-at-requires : tie.Need-signal-at-requires
-signal-at-requires c κs = search needs
-
-shr-if1 : tie.Need-shr-if1
-shr-if1 c = search needs
-
-shl-result : tie.Need-shl-result
-shl-result c = search needs
-
 returns : tie.Need-returns
 returns c =
     let a = c .before .before .before .args in
@@ -36,10 +21,10 @@ pub level-line-spec : {M : Type 1} → statement M
 level-line-spec =
     tie.close
     (tie.spec
-    group-requires
-    cast-signal-at
-    signal-at-requires
-    shr-if1
-    shl-result
+    (λ c κs. search needs)
+    (λ c. search needs)
+    (λ c κs. search needs)
+    (λ c. search needs)
+    (λ c. search needs)
     returns
     returns-2)

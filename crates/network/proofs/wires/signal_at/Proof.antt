@@ -11,20 +11,11 @@ use Rattle.network.proofs.WireLaws.{start-le}
 use Rattle.network.proofs.wires.signal_at.Statement.{statement}
 use Rattle.network.proofs.wires.signal_at.Tie as tie
 
-add-result : tie.Need-add-result
-add-result c = search needs
-
 mul-result : tie.Need-mul-result
 mul-result c = omega (arith, start-le (c .args .j) (c .pre .2))
 
 add-result-2 : tie.Need-add-result-2
 add-result-2 c = omega (arith, start-le (c .args .j) (c .pre .2))
-
-mul-result-2 : tie.Need-mul-result-2
-mul-result-2 c = search needs
-
-index-1-result : tie.Need-index-1-result
-index-1-result c = search needs
 
 index-2-result : tie.Need-index-2-result
 index-2-result c = omega (arith, start-le (c .args .j) (c .pre .2))
@@ -39,10 +30,10 @@ pub signal-at-spec : {M : Type 1} → statement M
 signal-at-spec =
     tie.close
     (tie.spec
-    add-result
+    (λ c. search needs)
     mul-result
     add-result-2
-    mul-result-2
-    index-1-result
+    (λ c. search needs)
+    (λ c. search needs)
     index-2-result
     returns)

@@ -7,27 +7,6 @@ use borrow.Author.Needs.{needs}
 use Rattle.registers.proofs.bytes.function_byte.Statement.{statement}
 use Rattle.registers.proofs.bytes.function_byte.Tie as tie
 
-spread-requires : tie.Need-spread-requires
-spread-requires c κs = search needs
-
-spread-requires-2 : tie.Need-spread-requires-2
-spread-requires-2 c κs = search needs
-
-mix-requires : tie.Need-mix-requires
-mix-requires c κs = search needs
-
-spread-requires-3 : tie.Need-spread-requires-3
-spread-requires-3 c κs = search needs
-
-spread-requires-4 : tie.Need-spread-requires-4
-spread-requires-4 c κs = search needs
-
-mix-requires-2 : tie.Need-mix-requires-2
-mix-requires-2 c κs = search needs
-
-mix-requires-3 : tie.Need-mix-requires-3
-mix-requires-3 c κs = search needs
-
 returns : tie.Need-returns
 returns c j h =
     let two = c .before in
@@ -43,11 +22,11 @@ pub function-byte-spec : {M : Type 1} → statement M
 function-byte-spec =
     tie.close
     (tie.spec
-    spread-requires
-    spread-requires-2
-    mix-requires
-    spread-requires-3
-    spread-requires-4
-    mix-requires-2
-    mix-requires-3
+    (λ c κs. search needs)
+    (λ c κs. search needs)
+    (λ c κs. search needs)
+    (λ c κs. search needs)
+    (λ c κs. search needs)
+    (λ c κs. search needs)
+    (λ c κs. search needs)
     returns)

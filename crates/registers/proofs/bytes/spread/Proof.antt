@@ -7,9 +7,6 @@ use borrow.Author.Needs.{needs}
 use Rattle.registers.proofs.bytes.spread.Statement.{statement}
 use Rattle.registers.proofs.bytes.spread.Tie as tie
 
-shr-result : tie.Need-shr-result
-shr-result c = search needs
-
 mul-result : tie.Need-mul-result
 mul-result c = omega (arith, and-le-r (c .args .t / 2 ^ c .args .j) 1)
 
@@ -17,4 +14,4 @@ returns : tie.Need-returns
 returns c = ap (λ (x : ℕ). 255 * x) (and-mask (c .args .t / 2 ^ c .args .j) 1)
 
 pub spread-spec : {M : Type 1} → statement M
-spread-spec = tie.close (tie.spec shr-result mul-result returns)
+spread-spec = tie.close (tie.spec (λ c. search needs) mul-result returns)

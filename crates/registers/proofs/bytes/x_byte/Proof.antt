@@ -11,21 +11,6 @@ use native.Mathlib.Omega.{arith}
 use Rattle.registers.proofs.bytes.x_byte.Statement.{statement}
 use Rattle.registers.proofs.bytes.x_byte.Tie as tie
 
-spread-requires : tie.Need-spread-requires
-spread-requires c κs = search needs
-
-spread-requires-2 : tie.Need-spread-requires-2
-spread-requires-2 c κs = search needs
-
-mix-requires : tie.Need-mix-requires
-mix-requires c κs = search needs
-
-function-byte-requires : tie.Need-function-byte-requires
-function-byte-requires c κs = search needs
-
-mix-requires-2 : tie.Need-mix-requires-2
-mix-requires-2 c κs = search needs
-
 returns : tie.Need-returns
 unfolding newX
 returns c j h =
@@ -39,9 +24,9 @@ pub x-byte-spec : {M : Type 1} → statement M
 x-byte-spec =
     tie.close
     (tie.spec
-    spread-requires
-    spread-requires-2
-    mix-requires
-    function-byte-requires
-    mix-requires-2
+    (λ c κs. search needs)
+    (λ c κs. search needs)
+    (λ c κs. search needs)
+    (λ c κs. search needs)
+    (λ c κs. search needs)
     returns)

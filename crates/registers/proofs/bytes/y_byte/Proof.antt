@@ -10,15 +10,6 @@ use native.Mathlib.Omega.{arith}
 use Rattle.registers.proofs.bytes.y_byte.Statement.{statement}
 use Rattle.registers.proofs.bytes.y_byte.Tie as tie
 
-function-byte-requires : tie.Need-function-byte-requires
-function-byte-requires c κs = search needs
-
-spread-requires : tie.Need-spread-requires
-spread-requires c κs = search needs
-
-mix-requires : tie.Need-mix-requires
-mix-requires c κs = search needs
-
 returns : tie.Need-returns
 unfolding newY
 returns c j h =
@@ -29,4 +20,4 @@ returns c j h =
     ∙ ap (λ (b : Bool). cond b (functionBit (a .byte7 % 16) (digit (a .y) j) (digit (a .item) j)) (digit (a .y) j)) (mask-Y (a .byte7 / 16) (omega arith))
 
 pub y-byte-spec : {M : Type 1} → statement M
-y-byte-spec = tie.close (tie.spec function-byte-requires spread-requires mix-requires returns)
+y-byte-spec = tie.close (tie.spec (λ c κs. search needs) (λ c κs. search needs) (λ c κs. search needs) returns)

@@ -17,14 +17,8 @@ abbrev μ-loop : tie.MeasureT-loop
 loop-holds : tie.Need-loop-holds Inv-loop μ-loop
 loop-holds c = (omega arith, λ k h. absurd (omega arith))
 
-element-copy-out-b : tie.Need-element-copy-out-b Inv-loop μ-loop
-element-copy-out-b c = search needs
-
 mul-result : tie.Need-mul-result Inv-loop μ-loop
 mul-result c = omega arith
-
-below-lowest-requires : tie.Need-below-lowest-requires Inv-loop μ-loop
-below-lowest-requires c κs = search needs
 
 add-result : tie.Need-add-result Inv-loop μ-loop
 add-result c = omega arith
@@ -58,9 +52,9 @@ first-responder-spec =
     Inv-loop
     μ-loop
     loop-holds
-    element-copy-out-b
+    (λ c. search needs)
     mul-result
-    below-lowest-requires
+    (λ c κs. search needs)
     add-result
     returns
     add-i

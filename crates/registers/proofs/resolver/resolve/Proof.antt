@@ -13,18 +13,6 @@ use native.Mathlib.Omega.{arith}
 use Rattle.registers.proofs.resolver.resolve.Statement.{statement}
 use Rattle.registers.proofs.resolver.resolve.Tie as tie
 
-first-responder-requires : tie.Need-first-responder-requires
-first-responder-requires c κs = search needs
-
-array-write-out : tie.Need-array-write-out
-array-write-out c = search needs
-
-cast-out : tie.Need-cast-out
-cast-out c = search needs
-
-array-write-out-2 : tie.Need-array-write-out-2
-array-write-out-2 c = search needs
-
 returns : tie.Need-returns
 unfolding resolved
 returns c = found (smallest (bitOf (now (c .before .before .args .y)))) (c .before .first-responder .result) (c .before .first-responder .ensures) (c .if1 .taken)
@@ -43,9 +31,9 @@ pub resolve-spec : {M : Type 1} → statement M
 resolve-spec =
     tie.close
     (tie.spec
-    first-responder-requires
-    array-write-out
-    cast-out
-    array-write-out-2
+    (λ c κs. search needs)
+    (λ c. search needs)
+    (λ c. search needs)
+    (λ c. search needs)
     returns
     returns-2)

@@ -22,36 +22,6 @@ loop-holds : tie.Need-loop-holds Inv-loop μ-loop
 unfolding listed digitsOf
 loop-holds c = (omega arith, refl)
 
-partner-requires : tie.Need-partner-requires Inv-loop μ-loop
-partner-requires c κs = search needs
-
-cast-from : tie.Need-cast-from Inv-loop μ-loop
-cast-from c = search needs
-
-mul-from : tie.Need-mul-from Inv-loop μ-loop
-mul-from c = search needs
-
-add-keep-lane : tie.Need-add-keep-lane Inv-loop μ-loop
-add-keep-lane c = search needs
-
-sub-keep-lane : tie.Need-sub-keep-lane Inv-loop μ-loop
-sub-keep-lane c = search needs
-
-part-keep-lane-start : tie.Need-part-keep-lane-start Inv-loop μ-loop
-part-keep-lane-start c = search needs
-
-part-keep-lane-end : tie.Need-part-keep-lane-end Inv-loop μ-loop
-part-keep-lane-end c = search needs
-
-keep-lane-requires : tie.Need-keep-lane-requires Inv-loop μ-loop
-keep-lane-requires c κs = search needs
-
-add-j : tie.Need-add-j Inv-loop μ-loop
-add-j c = search needs
-
-loop-less : tie.Need-loop-less Inv-loop μ-loop
-loop-less c = search needs
-
 loop-again : tie.Need-loop-again Inv-loop μ-loop
 loop-again c =
     let a = c .before .before .before .before .before .before .before .args in
@@ -77,15 +47,15 @@ gather-word-spec =
     Inv-loop
     μ-loop
     loop-holds
-    partner-requires
-    cast-from
-    mul-from
-    add-keep-lane
-    sub-keep-lane
-    part-keep-lane-start
-    part-keep-lane-end
-    keep-lane-requires
-    add-j
-    loop-less
+    (λ c κs. search needs)
+    (λ c. search needs)
+    (λ c. search needs)
+    (λ c. search needs)
+    (λ c. search needs)
+    (λ c. search needs)
+    (λ c. search needs)
+    (λ c κs. search needs)
+    (λ c. search needs)
+    (λ c. search needs)
     loop-again
     returns)

@@ -28,12 +28,6 @@ put-group-requires c κs =
     let k : bitXor (a .v) i < 32 = xor-lt 5 (a .v) i (omega arith) (omega arith) in
     search needs
 
-add-i : tie.Need-add-i Inv-loop μ-loop
-add-i c = search needs
-
-loop-less : tie.Need-loop-less Inv-loop μ-loop
-loop-less c = search needs
-
 loop-again : tie.Need-loop-again Inv-loop μ-loop
 loop-again c =
     let a = c .before .before .before .before .before .before .before .before .args in
@@ -52,9 +46,6 @@ loop-again c =
           sym (ap₂ (λ (x y : ℕ). getD (now (a .bytes)) (32 * y + x) 0) hi lo)),
     )
 
-same-length : tie.Need-same-length Inv-loop μ-loop
-same-length c = search needs
-
 returns : tie.Need-returns Inv-loop μ-loop
 returns c =
     let a = c .before .before .before .before .args in
@@ -69,8 +60,8 @@ put-all-spec =
     μ-loop
     loop-holds
     put-group-requires
-    add-i
-    loop-less
+    (λ c. search needs)
+    (λ c. search needs)
     loop-again
-    same-length
+    (λ c. search needs)
     returns)

@@ -8,11 +8,5 @@ use Rattle.words.proofs.ordering.put_chip.Tie as tie
 returns : tie.Need-returns
 returns c = refl
 
-slice-write-chip : tie.Need-slice-write-chip
-slice-write-chip c = search needs
-
-same-length : tie.Need-same-length
-same-length c = search needs
-
 pub put-chip-spec : {M : Type 1} → statement M
-put-chip-spec = tie.close (tie.spec slice-write-chip same-length returns)
+put-chip-spec = tie.close (tie.spec (λ c. search needs) (λ c. search needs) returns)

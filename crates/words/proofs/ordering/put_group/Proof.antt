@@ -22,51 +22,12 @@ loop-holds : tie.Need-loop-holds Inv-loop μ-loop
 unfolding written
 loop-holds c = (omega arith, c .before .before .pre .0, refl)
 
-mul-c : tie.Need-mul-c Inv-loop μ-loop
-mul-c c = search needs
-
-add-c : tie.Need-add-c Inv-loop μ-loop
-add-c c = search needs
-
-mul-put-chip : tie.Need-mul-put-chip Inv-loop μ-loop
-mul-put-chip c = search needs
-
-mul-put-chip-2 : tie.Need-mul-put-chip-2 Inv-loop μ-loop
-mul-put-chip-2 c = search needs
-
-add-put-chip : tie.Need-add-put-chip Inv-loop μ-loop
-add-put-chip c = search needs
-
-sub-put-chip : tie.Need-sub-put-chip Inv-loop μ-loop
-sub-put-chip c = search needs
-
-part-put-chip-start : tie.Need-part-put-chip-start Inv-loop μ-loop
-part-put-chip-start c = search needs
-
-part-put-chip-end : tie.Need-part-put-chip-end Inv-loop μ-loop
-part-put-chip-end c = search needs
-
-mul-put-chip-3 : tie.Need-mul-put-chip-3 Inv-loop μ-loop
-mul-put-chip-3 c = search needs
-
-add-put-chip-2 : tie.Need-add-put-chip-2 Inv-loop μ-loop
-add-put-chip-2 c = search needs
-
-shared-slice-read-put-chip : tie.Need-shared-slice-read-put-chip Inv-loop μ-loop
-shared-slice-read-put-chip c = search needs
-
 put-chip-requires : tie.Need-put-chip-requires Inv-loop μ-loop
 put-chip-requires c κs =
     let a = c .before .before .before .before .before .before .args in
     let l = c .before .before .before .loop in
     let n = 8 * a .k + l .t in
     omega (arith, mid-len (32 * n) (32 * n + 32) (l .mem) (omega arith))
-
-add-t : tie.Need-add-t Inv-loop μ-loop
-add-t c = search needs
-
-loop-less : tie.Need-loop-less Inv-loop μ-loop
-loop-less c = search needs
 
 loop-again : tie.Need-loop-again Inv-loop μ-loop
 loop-again c =
@@ -79,9 +40,6 @@ loop-again c =
       chip-written (λ o. getD (now (a .bytes)) (32 * l .t + a .i) 0) (l .mem) n (a .i) _ (omega arith) (omega arith) (w .ensures)
           ∙ written-more (λ n. 32 * (8 * a .k + n) + a .i) (λ n o. getD (now (a .bytes)) (32 * n + a .i) 0) (now (a .mem)) (l .t) (l .mem) _ _ (l .inv .2) refl refl,
     )
-
-same-length : tie.Need-same-length Inv-loop μ-loop
-same-length c = search needs
 
 returns : tie.Need-returns Inv-loop μ-loop
 returns c =
@@ -96,20 +54,20 @@ put-group-spec =
     Inv-loop
     μ-loop
     loop-holds
-    mul-c
-    add-c
-    mul-put-chip
-    mul-put-chip-2
-    add-put-chip
-    sub-put-chip
-    part-put-chip-start
-    part-put-chip-end
-    mul-put-chip-3
-    add-put-chip-2
-    shared-slice-read-put-chip
+    (λ c. search needs)
+    (λ c. search needs)
+    (λ c. search needs)
+    (λ c. search needs)
+    (λ c. search needs)
+    (λ c. search needs)
+    (λ c. search needs)
+    (λ c. search needs)
+    (λ c. search needs)
+    (λ c. search needs)
+    (λ c. search needs)
     put-chip-requires
-    add-t
-    loop-less
+    (λ c. search needs)
+    (λ c. search needs)
     loop-again
-    same-length
+    (λ c. search needs)
     returns)
