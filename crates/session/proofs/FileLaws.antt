@@ -98,50 +98,66 @@ read-place limit kind b h = go (ltb limit (length b)) refl
     go true e = omega arith
     go false e = omega (arith, ltb-false limit (length b) e, judged-place kind b)
 
-pub file-place : (none : Moved) (limit kind : ℕ) (f : File) → none .place ≡ 0 → limit ≤ 8704 → fileAnswer none limit kind f .place ≤ 17
+file-place : (none : Moved) (limit kind : ℕ) (f : File) → none .place ≡ 0 → limit ≤ 8704 → fileAnswer none limit kind f .place ≤ 17
 file-place none limit kind absent z h = omega arith
 file-place none limit kind failed z h = omega arith
 file-place none limit kind (bytes b) z h = read-place limit kind b h
 
-pub place-small : (none : Moved) (limit kind : ℕ) (f : File) (a : Moved) → a ≡ fileAnswer none limit kind f → none .place ≡ 0 → limit ≤ 8704 → a .place ≤ 17
+place-small : (none : Moved) (limit kind : ℕ) (f : File) (a : Moved) → a ≡ fileAnswer none limit kind f
+    → none .place ≡ 0 → limit ≤ 8704 → a .place ≤ 17
 place-small none limit kind f a e z h = omega (arith, ap (λ (x : Moved). x .place) e, file-place none limit kind f z h)
 
 -- ---- before.pic
 
+-- What is promised of memory and registers: they hold the content of a file that is not refused, and else stay.
+-- A place is no further than a picture has blocks.
+abbrev pub Taken : File → Moved → List ℕ → List ℕ → List ℕ → List ℕ → Type 0
+Taken file r m g m′ g′ =
+    (r ≡ pictureAnswer file)
+    × ((m′ ≡ changed r (scrambled (contentIn file)) m)
+    × ((g′ ≡ changed r (drop 8192 (contentIn file)) g) × (r .place ≤ 17)))
+
 -- refused: the targets stay
 pub picture-refused : (file : File) (r : Moved) (m g : List ℕ) → r ≡ refused 20 0 → refused 20 0 ≡ pictureAnswer file
-    → (r ≡ pictureAnswer file) × ((m ≡ changed r (scrambled (contentIn file)) m) × (g ≡ changed r (drop 8192 (contentIn file)) g))
+    → Taken file r m g m g
 picture-refused file r m g e q =
     let u = refused-not r 20 0 e (λ z. omega arith) in
-    (e ∙ q, (changed-not r (scrambled (contentIn file)) m u, changed-not r (drop 8192 (contentIn file)) g u))
+    let l : r .place ≤ 17 = omega (arith, ap (λ (x : Moved). x .place) e) in
+    (e ∙ q, (changed-not r (scrambled (contentIn file)) m u, (changed-not r (drop 8192 (contentIn file)) g u, l)))
 
 -- read
 pub picture-taken : (file : File) (b m g m′ g′ : List ℕ) (r : Moved) → bytes b ≡ file → length b ≤ 8704 → length m ≡ 8192 → length g ≡ 96
     → _≡_ {A = PictureLeft} (record { answer = r; memory = m′; registers = g′ }) (pictureRead 1 b m g)
-    → (r ≡ pictureAnswer file) × ((m′ ≡ changed r (scrambled (contentIn file)) m) × (g′ ≡ changed r (drop 8192 (contentIn file)) g))
+    → Taken file r m g m′ g′
 unfolding pictureRead
 picture-taken file b m g m′ g′ r e h lm lg q =
     let p = both-parts r _ (scrambled (contentOf b)) m (drop 8192 (contentOf b)) g m′ g′ q in
     let f : pictureFits 1 (length m) (length g) ≡ true = ap₂ _&&_ (eq-eqb (length m) 8192 lm) (eq-eqb (length g) 96 lg) in
-    subst (λ (x : File). (r ≡ pictureAnswer x) × ((m′ ≡ changed r (scrambled (contentIn x)) m) × (g′ ≡ changed r (drop 8192 (contentIn x)) g))) e
-    (p .0 ∙ read-fits 1 b (pictureFits 1 (length m) (length g)) (λ z. f) ∙ read-short 8704 1 b h, (p .1, p .2))
+    let s : r ≡ pictureAnswer (bytes b) = p .0 ∙ read-fits 1 b (pictureFits 1 (length m) (length g)) (λ z. f) ∙ read-short 8704 1 b h in
+    subst (λ (x : File). Taken x r m g m′ g′) e
+    (s, (p .1, (p .2, place-small (refused 20 0) 8704 1 (bytes b) r s refl (omega arith))))
 
 -- ---- run.lst and in.itm
 
--- What is promised of a target: it begins with the content of a file that is not refused.
+-- What is promised of a target: it begins with the content of a file that is not refused. Of a place, the same.
 abbrev pub Holds : ℕ → File → Moved → List ℕ → Type 0
-Holds kind file r t = (r ≡ contentAnswer kind file) × (r .number ≡ 0 → (r .bytes ≤ length t) × (take (r .bytes) t ≡ contentIn file))
+Holds kind file r t =
+    (r ≡ contentAnswer kind file)
+    × ((r .number ≡ 0 → (r .bytes ≤ length t) × (take (r .bytes) t ≡ contentIn file)) × (r .place ≤ 17))
 
 pub content-absent : (kind : ℕ) (file : File) (t : List ℕ) → absent ≡ file → Holds kind file (done 0) t
-content-absent kind file t e = subst (λ (x : File). Holds kind x (done 0) t) e (refl, λ z. (omega arith, refl))
+content-absent kind file t e = subst (λ (x : File). Holds kind x (done 0) t) e (refl, (λ z. (omega arith, refl), omega arith))
 
 pub content-refused : (kind : ℕ) (file : File) (r : Moved) (t : List ℕ) → r ≡ refused 20 0 → refused 20 0 ≡ contentAnswer kind file → Holds kind file r t
-content-refused kind file r t e q = (e ∙ q, λ z. absurd (refused-not r 20 0 e (λ x. omega arith) z))
+content-refused kind file r t e q =
+    (e ∙ q, (λ z. absurd (refused-not r 20 0 e (λ x. omega arith) z), omega (arith, ap (λ (x : Moved). x .place) e)))
 
 pub content-taken : (kind : ℕ) (file : File) (b t t′ : List ℕ) (r : Moved) → bytes b ≡ file → 1 < kind → length b ≤ 8192 → length t ≡ 8192
     → _≡_ {A = ContentLeft} (record { answer = r; buffer = t′ }) (contentRead kind b t) → Holds kind file r t′
 unfolding contentRead
-content-taken kind file b t t′ r e k h lt q = subst (λ (x : File). Holds kind x r t′) e (j ∙ read-short 8192 kind b h, found)
+content-taken kind file b t t′ r e k h lt q =
+    let s = j ∙ read-short 8192 kind b h in
+    subst (λ (x : File). Holds kind x r t′) e (s, (found, place-small (done 0) 8192 kind (bytes b) r s refl (omega arith)))
   where
     p : (r ≡ readAnswer kind b (targetFits kind b t)) × (t′ ≡ changed r (over (contentOf b) t) t)
     p = left-parts r _ (over (contentOf b) t) t t′ q

@@ -81,8 +81,7 @@ outBytes = replicate 8192 0
 abbrev pub unlessRefused : ℕ → Moved → Outcome → Outcome
 unlessRefused letter a next = cond (not (eqb (a .number) 0)) (onlyLine letter a) next
 
--- "It reads before.pic, run.lst and in.itm in that order", and runs: the letters are p, l and i.
--- The last stage, with the memory, the registers and the list that were taken before.
+-- "It reads before.pic, run.lst and in.itm in that order": p, l and i. The last stage, with what the others took, runs.
 unfoldable pub withItems : List ℕ → List ℕ → List ℕ → File → Outcome
 withItems memory registers list items =
     unlessRefused 105 (contentAnswer 3 items)
@@ -91,8 +90,7 @@ withItems memory registers list items =
 -- The second, with the memory and the registers.
 unfoldable pub withList : List ℕ → List ℕ → File → File → Outcome
 withList memory registers list items =
-    unlessRefused 108 (contentAnswer 2 list)
-    (withItems memory registers (contentIn list) items)
+    unlessRefused 108 (contentAnswer 2 list) (withItems memory registers (contentIn list) items)
 
 -- The first, and so the program.
 unfoldable pub outcome : File → File → File → Outcome

@@ -65,6 +65,7 @@ fn take_picture(found: Found, buffer: &[u8], memory: &mut [u8], registers: &mut 
         ≡ changed r (scrambled (contentIn (fileOf found (now (buffer .entry))))) (now (memory .entry)) ⌝ }
     ensures registers { λ r. ⌜ now (registers .exit)
         ≡ changed r (drop 8192 (contentIn (fileOf found (now (buffer .entry))))) (now (registers .entry)) ⌝ }
+    ensures place { λ r. ⌜ r .place ≤ 17 ⌝ }
 {
     match found {
         Found::Absent => unread(),
@@ -85,6 +86,7 @@ fn take_content(found: Found, kind: usize, buffer: &[u8], target: &mut [u8]) -> 
     ensures answer { λ r. ⌜ r ≡ contentAnswer kind (fileOf found (now (buffer .entry))) ⌝ }
     ensures target { λ r. ⌜ (r .number ≡ 0 → (r .bytes ≤ length (now (target .exit)))
         × (take (r .bytes) (now (target .exit)) ≡ contentIn (fileOf found (now (buffer .entry))))) ⌝ }
+    ensures place { λ r. ⌜ r .place ≤ 17 ⌝ }
 {
     match found {
         Found::Absent => Moved {

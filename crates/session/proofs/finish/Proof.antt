@@ -11,18 +11,23 @@ use borrow.Author.Needs.{needs}
 use Rattle.session.proofs.finish.Statement.{statement}
 use Rattle.session.proofs.finish.Tie as tie
 
+-- where the function begins, from where the run is done
+abbrev start : tie.After-run → tie.Start
+start c = c .before .before .before .before .before .before .before .before .before .before .before
+
 -- what the run is lent
-abbrev lent : List ℕ → List ℕ → List ℕ → List ℕ → List ℕ → Lent (List ℕ)
-lent memory registers list items out = record { memory = memory; registers = registers; list = list; items = items; out = out }
+abbrev lent : tie.After-run → Lent (List ℕ)
+lent c =
+    let a = start c .args in
+    record { memory = now (a .memory); registers = now (a .registers); list = now (a .list); items = now (a .items); out = now (a .out) }
 
 print-run-requires : tie.Need-print-run-requires
 print-run-requires c κs =
-    let s = c .before .before .before .before .before .before .before .before .before .before .before .before .before .before .before .before .before .before .before in
-    let a = s .args in
-    let r = c .before .before .before .before .before .before .before .before .run in
-    let l = r .kept .1 .1 .1 .1 .0 in (
-      run-small (lent (now (a .memory)) (now (a .registers)) (now (a .list)) (now (a .items)) (now (a .out))) (r .last .1 .1 .1 .1 .0) (r .result)
-          (ap (λ (x : Left (List ℕ) Answer). x .answer) (r .ensures)) l,
+    let q = c .before .before .before .before .before .before .before .before in
+    let r = q .run in
+    let l = r .kept .1 .1 .1 .1 .0 in
+    let s = start q in (
+      run-small (lent q) (r .last .1 .1 .1 .1 .0) (r .result) (ap (λ (x : Left (List ℕ) Answer). x .answer) (r .ensures)) l,
       l ∙ s .pre .2,
       s .pre .4,
     )
@@ -31,11 +36,13 @@ returns : tie.Need-returns
 returns c =
     let p = c .before .before .before .before .before .before .before .before in
     let q = p .before .before .before .before .before .before .before .before .before in
-    let a = q .before .before .before .before .before .before .before .before .before .before .before .args in
-    let s = ran (lent (now (a .memory)) (now (a .registers)) (now (a .list)) (now (a .items)) (now (a .out))) in
+    let a = start q .args in
+    let s = ran (lent q) in
     let k = c .before .before .keep in
     let t = p .print-run in
-    finished-shown (finished s) s _ _ _ (q .run .result) (t .result) (k .result) (now (a .text)) (t .last .1 .1 .0) (now (a .after)) (k .last .1 .1 .1 .0) refl (q .run .ensures) (t .ensures .0) (t .ensures .1 .0) (t .ensures .1 .1) (k .ensures .0) (k .ensures .1) (k .ensures .2)
+    finished-shown (finished s) s _ _ _ (q .run .result) (t .result) (k .result) (now (a .text)) (t .last .1 .1 .0)
+    (now (a .after)) (k .last .1 .1 .1 .0) refl (q .run .ensures) (t .ensures .0) (t .ensures .1 .0) (t .ensures .1 .1)
+    (k .ensures .0) (k .ensures .1) (k .ensures .2)
 
 pub finish-spec : {M : Type 1} → statement M
 finish-spec =

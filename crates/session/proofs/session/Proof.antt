@@ -1,13 +1,10 @@
 -- `session`: the line of before.pic where it is refused, else what `with_list` shows.
-use mathlib.Core.Path.{refl, sym, ap₂, _∙_}
+use mathlib.Core.Path.{sym, ap₂, _∙_}
 use mathlib.Core.List.{List}
 use Prim.Native.Nat.{ℕ}
-use native.Mathlib.Omega.{arith}
 use denote.Ref.{now}
-use Rattle.contents.specs.File.{refused}
 use Rattle.contents.proofs.AnswerLaws.{changed-done}
 use Rattle.session.specs.Session.{fileOf, withList, outcome}
-use Rattle.session.proofs.FileLaws.{place-small}
 use Rattle.session.proofs.SessionLaws.{line-shown, next-shown}
 use borrow.Author.Needs.{needs}
 use Rattle.session.proofs.session.Statement.{statement}
@@ -18,13 +15,7 @@ abbrev start : tie.After-take-picture → tie.Start
 start c = c .before .before .before .before .before .before .before .before .before
 
 print-line-requires : tie.Need-print-line-requires
-print-line-requires c κs =
-    let t = c .before .before .before .before .before in
-    let a = start t .args in
-    let r = t .take-picture in (
-      place-small (refused 20 0) 8704 1 (fileOf (a .p) (now (a .picture))) (r .result) (r .ensures .0) refl (omega arith),
-      omega (arith, start t .pre .1),
-    )
+print-line-requires c κs = search needs
 
 returns : tie.Need-returns
 unfolding outcome
@@ -46,9 +37,10 @@ returns-2 c =
     let a = start t .args in
     let r = t .take-picture in
     next-shown 112 (r .result) _ _ _ (w .with-list .result) (now (a .text)) _ (now (a .after)) _ (r .ensures .0) (n .if1 .left)
-    (ap₂ (λ (memory registers : List ℕ). withList memory registers (fileOf (a .l) (now (a .list))) (fileOf (a .i) (now (a .items))))
+    (ap₂
+    (λ (memory registers : List ℕ). withList memory registers (fileOf (a .l) (now (a .list))) (fileOf (a .i) (now (a .items))))
     (changed-done (r .result) _ _ (n .if1 .left) ∙ sym (r .ensures .1 .0))
-    (changed-done (r .result) _ _ (n .if1 .left) ∙ sym (r .ensures .1 .1)))
+    (changed-done (r .result) _ _ (n .if1 .left) ∙ sym (r .ensures .1 .1 .0)))
     (w .with-list .ensures)
 
 pub session-spec : {M : Type 1} → statement M

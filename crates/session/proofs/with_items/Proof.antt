@@ -1,14 +1,11 @@
 -- `with_items`: the line of in.itm where it is refused, else what `finish` shows.
-use mathlib.Core.Path.{refl, sym, ap₂}
+use mathlib.Core.Path.{sym, ap₂}
 use mathlib.Core.List.{List}
 use Prim.Native.Nat.{ℕ}
-use native.Mathlib.Omega.{arith}
 use denote.Ref.{now}
 use lib.Seq.{length-take-le}
-use Rattle.contents.specs.File.{done}
 use Rattle.module.specs.Run.{ran}
-use Rattle.session.specs.Session.{fileOf, finished, withItems}
-use Rattle.session.proofs.FileLaws.{place-small}
+use Rattle.session.specs.Session.{finished, withItems}
 use Rattle.session.proofs.SessionLaws.{line-shown, next-shown}
 use borrow.Author.Needs.{needs}
 use Rattle.session.proofs.with_items.Statement.{statement}
@@ -19,13 +16,7 @@ abbrev start : tie.After-take-content → tie.Start
 start c = c .before .before .before .before .before .before .before .before .before
 
 print-line-requires : tie.Need-print-line-requires
-print-line-requires c κs =
-    let t = c .before .before .before .before in
-    let a = start t .args in
-    let r = t .take-content in (
-      place-small (done 0) 8192 3 (fileOf (a .i) (now (a .items))) (r .result) (r .ensures .0) refl (omega arith),
-      omega (arith, start t .pre .3),
-    )
+print-line-requires c κs = search needs
 
 returns : tie.Need-returns
 unfolding withItems
@@ -41,13 +32,13 @@ returns c =
 array-share-prefix-lent : tie.Need-array-share-prefix-lent
 array-share-prefix-lent c =
     let n = c .before .before .before in
-    n .before .before .before .take-content .ensures .1 (n .if1 .left) .0
+    n .before .before .before .take-content .ensures .1 .0 (n .if1 .left) .0
 
 slice-aggregate-finish : tie.Need-slice-aggregate-finish
 slice-aggregate-finish c =
     let n = c .before .before .before .before in
     let r = n .before .before .before .take-content in
-    sym (length-take-le (r .result .bytes) (r .last .1 .1 .1 .0) (r .ensures .1 (n .if1 .left) .0))
+    sym (length-take-le (r .result .bytes) (r .last .1 .1 .1 .0) (r .ensures .1 .0 (n .if1 .left) .0))
 
 returns-2 : tie.Need-returns-2
 unfolding withItems
@@ -60,8 +51,14 @@ returns-2 c =
     let r = t .take-content in
     next-shown 105 (r .result) _ _ _ (f .finish .result) (now (a .text)) _ (now (a .after)) _ (r .ensures .0) (n .if1 .left)
     (ap₂
-    (λ (items out : List ℕ). finished (ran (record { memory = now (a .memory); registers = now (a .registers); list = now (a .list); items = items; out = out })))
-    (sym (r .ensures .1 (n .if1 .left) .1)) (sym (b .blank2 .ensures .0)))
+    (λ (items out : List ℕ). finished (ran (record {
+      memory = now (a .memory);
+      registers = now (a .registers);
+      list = now (a .list);
+      items = items;
+      out = out;
+    })))
+    (sym (r .ensures .1 .0 (n .if1 .left) .1)) (sym (b .blank2 .ensures .0)))
     (f .finish .ensures)
 
 pub with-items-spec : {M : Type 1} → statement M

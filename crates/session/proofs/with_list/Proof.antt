@@ -1,13 +1,10 @@
 -- `with_list`: the line of run.lst where it is refused, else what `with_items` shows.
-use mathlib.Core.Path.{refl, sym, ap}
+use mathlib.Core.Path.{sym, ap}
 use mathlib.Core.List.{List}
 use Prim.Native.Nat.{ℕ}
-use native.Mathlib.Omega.{arith}
 use denote.Ref.{now}
 use lib.Seq.{length-take-le}
-use Rattle.contents.specs.File.{done}
 use Rattle.session.specs.Session.{fileOf, withItems, withList}
-use Rattle.session.proofs.FileLaws.{place-small}
 use Rattle.session.proofs.SessionLaws.{line-shown, next-shown}
 use borrow.Author.Needs.{needs}
 use Rattle.session.proofs.with_list.Statement.{statement}
@@ -18,13 +15,7 @@ abbrev start : tie.After-take-content → tie.Start
 start c = c .before .before .before .before .before .before .before .before .before
 
 print-line-requires : tie.Need-print-line-requires
-print-line-requires c κs =
-    let t = c .before .before .before .before in
-    let a = start t .args in
-    let r = t .take-content in (
-      place-small (done 0) 8192 2 (fileOf (a .l) (now (a .list))) (r .result) (r .ensures .0) refl (omega arith),
-      omega (arith, start t .pre .3),
-    )
+print-line-requires c κs = search needs
 
 returns : tie.Need-returns
 unfolding withList
@@ -40,13 +31,13 @@ returns c =
 array-share-prefix-instructions : tie.Need-array-share-prefix-instructions
 array-share-prefix-instructions c =
     let n = c .before .before in
-    n .before .before .before .take-content .ensures .1 (n .if1 .left) .0
+    n .before .before .before .take-content .ensures .1 .0 (n .if1 .left) .0
 
 slice-aggregate-with-items : tie.Need-slice-aggregate-with-items
 slice-aggregate-with-items c =
     let n = c .before .before .before in
     let r = n .before .before .before .take-content in
-    sym (length-take-le (r .result .bytes) (r .last .1 .1 .1 .0) (r .ensures .1 (n .if1 .left) .0))
+    sym (length-take-le (r .result .bytes) (r .last .1 .1 .1 .0) (r .ensures .1 .0 (n .if1 .left) .0))
 
 returns-2 : tie.Need-returns-2
 unfolding withList
@@ -58,7 +49,7 @@ returns-2 c =
     let r = t .take-content in
     next-shown 108 (r .result) _ _ _ (w .with-items .result) (now (a .text)) _ (now (a .after)) _ (r .ensures .0) (n .if1 .left)
     (ap (λ (list : List ℕ). withItems (now (a .memory)) (now (a .registers)) list (fileOf (a .i) (now (a .items))))
-    (sym (r .ensures .1 (n .if1 .left) .1)))
+    (sym (r .ensures .1 .0 (n .if1 .left) .1)))
     (w .with-items .ensures)
 
 pub with-list-spec : {M : Type 1} → statement M
