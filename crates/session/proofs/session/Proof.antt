@@ -14,9 +14,6 @@ use Rattle.session.proofs.session.Tie as tie
 abbrev start : tie.After-take-picture → tie.Start
 start c = c .before .before .before .before .before .before .before .before .before
 
-print-line-requires : tie.Need-print-line-requires
-print-line-requires c κs = search needs
-
 returns : tie.Need-returns
 unfolding outcome
 returns c =
@@ -51,7 +48,7 @@ session-spec =
     (λ c. search needs)
     (λ c. search needs)
     (λ c κs. search needs)
-    print-line-requires
+    (λ c κs. search needs)
     (λ c. search needs)
     returns
     (λ c. search needs)

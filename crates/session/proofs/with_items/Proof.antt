@@ -15,9 +15,6 @@ use Rattle.session.proofs.with_items.Tie as tie
 abbrev start : tie.After-take-content → tie.Start
 start c = c .before .before .before .before .before .before .before .before .before
 
-print-line-requires : tie.Need-print-line-requires
-print-line-requires c κs = search needs
-
 returns : tie.Need-returns
 unfolding withItems
 returns c =
@@ -68,7 +65,7 @@ with-items-spec =
     (λ c κs. search needs)
     (λ c. search needs)
     (λ c κs. search needs)
-    print-line-requires
+    (λ c κs. search needs)
     (λ c. search needs)
     returns
     (λ c κs. search needs)

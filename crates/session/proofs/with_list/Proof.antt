@@ -14,9 +14,6 @@ use Rattle.session.proofs.with_list.Tie as tie
 abbrev start : tie.After-take-content → tie.Start
 start c = c .before .before .before .before .before .before .before .before .before
 
-print-line-requires : tie.Need-print-line-requires
-print-line-requires c κs = search needs
-
 returns : tie.Need-returns
 unfolding withList
 returns c =
@@ -59,7 +56,7 @@ with-list-spec =
     (λ c κs. search needs)
     (λ c. search needs)
     (λ c κs. search needs)
-    print-line-requires
+    (λ c κs. search needs)
     (λ c. search needs)
     returns
     array-share-prefix-instructions
