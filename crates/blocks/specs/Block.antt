@@ -4,6 +4,7 @@ use mathlib.Core.List.{List, [], _∷_, _++_}
 use Prim.Native.Nat.{ℕ, _+_, _-_, _*_, _/_, _%_}
 use lib.Dec.{eqb, leb, ltb}
 use lib.ListN.{length, take, drop, replicate}
+use Rattle.bits.specs.Rows.{Row, row, numberOf}
 use Rattle.blocks.specs.Sums.{at, s1, s2}
 
 -- "512 bytes", of which "496 payload bytes".
@@ -83,14 +84,17 @@ misplaced b place count = not (eqb (twoAt b 2) place) || not (eqb (twoAt b 4) co
 abbrev pub misfilled : List ℕ → ℕ → ℕ → Bool
 misfilled b place count = not (usedRight place count (twoAt b 6)) || not (zerosRight b)
 
--- The first of these that is met; 0 if none is.
+-- "Per block", in that order.
+abbrev pub blockRows : List ℕ → ℕ → ℕ → ℕ → List Row
+blockRows b kind place count =
+    row 21 (sumsDiffer b)
+    ∷ row 22 (otherKind b kind)
+    ∷ row 23 (misplaced b place count)
+    ∷ row 24 (misfilled b place count)
+    ∷ []
+
 unfoldable pub fault : List ℕ → ℕ → ℕ → ℕ → ℕ
-fault b kind place count =
-    cond (sumsDiffer b) 21
-    (cond (otherKind b kind) 22
-    (cond (misplaced b place count) 23
-    (cond (misfilled b place count) 24
-    0)))
+fault b kind place count = numberOf (blockRows b kind place count)
 
 -- "A block that meets none of 21 to 24 is good at its place."
 abbrev pub goodAt : List ℕ → ℕ → ℕ → ℕ → Bool

@@ -1,17 +1,21 @@
--- Document 01, Blocks on disk: the numbers of reading, 20 to 26, and of writing, 22, 26 and 27. For each a theorem of its own, both ways: it is given, at place k, exactly when its row says so and no earlier row holds. Assumes nothing.
+-- Document 01, Blocks on disk: the numbers of reading, 20 to 26, and of writing, 22, 26 and 27: each is given, at its place, exactly when the tables say so. Assumes nothing.
 use mathlib.Core.Path.{_≡_, refl, sym, ap, subst, _∙_}
-use mathlib.Core.Bool.{Bool, true, false}
-use mathlib.Core.List.{List}
-use mathlib.Core.Logic.{_↔_, _⊎_, inl, inr}
-use Prim.Native.Nat.{ℕ, _*_, _/_, _<_, _≤_}
+use mathlib.Core.Bool.{Bool, true, false, cond, not}
+use mathlib.Core.List.{List, [], _∷_}
+use mathlib.Core.Logic.{_↔_}
+use Prim.Native.Nat.{ℕ, _*_, _/_, _≤_}
 use native.Mathlib.Omega.{arith}
+use lib.Dec.{eqb, ltb}
 use lib.ListN.{length}
-use Rattle.blocks.specs.Block.{sumsDiffer, otherKind, misplaced, misfilled, fault}
-use Rattle.blocks.proofs.Numbers.{block-21, block-22, block-23, block-24, fault-le, fault-low}
+use borrow.Author.Tests.{eqb-true}
+use Rattle.bits.specs.Rows.{Row, row, numberOf, FirstRow}
+use Rattle.bits.proofs.Rows.{first-number, number-first}
+use Rattle.blocks.specs.Block.{fault}
+use Rattle.blocks.proofs.Numbers.{fault-first, first-fault}
 use Rattle.contents.specs.declared.Moved.{Moved}
-use Rattle.contents.specs.File.{done, refused, blockAt, contentOf, kindRight, lengthRight, sizeFits, blockCount}
+use Rattle.contents.specs.File.{done, refused, blockAt, contentOf, kindRight, sizeFits, blockCount}
 use Rattle.contents.specs.Content.{readAnswer, writeAnswer}
-use Rattle.contents.specs.Numbers.{Answers, MetBlock, Sound}
+use Rattle.contents.specs.Numbers.{Answers, Sound, ReadRefused, by-kind, by-length, by-block, by-size, by-target, writeRows}
 use Rattle.contents.proofs.Outcomes.{Read, wrong-kind, wrong-length, wrong-block, wrong-size, no-target, all-read, read, read-is, Written, no-kind, no-size, no-room, all-written, written, written-is}
 
 -- an answer that is a refusal has its number and its place
@@ -24,122 +28,32 @@ module _ (kind : ℕ) (bytes : List ℕ) (fits : Bool) where
   abbrev reading : Moved
   reading = readAnswer kind bytes fits
 
-  -- ---- 22 of the kind asked, and 20
+  -- why a number was given
+  reason : (a : Moved) → Read kind bytes fits a → (a .number ≡ 0 → ⊥) → ReadRefused kind bytes fits (a .number) (a .place)
+  reason a (wrong-kind k) v = by-kind k
+  reason a (wrong-length k l) v = by-length k l
+  reason a (wrong-block k l i h g u) v =
+      by-block (fault (blockAt bytes i) kind i (length bytes / 512)) i (k, l) h g (fault-first (blockAt bytes i) kind i (length bytes / 512) u)
+  reason a (wrong-size k l g s) v = by-size ((k, l), g) s
+  reason a (no-target k l g s f) v = by-target ((k, l), g) s f
+  reason a (all-read k l g s f) v = absurd (v refl)
 
-  abbrev Reached : ℕ → Type 0 → Type 0
-  Reached k row = MetBlock kind bytes k (λ b. row)
+  given : (n k : ℕ) → (n ≡ 0 → ⊥) → ReadRefused kind bytes fits n k → Answers reading n k
+  given n k v (by-kind x) = gives _ 22 0 0 (read-is kind bytes fits _ (wrong-kind x)) refl
+  given n k v (by-length x l) = gives _ 20 0 0 (read-is kind bytes fits _ (wrong-length x l)) refl
+  given n k v (by-block m i a h g r) =
+      let e = first-fault (blockAt bytes i) kind i (length bytes / 512) m r in
+      let w = gives _ _ i i (read-is kind bytes fits _ (wrong-block (a .0) (a .1) i h g (λ z. v (sym e ∙ z)))) refl in
+      (w .0 ∙ e, w .1)
+  given n k v (by-size s f) = gives _ 25 0 0 (read-is kind bytes fits _ (wrong-size (s .0 .0) (s .0 .1) (s .1) f)) refl
+  given n k v (by-target s f t) = gives _ 26 0 0 (read-is kind bytes fits _ (no-target (s .0 .0) (s .0 .1) (s .1) f t)) refl
 
-  abbrev wrong : ℕ → ℕ
-  wrong i = fault (blockAt bytes i) kind i (length bytes / 512)
-
-  wrong-low : (i : ℕ) → (wrong i ≡ 0 → ⊥) → 21 ≤ wrong i
-  wrong-low i u = fault-low (blockAt bytes i) kind i (length bytes / 512) u
-
-  wrong-le : (i : ℕ) → wrong i ≤ 24
-  wrong-le i = fault-le (blockAt bytes i) kind i (length bytes / 512)
-
-  length-given : (a : Moved) → Read kind bytes fits a → a .number ≡ 20 → (a .place ≡ 0) × (kindRight kind ≡ true) × (lengthRight (length bytes) ≡ false)
-  length-given a (wrong-kind k) e = absurd (omega arith)
-  length-given a (wrong-length k l) e = (refl, k, l)
-  length-given a (wrong-block k l i h g u) e = absurd (omega (arith, wrong-low i u))
-  length-given a (wrong-size k l g s) e = absurd (omega arith)
-  length-given a (no-target k l g s f) e = absurd (omega arith)
-  length-given a (all-read k l g s f) e = absurd (omega arith)
-
-  pub read-20 : (k : ℕ) → Answers reading 20 k ↔ (k ≡ 0) × (kindRight kind ≡ true) × (lengthRight (length bytes) ≡ false)
-  read-20 k = (
-    λ g. let r = length-given _ (read kind bytes fits) (g .0) in (sym (g .1) ∙ r .0, r .1, r .2),
-    λ r. gives _ 20 0 k (read-is kind bytes fits _ (wrong-length (r .1) (r .2))) (r .0),
-  )
-
-  -- ---- 21 to 24, at block k
-
-  module _ (n : ℕ) (low : 21 ≤ n) (high : n ≤ 24) where
-    -- 22 is also the number of the kind asked
-    block-given : (a : Moved) → Read kind bytes fits a → a .number ≡ n → ((n ≡ 22) × (a .place ≡ 0) × (kindRight kind ≡ false)) ⊎ Reached (a .place) (wrong (a .place) ≡ n)
-    block-given a (wrong-kind k) e = inl (sym e, refl, k)
-    block-given a (wrong-length k l) e = absurd (omega arith)
-    block-given a (wrong-block k l i h g u) e = inr ((k, l), h, g, e)
-    block-given a (wrong-size k l g s) e = absurd (omega arith)
-    block-given a (no-target k l g s f) e = absurd (omega arith)
-    block-given a (all-read k l g s f) e = absurd (omega arith)
-
-    given-block : (k : ℕ) (row : Type 0) → (wrong k ≡ n) ↔ row → Reached k row → Answers reading n k
-    given-block k row w (a, h, g, r) =
-        let e = w .1 r in
-        let v = gives _ (wrong k) k k (read-is kind bytes fits _ (wrong-block (a .0) (a .1) k h g (λ z. omega arith))) refl in
-        (v .0 ∙ e, v .1)
-
-    reached : (k : ℕ) (row : Type 0) → (wrong k ≡ n) ↔ row → Reached k (wrong k ≡ n) → Reached k row
-    reached k row w (a, h, g, e) = (a, h, g, w .0 e)
-
-    at-place : (k : ℕ) → Answers reading n k → ((n ≡ 22) × (k ≡ 0) × (kindRight kind ≡ false)) ⊎ Reached k (wrong k ≡ n)
-    at-place k g =
-        subst (λ (p : ℕ). ((n ≡ 22) × (p ≡ 0) × (kindRight kind ≡ false)) ⊎ Reached p (wrong p ≡ n)) (g .1) (block-given _ (read kind bytes fits) (g .0))
-
-    block-row : (n ≡ 22 → ⊥) → (k : ℕ) (row : Type 0) → (wrong k ≡ n) ↔ row → Answers reading n k ↔ Reached k row
-    block-row u k row w = (λ g. go (at-place k g), given-block k row w)
-      where
-        go : ((n ≡ 22) × (k ≡ 0) × (kindRight kind ≡ false)) ⊎ Reached k (wrong k ≡ n) → Reached k row
-        go (inl t) = absurd (u (t .0))
-        go (inr r) = reached k row w r
-
-  pub read-21 : (k : ℕ) → Answers reading 21 k ↔ MetBlock kind bytes k (λ b. sumsDiffer b ≡ true)
-  read-21 k = block-row 21 (omega arith) (omega arith) (λ e. omega arith) k _ (block-21 (blockAt bytes k) kind k (length bytes / 512))
-
-  -- the kind asked, "before all else", or a block's
-  pub read-22 : (k : ℕ) → Answers reading 22 k
-      ↔ ((k ≡ 0) × (kindRight kind ≡ false)) ⊎ MetBlock kind bytes k (λ b. (sumsDiffer b ≡ false) × (otherKind b kind ≡ true))
-  read-22 k = (λ g. there (at-place 22 (omega arith) (omega arith) k g), back)
-    where
-      row : Type 0
-      row = (sumsDiffer (blockAt bytes k) ≡ false) × (otherKind (blockAt bytes k) kind ≡ true)
-
-      w : (wrong k ≡ 22) ↔ row
-      w = block-22 (blockAt bytes k) kind k (length bytes / 512)
-
-      there : ((_≡_ {A = ℕ} 22 22) × (k ≡ 0) × (kindRight kind ≡ false)) ⊎ Reached k (wrong k ≡ 22) → ((k ≡ 0) × (kindRight kind ≡ false)) ⊎ Reached k row
-      there (inl t) = inl (t .1, t .2)
-      there (inr r) = inr (reached 22 (omega arith) (omega arith) k row w r)
-
-      back : ((k ≡ 0) × (kindRight kind ≡ false)) ⊎ Reached k row → Answers reading 22 k
-      back (inl t) = gives _ 22 0 k (read-is kind bytes fits _ (wrong-kind (t .1))) (t .0)
-      back (inr r) = given-block 22 (omega arith) (omega arith) k row w r
-
-  pub read-23 : (k : ℕ) → Answers reading 23 k ↔ MetBlock kind bytes k (λ b. (sumsDiffer b ≡ false) × ((otherKind b kind ≡ false) × (misplaced b k (length bytes / 512) ≡ true)))
-  read-23 k = block-row 23 (omega arith) (omega arith) (λ e. omega arith) k _ (block-23 (blockAt bytes k) kind k (length bytes / 512))
-
-  pub read-24 : (k : ℕ) → Answers reading 24 k ↔ MetBlock kind bytes k (λ b. (sumsDiffer b ≡ false) × ((otherKind b kind ≡ false) × ((misplaced b k (length bytes / 512) ≡ false) × (misfilled b k (length bytes / 512) ≡ true))))
-  read-24 k = block-row 24 (omega arith) (omega arith) (λ e. omega arith) k _ (block-24 (blockAt bytes k) kind k (length bytes / 512))
-
-  -- ---- 25, 26 and 0: every block is good
-
-  size-given : (a : Moved) → Read kind bytes fits a → a .number ≡ 25 → (a .place ≡ 0) × Sound kind bytes × (sizeFits kind (length (contentOf bytes)) ≡ false)
-  size-given a (wrong-kind k) e = absurd (omega arith)
-  size-given a (wrong-length k l) e = absurd (omega arith)
-  size-given a (wrong-block k l i h g u) e = absurd (omega (arith, wrong-le i))
-  size-given a (wrong-size k l g s) e = (refl, ((k, l), g), s)
-  size-given a (no-target k l g s f) e = absurd (omega arith)
-  size-given a (all-read k l g s f) e = absurd (omega arith)
-
-  pub read-25 : (k : ℕ) → Answers reading 25 k ↔ (k ≡ 0) × Sound kind bytes × (sizeFits kind (length (contentOf bytes)) ≡ false)
-  read-25 k = (
-    λ g. let r = size-given _ (read kind bytes fits) (g .0) in (sym (g .1) ∙ r .0, r .1, r .2),
-    λ r. gives _ 25 0 k (read-is kind bytes fits _ (wrong-size (r .1 .0 .0) (r .1 .0 .1) (r .1 .1) (r .2))) (r .0),
-  )
-
-  target-given : (a : Moved) → Read kind bytes fits a → a .number ≡ 26 → (a .place ≡ 0) × Sound kind bytes × (sizeFits kind (length (contentOf bytes)) ≡ true) × (fits ≡ false)
-  target-given a (wrong-kind k) e = absurd (omega arith)
-  target-given a (wrong-length k l) e = absurd (omega arith)
-  target-given a (wrong-block k l i h g u) e = absurd (omega (arith, wrong-le i))
-  target-given a (wrong-size k l g s) e = absurd (omega arith)
-  target-given a (no-target k l g s f) e = (refl, ((k, l), g), s, f)
-  target-given a (all-read k l g s f) e = absurd (omega arith)
-
-  pub read-26 : (k : ℕ) → Answers reading 26 k ↔ (k ≡ 0) × Sound kind bytes × (sizeFits kind (length (contentOf bytes)) ≡ true) × (fits ≡ false)
-  read-26 k = (
-    λ g. let r = target-given _ (read kind bytes fits) (g .0) in (sym (g .1) ∙ r .0, r .1, r .2, r .3),
-    λ r. gives _ 26 0 k (read-is kind bytes fits _ (no-target (r .1 .0 .0) (r .1 .0 .1) (r .1 .1) (r .2) (r .3))) (r .0),
+  -- number n is given at place k exactly where the tables say so
+  pub read-refusals : (n k : ℕ) → (n ≡ 0 → ⊥) → Answers reading n k ↔ ReadRefused kind bytes fits n k
+  read-refusals n k v = (
+    λ g. subst (λ (x : ℕ). ReadRefused kind bytes fits x k) (g .0)
+        (subst (ReadRefused kind bytes fits (reading .number)) (g .1) (reason reading (read kind bytes fits) (λ z. v (sym (g .0) ∙ z)))),
+    given n k v,
   )
 
   done-given : (a : Moved) → Read kind bytes fits a → a .number ≡ 0 → Sound kind bytes × (sizeFits kind (length (contentOf bytes)) ≡ true) × (fits ≡ true)
@@ -175,42 +89,38 @@ module _ (kind : ℕ) (fits : Bool) (size room : ℕ) where
   abbrev writing : Moved
   writing = writeAnswer kind fits size room
 
-  -- what each outcome says, by its number
-  kind-written : (a : Moved) → Written kind fits size room a → a .number ≡ 22 → (a .place ≡ 0) × (kindRight kind ≡ false)
-  kind-written a (no-kind k) e = (refl, k)
-  kind-written a (no-size k f) e = absurd (omega arith)
-  kind-written a (no-room k f h) e = absurd (omega arith)
-  kind-written a (all-written k f h) e = absurd (omega arith)
+  -- the answer by its rows
+  by-rows : writing ≡ (let n = numberOf (writeRows kind fits size room) in cond (eqb n 0) (done (512 * blockCount size)) (refused n 0))
+  unfolding writeAnswer
+  by-rows = go (kindRight kind) fits (ltb room (512 * blockCount size))
+    where
+      go : (k f r : Bool)
+          → cond {A = Moved} (not k) (refused 22 0) (cond (not f) (refused 26 0) (cond r (refused 27 0) (done (512 * blockCount size))))
+          ≡ (let n = numberOf (row 22 (not k) ∷ row 26 (not f) ∷ row 27 r ∷ []) in cond (eqb n 0) (done (512 * blockCount size)) (refused n 0))
+      go false f r = refl
+      go true false r = refl
+      go true true true = refl
+      go true true false = refl
 
-  pub write-22 : (k : ℕ) → Answers writing 22 k ↔ (k ≡ 0) × (kindRight kind ≡ false)
-  write-22 k = (
-    λ g. let r = kind-written _ (written kind fits size room) (g .0) in (sym (g .1) ∙ r .0, r .1),
-    λ r. gives _ 22 0 k (written-is kind fits size room _ (no-kind (r .1))) (r .0),
-  )
+  pub write-refusals : (n k : ℕ) → (n ≡ 0 → ⊥) → Answers writing n k ↔ (k ≡ 0) × FirstRow (writeRows kind fits size room) n
+  write-refusals n k v = go (numberOf rows) refl (eqb (numberOf rows) 0) refl by-rows
+    where
+      rows : List Row
+      rows = writeRows kind fits size room
 
-  size-written : (a : Moved) → Written kind fits size room a → a .number ≡ 26 → (a .place ≡ 0) × (kindRight kind ≡ true) × (fits ≡ false)
-  size-written a (no-kind k) e = absurd (omega arith)
-  size-written a (no-size k f) e = (refl, k, f)
-  size-written a (no-room k f h) e = absurd (omega arith)
-  size-written a (all-written k f h) e = absurd (omega arith)
-
-  pub write-26 : (k : ℕ) → Answers writing 26 k ↔ (k ≡ 0) × (kindRight kind ≡ true) × (fits ≡ false)
-  write-26 k = (
-    λ g. let r = size-written _ (written kind fits size room) (g .0) in (sym (g .1) ∙ r .0, r .1, r .2),
-    λ r. gives _ 26 0 k (written-is kind fits size room _ (no-size (r .1) (r .2))) (r .0),
-  )
-
-  room-written : (a : Moved) → Written kind fits size room a → a .number ≡ 27 → (a .place ≡ 0) × (kindRight kind ≡ true) × (fits ≡ true) × (room < 512 * blockCount size)
-  room-written a (no-kind k) e = absurd (omega arith)
-  room-written a (no-size k f) e = absurd (omega arith)
-  room-written a (no-room k f h) e = (refl, k, f, h)
-  room-written a (all-written k f h) e = absurd (omega arith)
-
-  pub write-27 : (k : ℕ) → Answers writing 27 k ↔ (k ≡ 0) × (kindRight kind ≡ true) × (fits ≡ true) × (room < 512 * blockCount size)
-  write-27 k = (
-    λ g. let r = room-written _ (written kind fits size room) (g .0) in (sym (g .1) ∙ r .0, r .1, r .2, r .3),
-    λ r. gives _ 27 0 k (written-is kind fits size room _ (no-room (r .1) (r .2) (r .3))) (r .0),
-  )
+      go : (m : ℕ) → numberOf rows ≡ m → (t : Bool) → eqb m 0 ≡ t → writing ≡ cond t (done (512 * blockCount size)) (refused m 0)
+          → Answers writing n k ↔ (k ≡ 0) × FirstRow rows n
+      go m e true z w = (
+        λ g. absurd (v (sym (g .0) ∙ ap (λ (a : Moved). a .number) w)),
+        λ f. absurd (v (sym (first-number rows n (f .1)) ∙ e ∙ eqb-true m 0 z)),
+      )
+      go m e false z w = (
+        λ g. (
+          sym (g .1) ∙ ap (λ (a : Moved). a .place) w,
+          number-first rows n v (e ∙ sym (ap (λ (a : Moved). a .number) w) ∙ g .0),
+        ),
+        λ f. (ap (λ (a : Moved). a .number) w ∙ sym e ∙ first-number rows n (f .1), ap (λ (a : Moved). a .place) w ∙ sym (f .0)),
+      )
 
   done-written : (a : Moved) → Written kind fits size room a → a .number ≡ 0 → (kindRight kind ≡ true) × (fits ≡ true) × (512 * blockCount size ≤ room)
   done-written a (no-kind k) e = absurd (omega arith)

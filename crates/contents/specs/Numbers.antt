@@ -1,12 +1,14 @@
 -- What stands on either side of the table of numbers 20 to 27, where the page of demand 1 says when each is given: no contract cites this file. Document 01, Blocks on disk.
 use mathlib.Core.Path.{_≡_}
-use mathlib.Core.Bool.{true}
-use mathlib.Core.List.{List}
-use Prim.Native.Nat.{ℕ, _/_, _<_}
+use mathlib.Core.Bool.{Bool, true, false, not}
+use mathlib.Core.List.{List, [], _∷_}
+use Prim.Native.Nat.{ℕ, _*_, _/_, _<_}
+use lib.Dec.{ltb}
 use lib.ListN.{length}
-use Rattle.blocks.specs.Block.{blockBytes, fault}
+use Rattle.bits.specs.Rows.{Row, row, FirstRow}
+use Rattle.blocks.specs.Block.{blockBytes, blockRows, fault}
 use Rattle.contents.specs.declared.Moved.{Moved}
-use Rattle.contents.specs.File.{blockAt, kindRight, lengthRight}
+use Rattle.contents.specs.File.{blockAt, contentOf, kindRight, lengthRight, sizeFits, blockCount}
 
 -- Number n, at place k.
 abbrev pub Answers : Moved → ℕ → ℕ → Type 0
@@ -20,12 +22,22 @@ Asked kind bytes = (kindRight kind ≡ true) × (lengthRight (length bytes) ≡ 
 abbrev pub GoodBelow : ℕ → List ℕ → ℕ → ℕ → Type 0
 GoodBelow kind bytes count n = (j : ℕ) → j < n → fault (blockAt bytes j) kind j count ≡ 0
 
--- The kind and the length are right, block k is there, those before it are good at their places, and the row holds of it.
-abbrev pub MetBlock : ℕ → List ℕ → ℕ → (List ℕ → Type 0) → Type 0
-MetBlock kind bytes k row =
-    Asked kind bytes × (k < length bytes / blockBytes) × GoodBelow kind bytes (length bytes / blockBytes) k
-    × row (blockAt bytes k)
-
 -- The kind and the length are right, and every block is good at its place.
 abbrev pub Sound : ℕ → List ℕ → Type 0
 Sound kind bytes = Asked kind bytes × GoodBelow kind bytes (length bytes / blockBytes) (length bytes / blockBytes)
+
+-- When reading is refused with number n at place k; `fits` says whether the targets have the room, or for a picture the lengths, that 26 asks for.
+-- "22 for the kind asked, before all else; 20; then per block 21 to 24; then 25; then 26. Place is the block for 21 to 24, else 0."
+pub data ReadRefused (kind : ℕ) (bytes : List ℕ) (fits : Bool) : ℕ → ℕ → Type 0 where
+  by-kind : kindRight kind ≡ false → ReadRefused kind bytes fits 22 0
+  by-length : kindRight kind ≡ true → lengthRight (length bytes) ≡ false → ReadRefused kind bytes fits 20 0
+  -- the blocks before k are good at their places, and row n of block k is the first that holds
+  by-block : (n k : ℕ) → Asked kind bytes → k < length bytes / blockBytes → GoodBelow kind bytes (length bytes / blockBytes) k
+      → FirstRow (blockRows (blockAt bytes k) kind k (length bytes / blockBytes)) n → ReadRefused kind bytes fits n k
+  by-size : Sound kind bytes → sizeFits kind (length (contentOf bytes)) ≡ false → ReadRefused kind bytes fits 25 0
+  by-target : Sound kind bytes → sizeFits kind (length (contentOf bytes)) ≡ true → fits ≡ false → ReadRefused kind bytes fits 26 0
+
+-- Writing a content of `size` bytes to an output of `room`; `fits` says whether the content has the right size. "22 for the kind asked; 26 content of wrong size; 27 output too short."
+abbrev pub writeRows : ℕ → Bool → ℕ → ℕ → List Row
+writeRows kind fits size room =
+    row 22 (not (kindRight kind)) ∷ row 26 (not fits) ∷ row 27 (ltb room (blockBytes * blockCount size)) ∷ []

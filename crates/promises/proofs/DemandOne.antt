@@ -68,13 +68,7 @@ list-table lead a b s n bytes buffer size =
 read-table : (kind : ℕ) (bytes : List ℕ) (fits : Bool) → ReadTable kind bytes fits (readAnswer kind bytes fits)
 read-table kind bytes fits =
     record {
-      row-20 = blocks.read-20 kind bytes fits;
-      row-21 = blocks.read-21 kind bytes fits;
-      row-22 = blocks.read-22 kind bytes fits;
-      row-23 = blocks.read-23 kind bytes fits;
-      row-24 = blocks.read-24 kind bytes fits;
-      row-25 = blocks.read-25 kind bytes fits;
-      row-26 = blocks.read-26 kind bytes fits;
+      refused = blocks.read-refusals kind bytes fits;
       row-0 = blocks.read-0 kind bytes fits;
       done-is = λ z. blocks.read-all kind bytes fits (blocks.read-0 kind bytes fits .0 z);
       refused-is = blocks.read-no-bytes kind bytes fits;
@@ -83,9 +77,7 @@ read-table kind bytes fits =
 write-table : (kind : ℕ) (fits : Bool) (size room : ℕ) → WriteTable kind fits size room (writeAnswer kind fits size room)
 write-table kind fits size room =
     record {
-      row-22 = blocks.write-22 kind fits size room;
-      row-26 = blocks.write-26 kind fits size room;
-      row-27 = blocks.write-27 kind fits size room;
+      refused = blocks.write-refusals kind fits size room;
       row-0 = blocks.write-0 kind fits size room;
       done-is = λ z. blocks.write-all kind fits size room (blocks.write-0 kind fits size room .0 z);
       refused-is = blocks.write-no-bytes kind fits size room;

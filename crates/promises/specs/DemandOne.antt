@@ -4,7 +4,7 @@
 use mathlib.Core.Path.{_≡_}
 use mathlib.Core.Bool.{Bool, true, false}
 use mathlib.Core.List.{List, [], _∷_}
-use mathlib.Core.Logic.{_↔_, _⊎_, _≢_}
+use mathlib.Core.Logic.{_↔_, _≢_}
 use Prim.Native.Nat.{ℕ, _*_, _/_, _<_, _≤_}
 use lib.ListN.{length, replicate}
 use Rattle.bits.specs.Rows.{Row, FirstRow}
@@ -19,11 +19,11 @@ use Rattle.judge.specs.Numbers.{Gives, Refused, Unrefused}
 use Rattle.module.specs.Run.{Lent, Left, unmoved, runLengths, stepLengths, lentBytes, leftBytes}
 use Rattle.builders.specs.declared.Built.{Built}
 use Rattle.builders.specs.Sums.{Fields, listLength, fieldRows}
-use Rattle.blocks.specs.Block.{blockBytes, sumsDiffer, otherKind, misplaced, misfilled}
+use Rattle.blocks.specs.Block.{blockBytes}
 use Rattle.contents.specs.declared.Moved.{Moved}
 use Rattle.contents.specs.File.{pictureBytes, contentOf, kindRight, lengthRight, sizeFits, blockCount}
 use Rattle.contents.specs.Content.{targetFits, contentFits}
-use Rattle.contents.specs.Numbers.{Answers, MetBlock, Sound}
+use Rattle.contents.specs.Numbers.{Answers, Sound, ReadRefused, writeRows}
 use Rattle.pictures.specs.Picture.{pictureFits}
 use Rattle.library.specs.Left.{five, three, sumLeft, differenceLeft, readLeft, writeLeft, writePictureLeft}
 use Rattle.promises.specs.Clauses.{Run, Step, Pass, SumList, DifferenceList, ReadContent, WriteContent, ReadPicture, WritePicture, LibraryRun, LibraryStep, LibraryPass, LibraryBuffer, LibraryReadPicture, LibraryVersion}
@@ -57,28 +57,9 @@ pub record ListTable (lead a b s n have : ℕ) (r : Built) : Type 0 where
 
 -- ---- Blocks on disk: "Place is the block for 21 to 24, else 0"
 
--- None of the earlier rows holds, and this one does.
-abbrev pub After : List Bool → Bool → Type 0
-After [] row = row ≡ true
-After (first ∷ earlier) row = (first ≡ false) × After earlier row
-
--- Reading; `fits` says whether the targets have the room, or for a picture the lengths, that 26 asks for.
+-- Reading: `ReadRefused` has the tables and their order, the rows of a block are `blockRows`; `fits` says whether the targets have the room, or for a picture the lengths, that 26 asks for.
 pub record ReadTable (kind : ℕ) (bytes : List ℕ) (fits : Bool) (r : Moved) : Type 0 where
-  -- "20 length 0, not a multiple of 512, or over 34,304"
-  pub row-20 : (k : ℕ) → Answers r 20 k ↔ (k ≡ 0) × (kindRight kind ≡ true) × (lengthRight (length bytes) ≡ false)
-  -- "then per block 21 sums differ"
-  pub row-21 : (k : ℕ) → Answers r 21 k ↔ MetBlock kind bytes k (λ b. After [] (sumsDiffer b))
-  -- "22 kind not the one asked"; and "a kind asked for that is not 1 to 3 is 22, place 0, before all else"
-  pub row-22 : (k : ℕ) → Answers r 22 k ↔ ((k ≡ 0) × (kindRight kind ≡ false)) ⊎ MetBlock kind bytes k (λ b. After (sumsDiffer b ∷ []) (otherKind b kind))
-  -- "23 number not its place or count not that of the blocks there"
-  pub row-23 : (k : ℕ) → Answers r 23 k ↔ MetBlock kind bytes k (λ b. After (sumsDiffer b ∷ otherKind b kind ∷ []) (misplaced b k (length bytes / blockBytes)))
-  -- "24 used wrong or a byte not 0 that must be"
-  pub row-24 : (k : ℕ) → Answers r 24 k
-      ↔ MetBlock kind bytes k (λ b. After (sumsDiffer b ∷ otherKind b kind ∷ misplaced b k (length bytes / blockBytes) ∷ []) (misfilled b k (length bytes / blockBytes)))
-  -- "then 25 size unfit for the kind (8,288; a list or items as in 3 and 4)"
-  pub row-25 : (k : ℕ) → Answers r 25 k ↔ (k ≡ 0) × Sound kind bytes × (sizeFits kind (length (contentOf bytes)) ≡ false)
-  -- "26 target too short, or for a picture not exactly 8,192 and 96"
-  pub row-26 : (k : ℕ) → Answers r 26 k ↔ (k ≡ 0) × Sound kind bytes × (sizeFits kind (length (contentOf bytes)) ≡ true) × (fits ≡ false)
+  pub refused : (n k : ℕ) → n ≢ 0 → Answers r n k ↔ ReadRefused kind bytes fits n k
   -- "Success gives 0, place 0 and the number of bytes put out; a refusal gives 0 bytes"
   pub row-0 : (r .number ≡ 0) ↔ Sound kind bytes × (sizeFits kind (length (contentOf bytes)) ≡ true) × (fits ≡ true)
   pub done-is : r .number ≡ 0 → r ≡ record { number = 0; place = 0; bytes = length (contentOf bytes) }
@@ -86,12 +67,8 @@ pub record ReadTable (kind : ℕ) (bytes : List ℕ) (fits : Bool) (r : Moved) :
 
 -- Writing a content of `size` bytes to an output of `room`; `fits` says whether the content has the right size.
 pub record WriteTable (kind : ℕ) (fits : Bool) (size room : ℕ) (r : Moved) : Type 0 where
-  -- 22 of the kind asked, "before all else, in reading and writing"
-  pub row-22 : (k : ℕ) → Answers r 22 k ↔ (k ≡ 0) × (kindRight kind ≡ false)
-  -- "26 content of wrong size"
-  pub row-26 : (k : ℕ) → Answers r 26 k ↔ (k ≡ 0) × (kindRight kind ≡ true) × (fits ≡ false)
-  -- "27 output too short"
-  pub row-27 : (k : ℕ) → Answers r 27 k ↔ (k ≡ 0) × (kindRight kind ≡ true) × (fits ≡ true) × (room < blockBytes * blockCount size)
+  -- 22 of the kind asked, "before all else, in reading and writing"; "26 content of wrong size"; "27 output too short"
+  pub refused : (n k : ℕ) → n ≢ 0 → Answers r n k ↔ (k ≡ 0) × FirstRow (writeRows kind fits size room) n
   pub row-0 : (r .number ≡ 0) ↔ (kindRight kind ≡ true) × (fits ≡ true) × (blockBytes * blockCount size ≤ room)
   pub done-is : r .number ≡ 0 → r ≡ record { number = 0; place = 0; bytes = blockBytes * blockCount size }
   pub refused-is : r .number ≢ 0 → r .bytes ≡ 0
