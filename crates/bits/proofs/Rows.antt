@@ -1,5 +1,5 @@
 -- Laws of a table of numbers: the number that it gives and the first row that holds, both ways; a row by its number, and not by its position. Assumes nothing.
-use mathlib.Core.Path.{_≡_, refl, ap, _∙_}
+use mathlib.Core.Path.{_≡_, refl, ap, ap₂, _∙_}
 use mathlib.Core.Bool.{Bool, true, false, cond, not, _&&_, false≢true}
 use mathlib.Core.List.{List, [], _∷_}
 use mathlib.Core.Logic.{inl, inr}
@@ -71,6 +71,15 @@ rowAt (r ∷ rows) n = cond (eqb (r .number) n) (r .holds) (rowAt rows n)
 pub row-off : (rows : List Row) → NoRow rows → (n : ℕ) → rowAt rows n ≡ false
 row-off [] t n = refl
 row-off (r ∷ rows) t n = taken (λ (b : Bool). b ≡ false) (r .holds) (rowAt rows n) (eqb (r .number) n) (t .0) (row-off rows (t .1) n)
+
+-- ---- a row as code makes it, t with x behind it, is a row of the table, u with y behind it
+
+pub chosen : (number : ℕ) {t u : Bool} {r x y : ℕ} → r ≡ cond t number x → t ≡ u → x ≡ y → r ≡ cond u number y
+chosen number e p q = e ∙ ap₂ (λ (t : Bool) (x : ℕ). cond t number x) p q
+
+-- the same where code makes the very test
+pub placed : (number : ℕ) (t : Bool) {r x y : ℕ} → r ≡ cond t number x → x ≡ y → r ≡ cond t number y
+placed number t e q = e ∙ ap (λ (x : ℕ). cond t number x) q
 
 -- ---- how high a number can be, and when there is none
 

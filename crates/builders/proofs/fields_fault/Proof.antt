@@ -1,16 +1,12 @@
 -- `builders::fields_fault`: the rows' contracts put together, row by row. Assumes nothing.
-use mathlib.Core.Path.{_≡_, refl, ap, ap₂, _∙_}
-use mathlib.Core.Bool.{Bool, cond, _||_}
-use Prim.Native.Nat.{ℕ}
+use mathlib.Core.Path.{refl, ap, ap₂}
+use mathlib.Core.Bool.{_||_}
 use lib.Dec.{ltb}
+use Rattle.bits.proofs.Rows.{chosen, placed}
 use Rattle.builders.specs.Sums.{wrongWidth, fieldsFault}
 use borrow.Author.Needs.{needs}
 use Rattle.builders.proofs.fields_fault.Statement.{statement}
 use Rattle.builders.proofs.fields_fault.Tie as tie
-
--- a row of the code, t with x behind it, is a row of the definition, u with y behind it
-row : (number : ℕ) {t u : Bool} {r x y : ℕ} → r ≡ cond t number x → t ≡ u → x ≡ y → r ≡ cond u number y
-row number e p q = e ∙ ap₂ (λ (t : Bool) (x : ℕ). cond t number x) p q
 
 returns : tie.Need-returns
 unfolding fieldsFault
@@ -22,13 +18,10 @@ returns c =
     let x1 = r32 .before .before in
     let r33 = x1 .before in
     let a = r33 .before .before .args in
-    let width : _≡_ {A = ℕ} (c .number-or4 .result) (cond {A = ℕ} (wrongWidth (a .n)) 30 (r31 .number-or3 .result)) =
-    c .number-or4 .ensures in
-    width
-    ∙ ap (cond {A = ℕ} (wrongWidth (a .n)) 30)
-    (row 31 (r31 .number-or3 .ensures) (ap₂ _||_ (ap₂ _||_ (b1 .beyond .ensures) (b2 .beyond2 .ensures)) (r31 .before .beyond3 .ensures))
-    (row 32 (r32 .number-or2 .ensures) (ap₂ _||_ (x1 .crosses .ensures) (r32 .before .crosses2 .ensures))
-    (row 33 (r33 .number-or .ensures) (ap (ltb (a .have)) (r33 .before .list-length .ensures)) refl)))
+    placed 30 (wrongWidth (a .n)) (c .number-or4 .ensures)
+    (chosen 31 (r31 .number-or3 .ensures) (ap₂ _||_ (ap₂ _||_ (b1 .beyond .ensures) (b2 .beyond2 .ensures)) (r31 .before .beyond3 .ensures))
+    (chosen 32 (r32 .number-or2 .ensures) (ap₂ _||_ (x1 .crosses .ensures) (r32 .before .crosses2 .ensures))
+    (chosen 33 (r33 .number-or .ensures) (ap (ltb (a .have)) (r33 .before .list-length .ensures)) refl)))
 
 pub fields-fault-spec : {M : Type 1} → statement M
 fields-fault-spec =

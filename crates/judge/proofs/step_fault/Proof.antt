@@ -1,10 +1,23 @@
 -- `judge::step_fault`: the rows' contracts put together. Assumes nothing.
+use mathlib.Core.Path.{refl}
+use mathlib.Core.Bool.{not}
+use denote.Ref.{now}
+use lib.Dec.{eqb}
+use lib.ListN.{length}
+use Rattle.bits.proofs.Rows.{chosen, placed}
+use Rattle.judge.specs.Judge.{wrongMemory}
 use borrow.Author.Needs.{needs}
 use Rattle.judge.proofs.step_fault.Statement.{statement}
 use Rattle.judge.proofs.step_fault.Tie as tie
 
 returns : tie.Need-returns
-returns c = cc
+returns c =
+    let r3 = c .before .before in
+    let r4 = r3 .before in
+    let a = r4 .before .before .before .args in
+    placed 1 (wrongMemory (a .l .memory)) (c .number-or3 .ensures)
+    (placed 3 (not (eqb (length (now (a .instruction))) 8)) (r3 .number-or2 .ensures)
+    (chosen 4 (r4 .number-or .ensures) (r4 .before .unfit .ensures) refl))
 
 pub step-fault-spec : {M : Type 1} → statement M
 step-fault-spec =
