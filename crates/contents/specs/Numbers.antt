@@ -27,7 +27,7 @@ abbrev pub Sound : ℕ → List ℕ → Type 0
 Sound kind bytes = Asked kind bytes × GoodBelow kind bytes (length bytes / blockBytes) (length bytes / blockBytes)
 
 -- When reading is refused with number n at place k; `fits` says whether the targets have the room, or for a picture the lengths, that 26 asks for.
--- "22 for the kind asked, before all else; 20; then per block 21 to 24; then 25; then 26. Place is the block for 21 to 24, else 0."
+-- The kind asked is 22 "before all else"; then 20; "then per block" 21 to 24; then 25; then 26. "Place is the block for 21 to 24, else 0."
 pub data ReadRefused (kind : ℕ) (bytes : List ℕ) (fits : Bool) : ℕ → ℕ → Type 0 where
   by-kind : kindRight kind ≡ false → ReadRefused kind bytes fits 22 0
   by-length : kindRight kind ≡ true → lengthRight (length bytes) ≡ false → ReadRefused kind bytes fits 20 0
@@ -37,7 +37,7 @@ pub data ReadRefused (kind : ℕ) (bytes : List ℕ) (fits : Bool) : ℕ → ℕ
   by-size : Sound kind bytes → sizeFits kind (length (contentOf bytes)) ≡ false → ReadRefused kind bytes fits 25 0
   by-target : Sound kind bytes → sizeFits kind (length (contentOf bytes)) ≡ true → fits ≡ false → ReadRefused kind bytes fits 26 0
 
--- Writing a content of `size` bytes to an output of `room`; `fits` says whether the content has the right size. "22 for the kind asked; 26 content of wrong size; 27 output too short."
+-- Writing a content of `size` bytes to an output of `room`; `fits` says whether the content has the right size. After 22 of the kind asked: "26 content of wrong size; 27 output too short."
 abbrev pub writeRows : ℕ → Bool → ℕ → ℕ → List Row
 writeRows kind fits size room =
     row 22 (not (kindRight kind)) ∷ row 26 (not fits) ∷ row 27 (ltb room (blockBytes * blockCount size)) ∷ []

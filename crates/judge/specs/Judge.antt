@@ -142,7 +142,7 @@ refusal n p = record { number = n; place = p; steps = 0; taken = 0; given = 0 }
 abbrev pub judgedLent : List Row → Answer
 judgedLent rows = refusal (numberOf rows) 0
 
--- Of the list by itself: "each instruction in turn, 5 to 11. Place is the instruction's number." (Numbers from 0: docs/DECISIONS.md.)
+-- Of the list by itself: "each instruction in turn, 5 to 11". "Place is the instruction's number". (Numbers from 0: docs/DECISIONS.md.)
 unfoldable pub judgedAlone : List ℕ → Answer
 judgedAlone list =
     let n = length list / 8 in
@@ -160,7 +160,7 @@ done list =
       given = count (λ k. gives (instructionAt list k)) (length list / 8);
     }
 
--- Of what it needs: "then 12; then 13. For 12 and 13 the first that lacks its item or room."
+-- Of what it needs: "then 12; then 13". Place is, "for 12 and 13 the first that lacks its item or room".
 unfoldable pub judgedNeeds : Lengths → List ℕ → Answer
 judgedNeeds l list =
     let n = length list / 8 in

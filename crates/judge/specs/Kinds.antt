@@ -1,7 +1,7 @@
 -- Document 01's sizes, kinds of instructions and sources, under its names.
 use Prim.Native.Nat.{ℕ}
 
--- "Memory is 8,192 bytes; registers 96; a list and items at most 32,768."
+-- Rows 1 to 4: "memory is not 8,192 bytes", "registers not 96", a list or items "over 32,768 bytes".
 abbrev pub memoryBytes : ℕ
 memoryBytes = 8192
 
