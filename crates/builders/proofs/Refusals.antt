@@ -14,7 +14,8 @@ use Rattle.bits.proofs.Puts.{put-front}
 use Rattle.bits.specs.Rows.{FirstRow}
 use Rattle.bits.proofs.Rows.{none-number, number-none, first-number, number-first, row-off}
 use Rattle.judge.proofs.RowLaws.{or-none}
-use Rattle.builders.specs.Sums.{beyond, crosses, Clear, Fields, listLength, fieldRows, fieldsFault}
+use Rattle.builders.specs.Field.{beyond}
+use Rattle.builders.specs.Sums.{crosses, Clear, Fields, listLength, fieldRows, fieldsFault}
 use Rattle.builders.specs.Building.{BuiltLeft, builtWith}
 
 -- ---- the table: number n is given exactly if row n is the first that holds

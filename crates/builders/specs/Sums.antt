@@ -9,6 +9,7 @@ use lib.ListN.{length}
 use Rattle.judge.specs.declared.Instruction.{Instruction}
 use Rattle.bits.specs.Rows.{Row, row, numberOf}
 use Rattle.builders.specs.Lists.{logicFrom, logicAt, storeAt, encoded, rounds}
+use Rattle.builders.specs.Field.{wrongWidth, beyond}
 use Rattle.builders.specs.Building.{BuiltLeft, builtWith}
 
 -- ---- the lists: a field is a start, its least significant bit, and a width n
@@ -50,14 +51,6 @@ abbrev pub differenceList : ℕ → ℕ → ℕ → ℕ → List Instruction
 differenceList a b s n = clear ∷ setY ∷ bitRounds differenceByte a b s n
 
 -- ---- the refusals
-
--- "30 width not 1..64."
-abbrev pub wrongWidth : ℕ → Bool
-wrongWidth n = ltb n 1 || ltb 64 n
-
--- "31 a start plus n over 256": as whole numbers, with no wrap-round.
-abbrev pub beyond : ℕ → ℕ → Bool
-beyond a n = ltb 256 (a + n)
 
 -- "32 S overlaps A or B without having its start": so for each of the two by itself.
 abbrev pub crosses : ℕ → ℕ → ℕ → Bool

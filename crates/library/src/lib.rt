@@ -91,7 +91,7 @@ pub extern "C" fn staran_sum_list(
 )
     ensures { λ _. ⌜ record { buffer = now (list .exit); answer = now (answer .exit) } ≡ sumLeft a b s n (now (list .entry)) ⌝ }
 {
-    let r = builders::sum_list(a, b, s, n, list);
+    let r = builders::sums::sum_list(a, b, s, n, list);
     *answer = answers::two(r);
 }
 
@@ -107,7 +107,7 @@ pub extern "C" fn staran_difference_list(
 )
     ensures { λ _. ⌜ record { buffer = now (list .exit); answer = now (answer .exit) } ≡ differenceLeft a b s n (now (list .entry)) ⌝ }
 {
-    let r = builders::difference_list(a, b, s, n, list);
+    let r = builders::sums::difference_list(a, b, s, n, list);
     *answer = answers::two(r);
 }
 

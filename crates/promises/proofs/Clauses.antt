@@ -17,8 +17,8 @@ use Rattle.module.proofs.step as step
 use Rattle.module.proofs.advance as advance
 use Rattle.network.proofs.pass as pass
 use Rattle.network.proofs.wired_pass as wired_pass
-use Rattle.builders.proofs.sum_list as sum_list
-use Rattle.builders.proofs.difference_list as difference_list
+use Rattle.builders.proofs.sums.sum_list as sum_list
+use Rattle.builders.proofs.sums.difference_list as difference_list
 use Rattle.contents.proofs.read_content as read_content
 use Rattle.contents.proofs.write_content as write_content
 use Rattle.pictures.proofs.read_picture as read_picture

@@ -33,11 +33,11 @@ Pass lines flip code r = r ≡ answer lines flip code
 
 -- ---- lists
 
--- `builders::sum_list`
+-- `builders::sums::sum_list`
 abbrev pub SumList : (a b s n : ℕ) (list list′ : List ℕ) → Built → Type 0
 SumList a b s n list list′ r = _≡_ {A = Buffer} (record { answer = r; list = list′ }) (sumBuilt a b s n list)
 
--- `builders::difference_list`
+-- `builders::sums::difference_list`
 abbrev pub DifferenceList : (a b s n : ℕ) (list list′ : List ℕ) → Built → Type 0
 DifferenceList a b s n list list′ r = _≡_ {A = Buffer} (record { answer = r; list = list′ }) (differenceBuilt a b s n list)
 

@@ -59,8 +59,8 @@ use Rattle.module.proofs.run as run
 use Rattle.module.proofs.step as step
 use Rattle.module.proofs.advance as advance
 use Rattle.builders.specs.Building.{BuiltLeft as Buffer}
-use Rattle.builders.proofs.sum_list as sum_list
-use Rattle.builders.proofs.difference_list as difference_list
+use Rattle.builders.proofs.sums.sum_list as sum_list
+use Rattle.builders.proofs.sums.difference_list as difference_list
 use Rattle.blocks.proofs.two_at as two_at
 use Rattle.blocks.proofs.fault as block_fault
 use Rattle.blocks.proofs.seal as seal
@@ -123,9 +123,9 @@ module _ {M : Type 1} (𝓤 : URA M) (H : Heap 𝓤) (A : Atoms 𝓤) (memory : 
     pub step : OneOutcome 𝓤 step.ended (step.clauses 𝓤 H A memory runs) {O = Left Registers Answer} (λ κs r e. record { memory = now (e .0); registers = now (e .1 .0); out = now (e .1 .1 .1 .1 .0); answer = r })
     -- `module::advance`
     pub advance : OneOutcome 𝓤 advance.ended (advance.clauses 𝓤 H A memory runs) {O = Left Registers Answer} (λ κs r e. record { memory = now (e .0); registers = r .regs; out = now (e .1 .1 .1 .1 .0); answer = r .answer })
-    -- `builders::sum_list`
+    -- `builders::sums::sum_list`
     pub sumList : OneOutcome 𝓤 sum_list.ended (sum_list.clauses 𝓤 H A memory runs) {O = Buffer} (λ κs r e. record { answer = r; list = now (e .1 .1 .1 .1 .0) })
-    -- `builders::difference_list`
+    -- `builders::sums::difference_list`
     pub differenceList : OneOutcome 𝓤 difference_list.ended (difference_list.clauses 𝓤 H A memory runs) {O = Buffer} (λ κs r e. record { answer = r; list = now (e .1 .1 .1 .1 .0) })
     -- `contents::read_content`
     pub readContent : OneOutcome 𝓤 read_content.ended (read_content.clauses 𝓤 H A memory runs) {O = ContentLeft} (λ κs r e. record { answer = r; buffer = now (e .1 .1 .0) })

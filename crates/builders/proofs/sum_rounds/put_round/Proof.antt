@@ -1,4 +1,4 @@
--- `builders::rounds::put_round`: five instructions one behind the other, by `put-more`. Assumes nothing.
+-- `builders::sum_rounds::put_round`: five instructions one behind the other, by `put-more`. Assumes nothing.
 use mathlib.Core.Path.{refl}
 use mathlib.Core.List.{[], _∷_}
 use Prim.Native.Nat.{_≤_, _+_, _*_}
@@ -9,8 +9,8 @@ use borrow.Author.Needs.{needs}
 use Rattle.builders.specs.Lists.{logicFrom, logicAt, storeAt}
 use Rattle.builders.specs.Sums.{sumByte, carryByte, moveByte}
 use Rattle.builders.proofs.PutLaws.{put-more}
-use Rattle.builders.proofs.rounds.put_round.Statement.{statement}
-use Rattle.builders.proofs.rounds.put_round.Tie as tie
+use Rattle.builders.proofs.sum_rounds.put_round.Statement.{statement}
+use Rattle.builders.proofs.sum_rounds.put_round.Tie as tie
 
 returns : tie.Need-returns
 returns c =

@@ -1,4 +1,4 @@
--- `builders::rounds::put_sum`: the leading instructions and the rounds one behind the other, by `put-more`. Assumes nothing.
+-- `builders::sum_rounds::put_sum`: the leading instructions and the rounds one behind the other, by `put-more`. Assumes nothing.
 use mathlib.Core.Path.{refl}
 use mathlib.Core.List.{[], _∷_}
 use native.Mathlib.Omega.{arith}
@@ -6,8 +6,8 @@ use denote.Ref.{now}
 use Rattle.builders.specs.Sums.{clear, bitRounds, sumByte}
 use Rattle.builders.proofs.PutLaws.{put-more}
 use borrow.Author.Needs.{needs}
-use Rattle.builders.proofs.rounds.put_sum.Statement.{statement}
-use Rattle.builders.proofs.rounds.put_sum.Tie as tie
+use Rattle.builders.proofs.sum_rounds.put_sum.Statement.{statement}
+use Rattle.builders.proofs.sum_rounds.put_sum.Tie as tie
 
 returns : tie.Need-returns
 returns c =

@@ -1,12 +1,12 @@
--- `builders::sum_list`: a refusal, or the whole list; `sound` says that fields with no number are sound. Assumes nothing.
+-- `builders::sums::sum_list`: a refusal, or the whole list; `sound` says that fields with no number are sound. Assumes nothing.
 use borrow.Author.Needs.{needs}
 use denote.Ref.{now}
 use Rattle.builders.specs.Lists.{encoded}
 use Rattle.builders.specs.Sums.{sumList, sumBuilt}
 use Rattle.builders.proofs.ListLaws.{sum-length}
 use Rattle.builders.proofs.Refusals.{sound, built-refused, built-done}
-use Rattle.builders.proofs.sum_list.Statement.{statement}
-use Rattle.builders.proofs.sum_list.Tie as tie
+use Rattle.builders.proofs.sums.sum_list.Statement.{statement}
+use Rattle.builders.proofs.sums.sum_list.Tie as tie
 
 returns : tie.Need-returns
 unfolding sumBuilt

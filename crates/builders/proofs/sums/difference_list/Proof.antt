@@ -1,12 +1,12 @@
--- `builders::difference_list`: a refusal, or the whole list; `sound` says that fields with no number are sound. Assumes nothing.
+-- `builders::sums::difference_list`: a refusal, or the whole list; `sound` says that fields with no number are sound. Assumes nothing.
 use borrow.Author.Needs.{needs}
 use denote.Ref.{now}
 use Rattle.builders.specs.Lists.{encoded}
 use Rattle.builders.specs.Sums.{differenceList, differenceBuilt}
 use Rattle.builders.proofs.ListLaws.{difference-length}
 use Rattle.builders.proofs.Refusals.{sound, built-refused, built-done}
-use Rattle.builders.proofs.difference_list.Statement.{statement}
-use Rattle.builders.proofs.difference_list.Tie as tie
+use Rattle.builders.proofs.sums.difference_list.Statement.{statement}
+use Rattle.builders.proofs.sums.difference_list.Tie as tie
 
 returns : tie.Need-returns
 unfolding differenceBuilt

@@ -1,4 +1,4 @@
--- `builders::rounds::put_rounds`: the buffer has the first k rounds, by `rounds-more`. Assumes nothing.
+-- `builders::sum_rounds::put_rounds`: the buffer has the first k rounds, by `rounds-more`. Assumes nothing.
 use mathlib.Core.Path.{_≡_, refl, sym, ap, _∙_}
 use mathlib.Core.List.{List}
 use Prim.Native.Nat.{ℕ, _≤_, _-_, _+_, _*_}
@@ -12,8 +12,8 @@ use Rattle.builders.specs.Lists.{encoded, rounds}
 use Rattle.builders.specs.Sums.{bitRound, bitRounds}
 use Rattle.builders.proofs.ListLaws.{length-bits}
 use Rattle.builders.proofs.PutLaws.{rounds-more}
-use Rattle.builders.proofs.rounds.put_rounds.Statement.{statement}
-use Rattle.builders.proofs.rounds.put_rounds.Tie as tie
+use Rattle.builders.proofs.sum_rounds.put_rounds.Statement.{statement}
+use Rattle.builders.proofs.sum_rounds.put_rounds.Tie as tie
 
 abbrev Inv-loop : tie.InvT-loop
 Inv-loop list₀ at byte7 a b s n k₀ list k = (k ≤ n) × (length list ≡ length list₀) × (list ≡ putAt (8 * at) (encoded (bitRounds byte7 a b s k)) list₀)

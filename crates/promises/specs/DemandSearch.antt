@@ -1,0 +1,58 @@
+-- The searches of document 02, One, on a page: "builders of lists that leave in Y a 1 for each word whose field equals a given number; is less than it; or, among the words marked in Y at the start, holds the greatest value, every equal one marked. If none is marked, none is at the end. The lists .. take the number as outside items and write no memory. Each is proved against whole-number comparison."
+-- Stated of the bytes that the builders leave in their buffers and of what `run` promises to do with them; proved in proofs/DemandSearch.antt, and assumes nothing. The numbers 30, 31, 34 and 33 stand in specs/DemandOne.antt.
+use mathlib.Core.Path.{_≡_}
+use mathlib.Core.Bool.{Bool, false}
+use mathlib.Core.List.{List, _++_}
+use Prim.Native.Nat.{ℕ, _+_, _*_, _^_, _<_, _≤_}
+use lib.ListN.{length, replicate}
+use Rattle.judge.specs.declared.Instruction.{Instruction}
+use Rattle.judge.specs.Judge.{unfit}
+use Rattle.module.specs.Run.{Lent}
+use Rattle.builders.specs.Word.{Each}
+use Rattle.builders.specs.Field.{Field}
+use Rattle.builders.specs.Searches.{equalList, lessList, greatestList, searchLength, itemsLength, greatestLength, equalBuilt, lessBuilt, greatestBuilt}
+use Rattle.fields.specs.Value.{value, Bytes, lentOn}
+use Rattle.fields.specs.Search.{equalRun, lessRun, greatestRun, Marked, Greatest, Marks}
+
+-- Any field of 1 to 64 bits inside the word; any number that is not too large for it; buffers that are not too short; any memory, any registers, whatever M, X and Y hold; and any items behind those that the list takes.
+pub record Given (a n number : ℕ) (list items list′ : List ℕ) (lent : Lent (List ℕ)) : Type 0 where
+  pub field : Field a n
+  pub small : number < 2 ^ n
+  pub room : searchLength n ≤ length list
+  pub roomItems : itemsLength n ≤ length items
+  pub room′ : greatestLength n ≤ length list′
+  pub memory : Bytes (lent .memory) 8192
+  pub registers : Bytes (lent .registers) 96
+  pub supplied : unfit 32 (itemsLength n + length (lent .items)) ≡ false
+
+-- X afterwards: the same marks as Y; or 0.
+abbrev same : List ℕ → List ℕ
+same y = y
+
+abbrev zero : List ℕ → List ℕ
+zero y = replicate 32 0
+
+-- The instruction is logic: kind 0.
+abbrev Logic : Instruction → Type 0
+Logic i = i .kind ≡ 0
+
+pub record DemandSearch (a n number : ℕ) (list items list′ : List ℕ) (lent : Lent (List ℕ)) : Type 0 where
+  -- each list is written, with its count of bytes and of its items', 8(2+3n) and 32n, or 8(1+11n)
+  pub equalWritten : equalBuilt a n number list items .answer ≡ record { number = 0; list = searchLength n; items = itemsLength n }
+  pub lessWritten : lessBuilt a n number list items .answer ≡ record { number = 0; list = searchLength n; items = itemsLength n }
+  pub greatestWritten : greatestBuilt a n list′ .answer ≡ record { number = 0; count = greatestLength n }
+  -- and has logic instructions alone
+  pub equalLogic : Each Logic (equalList a n)
+  pub lessLogic : Each Logic (lessList a n)
+  pub greatestLogic : Each Logic (greatestList a n)
+  -- Y marks exactly the words whose field is the number, or less; X too
+  pub equal : Marks (2 + 3 * n) n (λ w. value (lent .memory) w a n ≡ number) same lent (equalRun a n number list items lent)
+  pub less : Marks (2 + 3 * n) n (λ w. value (lent .memory) w a n < number) same lent (lessRun a n number list items lent)
+  -- Y marks exactly those of the words marked before that hold the greatest value; X is 0
+  pub greatest : Marks (1 + 11 * n) 0 (Greatest a n lent) zero lent (greatestRun a n list′ lent)
+  -- "If none is marked, none is at the end"
+  pub noneMarked : ((w : ℕ) → w < 256 → Marked (lent .registers) w → ⊥) → (w : ℕ) → w < 256 → Marked (greatestRun a n list′ lent .registers) w → ⊥
+  -- one behind the other: the highest of the stations below a number
+  pub greatestLess : (let r = lentOn lent (lessRun a n number list items lent) in
+      Marks (1 + 11 * n) 0 (λ w. (value (lent .memory) w a n < number)
+      × ((v : ℕ) → v < 256 → value (lent .memory) v a n < number → value (lent .memory) v a n ≤ value (lent .memory) w a n)) zero r (greatestRun a n list′ r))
