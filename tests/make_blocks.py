@@ -1,13 +1,14 @@
 #!/usr/bin/env python3
-"""Makes and reads the files of a folder that ./staran runs in. Written from document 01 alone, "Blocks on disk", "Instructions" and
-"Sum and difference lists", and from nothing of the crates, so that it can serve as an outside answer.
+"""Makes and reads the files of a folder that ./staran runs in. Written from document 01, "Blocks on disk", "Instructions" and "Sum and
+difference lists", and from the bytes in docs/LISTS.md, and from nothing of the crates, so that it can serve as an outside answer.
 
     make_blocks.py list FILE HEX..       a list: HEX is any number of hex digits and blanks, in one word or several
     make_blocks.py items FILE HEX..      items, likewise
     make_blocks.py picture FILE          a picture whose words and registers are all 0
     make_blocks.py example FOLDER        before.pic and run.lst of the example that document 01 prints
     make_blocks.py demo FOLDER           before.pic, run.lst and in.itm of the demonstration
-    make_blocks.py heights FOLDER        the stations of before.pic and after.pic: every word that is not all zero
+    make_blocks.py heights FOLDER        the stations of before.pic and after.pic: every word that is not all zero, with a star behind
+                                         those that are marked in after.pic's Y
 
 Options: --replace   a picture that is there may be overwritten
          --unfit     content is written that the program will refuse
@@ -154,6 +155,17 @@ def sum_list(a, b, s, width):
     return b''.join(out)
 
 
+def greatest_list(start, width):
+    """The list that keeps marked, of the words marked in Y, those whose field is the greatest."""
+    out = [bytes([0, 2, 0, 0, 0, 0, 0, 0])]
+    for k in reversed(range(width)):
+        out += [bytes([0, 0, 1, 0, start + k, 0, 0, 0x3A])]
+        out += [bytes([0, 2, 0, 0, 0, 2 ** e, 0, 0x0E]) for e in range(8)]
+        out += [bytes([0, 0, 1, 0, start + k, 0, 0, 0x04]),
+                bytes([0, 2, 0, 0, 0, 0, 0, 0x24])]
+    return b''.join(out)
+
+
 # ---- the demonstration: field A (bits 0 to 31) a height, B (32 to 63) the datum shift, S (64 to 95) their sum, in millimetres
 
 STATIONS = 20
@@ -172,18 +184,28 @@ def words_of(path):
     return [plain[32 * w:32 * w + 32] for w in range(256)]
 
 
+def marks_of(path):
+    """Y of a picture file: the numbers of the words that are marked there."""
+    with open(path, 'rb') as file:
+        y = content(PICTURE, file.read(), path)[8192 + 64:]
+    return {w for w in range(256) if y[w // 8] >> w % 8 & 1}
+
+
 def heights(folder, signed):
-    """The table of the stations before and, where there is an after.pic, after."""
-    pictures = [words_of(os.path.join(folder, 'before.pic'))]
+    """The table of the stations before and, where there is an after.pic, after: a star behind those that are marked in its Y."""
+    pictures, marks = [words_of(os.path.join(folder, 'before.pic'))], set()
     after = os.path.join(folder, 'after.pic')
     if os.path.exists(after):
         pictures.append(words_of(after))
+        marks = marks_of(after)
     heads = ['%20s %11s %11s' % (name + ' height', 'shift', 'sum') for name in ('before:', 'after:')]
     print('word' + ''.join(heads[:len(pictures)]))
     for w in range(256):
         if any(any(words[w]) for words in pictures):
             fields = [[int.from_bytes(words[w][f:f + 4], 'little', signed=signed) for f in (0, 4, 8)] for words in pictures]
-            print('%4d' % w + ''.join('%20d %11d %11d' % tuple(row) for row in fields))
+            print('%4d' % w + ''.join('%20d %11d %11d' % tuple(row) for row in fields) + (' *' if w in marks else ''))
+    if marks:
+        print('* marked in Y')
 
 
 # ---- the command
@@ -225,6 +247,8 @@ def main(words):
         write(beside('before.pic'), picture(stations), replace)
         # the sum; then word 13 is stored from outside (mode 255, address 13), and delivered
         steps = sum_list(0, 32, 64, 32) + bytes([2, 4, 1, 255, 13, 0, 0, 0]) + bytes([4, 0, 1, 255, 13, 0, 0, 0])
+        # every word is marked in Y; those with the greatest sum stay marked; and Y is delivered
+        steps += bytes([0, 2, 0, 0, 0, 0, 0, 0x1F]) + greatest_list(64, 32) + bytes([4, 3, 0, 0, 0, 0, 0, 0])
         write(beside('run.lst'), blocks(LIST, steps))
         write(beside('in.itm'), blocks(ITEMS, station(250000, 0, 250000)))
     elif what == 'heights':

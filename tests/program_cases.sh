@@ -140,11 +140,14 @@ another; run; whole "$here/demo/before.pic"; judge "and the next run is not hind
 fresh; timeout 20 ${emulator:+"$emulator"} "$loader" --library-path "$tools/lib" "$here/target/bin/program" >/dev/full 2>"$work/err"; : >"$work/out"
 grep -qx 'standard output: No space left on device' "$work/err" && [ -s "$work/f/after.pic" ]; judge "an output that takes nothing: the reason is said, and after.pic is whole" $?
 
-# ---- the demonstration: 20 stations, and word 13 stored by itself
+# ---- the demonstration: 20 stations, word 13 stored by itself, and the highest marked
 "$here/staran" >"$work/out" 2>"$work/err"; status=$?
-[ $status -eq 0 ] && grep -qx 'r 0 0 163 1 1' "$work/out" && [ "$(grep -cE '^ +[0-9]+ ' "$work/out")" -eq 20 ]; judge "the demonstration shows its 20 stations" $?
+[ $status -eq 0 ] && grep -qx 'r 0 0 518 1 2' "$work/out" && [ "$(grep -cE '^ +[0-9]+ ' "$work/out")" -eq 20 ]; judge "the demonstration shows its 20 stations" $?
 awk '/^ +[0-9]+ / { if ($1 == 13 ? $5 != 250000 || $6 != 0 || $7 != 250000 : $5 != $2 || $6 != $3 || $7 != $2 + $3) wrong = 1 } END { exit wrong }' "$work/out"
 judge "every word but 13 has its sum, and word 13 what in.itm has" $?
+awk '/^ +[0-9]+ / { if ($7 > most) most = $7; sum[$1] = $7; star[$1] = / \*$/ } END { for (w in sum) if (star[w] != (sum[w] == most)) exit 1; exit !most }' "$work/out" &&
+    grep -qxE '0020(00){30}' "$work/out"
+judge "the highest station is marked in the table and in the item delivered, and no other" $?
 
 echo "$passed passed, $failed failed"
 [ "$failed" -eq 0 ]

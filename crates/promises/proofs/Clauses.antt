@@ -19,23 +19,29 @@ use Rattle.network.proofs.pass as pass
 use Rattle.network.proofs.wired_pass as wired_pass
 use Rattle.builders.proofs.sums.sum_list as sum_list
 use Rattle.builders.proofs.sums.difference_list as difference_list
+use Rattle.builders.proofs.searches.equal_list as equal_list
+use Rattle.builders.proofs.searches.less_list as less_list
+use Rattle.builders.proofs.searches.greatest_list as greatest_list
 use Rattle.contents.proofs.read_content as read_content
 use Rattle.contents.proofs.write_content as write_content
 use Rattle.pictures.proofs.read_picture as read_picture
 use Rattle.pictures.proofs.write_picture as write_picture
-use Rattle.library.specs.Left.{sumLeft, differenceLeft, readLeft, writeLeft, writePictureLeft}
+use Rattle.library.specs.Left.{sumLeft, differenceLeft, equalLeft, lessLeft, greatestLeft, readLeft, writeLeft, writePictureLeft}
 use Rattle.library.proofs.staran_run as staran_run
 use Rattle.library.proofs.staran_step as staran_step
 use Rattle.library.proofs.staran_pass as staran_pass
 use Rattle.library.proofs.staran_wired_pass as staran_wired_pass
 use Rattle.library.proofs.staran_sum_list as staran_sum_list
 use Rattle.library.proofs.staran_difference_list as staran_difference_list
+use Rattle.library.proofs.staran_equal_list as staran_equal_list
+use Rattle.library.proofs.staran_less_list as staran_less_list
+use Rattle.library.proofs.staran_greatest_list as staran_greatest_list
 use Rattle.library.proofs.staran_read_content as staran_read_content
 use Rattle.library.proofs.staran_write_content as staran_write_content
 use Rattle.library.proofs.staran_read_picture as staran_read_picture
 use Rattle.library.proofs.staran_write_picture as staran_write_picture
 use Rattle.library.proofs.staran_version as staran_version
-use Rattle.promises.specs.Clauses.{Run, Step, Pass, SumList, DifferenceList, ReadContent, WriteContent, ReadPicture, WritePicture, LibraryRun, LibraryStep, LibraryPass, LibraryBuffer, LibraryReadPicture, LibraryVersion}
+use Rattle.promises.specs.Clauses.{Run, Step, Pass, SumList, DifferenceList, EqualList, LessList, GreatestList, ReadContent, WriteContent, ReadPicture, WritePicture, LibraryRun, LibraryStep, LibraryPass, LibraryBuffer, LibraryTwo, LibraryReadPicture, LibraryVersion}
 
 module _ {M : Type 1} (𝓤 : URA M) (H : Heap 𝓤) (A : Atoms 𝓤) (memory : Memory → SProp 𝓤) (runs : Routine → Fun 𝓤) where
   open Connectives (connectives 𝓤) using (⌜_⌝, ⊤ₛ)
@@ -75,6 +81,18 @@ module _ {M : Type 1} (𝓤 : URA M) (H : Heap 𝓤) (A : Atoms 𝓤) (memory : 
   pub difference-list-clauses : Says difference_list.ended (difference_list.clauses 𝓤 H A memory runs) (λ κs a r e.
       ⌜ DifferenceList (a .0) (a .1 .0) (a .1 .1 .0) (a .1 .1 .1 .0) (now (a .1 .1 .1 .1 .0)) (now (e .1 .1 .1 .1 .0)) r ⌝)
   difference-list-clauses κs a g r e = (refl, refl)
+
+  pub equal-list-clauses : Says equal_list.ended (equal_list.clauses 𝓤 H A memory runs) (λ κs a r e.
+      ⌜ EqualList (a .0) (a .1 .0) (a .1 .1 .0) (now (a .1 .1 .1 .0)) (now (a .1 .1 .1 .1 .0)) (now (e .1 .1 .1 .0)) (now (e .1 .1 .1 .1 .0)) r ⌝)
+  equal-list-clauses κs a g r e = (refl, refl)
+
+  pub less-list-clauses : Says less_list.ended (less_list.clauses 𝓤 H A memory runs) (λ κs a r e.
+      ⌜ LessList (a .0) (a .1 .0) (a .1 .1 .0) (now (a .1 .1 .1 .0)) (now (a .1 .1 .1 .1 .0)) (now (e .1 .1 .1 .0)) (now (e .1 .1 .1 .1 .0)) r ⌝)
+  less-list-clauses κs a g r e = (refl, refl)
+
+  pub greatest-list-clauses : Says greatest_list.ended (greatest_list.clauses 𝓤 H A memory runs) (λ κs a r e.
+      ⌜ GreatestList (a .0) (a .1 .0) (now (a .1 .1 .0)) (now (e .1 .1 .0)) r ⌝)
+  greatest-list-clauses κs a g r e = (refl, refl)
 
   pub read-content-clauses : Says read_content.ended (read_content.clauses 𝓤 H A memory runs) (λ κs a r e.
       ⌜ ReadContent (a .0) (now (a .1 .0)) (now (a .1 .1 .0)) (now (e .1 .1 .0)) r ⌝)
@@ -119,6 +137,18 @@ module _ {M : Type 1} (𝓤 : URA M) (H : Heap 𝓤) (A : Atoms 𝓤) (memory : 
   pub library-difference-list-clauses : Says staran_difference_list.ended (staran_difference_list.clauses 𝓤 H A memory runs) (λ κs a r e.
       ⌜ LibraryBuffer (differenceLeft (a .0) (a .1 .0) (a .1 .1 .0) (a .1 .1 .1 .0) (now (a .1 .1 .1 .1 .0))) (now (e .1 .1 .1 .1 .0)) (now (e .1 .1 .1 .1 .1 .0)) ⌝)
   library-difference-list-clauses κs a g r e = (refl, refl)
+
+  pub library-equal-list-clauses : Says staran_equal_list.ended (staran_equal_list.clauses 𝓤 H A memory runs) (λ κs a r e.
+      ⌜ LibraryTwo (equalLeft (a .0) (a .1 .0) (a .1 .1 .0) (now (a .1 .1 .1 .0)) (now (a .1 .1 .1 .1 .0))) (now (e .1 .1 .1 .0)) (now (e .1 .1 .1 .1 .0)) (now (e .1 .1 .1 .1 .1 .0)) ⌝)
+  library-equal-list-clauses κs a g r e = (refl, refl)
+
+  pub library-less-list-clauses : Says staran_less_list.ended (staran_less_list.clauses 𝓤 H A memory runs) (λ κs a r e.
+      ⌜ LibraryTwo (lessLeft (a .0) (a .1 .0) (a .1 .1 .0) (now (a .1 .1 .1 .0)) (now (a .1 .1 .1 .1 .0))) (now (e .1 .1 .1 .0)) (now (e .1 .1 .1 .1 .0)) (now (e .1 .1 .1 .1 .1 .0)) ⌝)
+  library-less-list-clauses κs a g r e = (refl, refl)
+
+  pub library-greatest-list-clauses : Says staran_greatest_list.ended (staran_greatest_list.clauses 𝓤 H A memory runs) (λ κs a r e.
+      ⌜ LibraryBuffer (greatestLeft (a .0) (a .1 .0) (now (a .1 .1 .0))) (now (e .1 .1 .0)) (now (e .1 .1 .1 .0)) ⌝)
+  library-greatest-list-clauses κs a g r e = (refl, refl)
 
   pub library-read-content-clauses : Says staran_read_content.ended (staran_read_content.clauses 𝓤 H A memory runs) (λ κs a r e.
       ⌜ LibraryBuffer (readLeft (a .0) (now (a .1 .0)) (now (a .1 .1 .0))) (now (e .1 .1 .0)) (now (e .1 .1 .1 .0)) ⌝)

@@ -78,6 +78,9 @@ module _ {M : Type 1} (𝓤 : URA M) (H : Heap 𝓤) (A : Atoms 𝓤) (memory : 
         advance = equation 𝓤 _ (λ κs a g r e. refl);
         sumList = equation 𝓤 _ (λ κs a g r e. refl);
         differenceList = equation 𝓤 _ (λ κs a g r e. refl);
+        equalList = equation 𝓤 _ (λ κs a g r e. refl);
+        lessList = equation 𝓤 _ (λ κs a g r e. refl);
+        greatestList = equation 𝓤 _ (λ κs a g r e. refl);
         readContent = equation 𝓤 _ (λ κs a g r e. refl);
         writeContent = equation 𝓤 _ (λ κs a g r e. refl);
         readPicture = equation 𝓤 _ (λ κs a g r e. refl);
@@ -93,6 +96,9 @@ module _ {M : Type 1} (𝓤 : URA M) (H : Heap 𝓤) (A : Atoms 𝓤) (memory : 
         wiredPass = equation 𝓤 _ (λ κs a g r e. refl);
         sumList = equation 𝓤 _ (λ κs a g r e. refl);
         differenceList = equation 𝓤 _ (λ κs a g r e. refl);
+        equalList = equation 𝓤 _ (λ κs a g r e. refl);
+        lessList = equation 𝓤 _ (λ κs a g r e. refl);
+        greatestList = equation 𝓤 _ (λ κs a g r e. refl);
         readContent = equation 𝓤 _ (λ κs a g r e. refl);
         writeContent = equation 𝓤 _ (λ κs a g r e. refl);
         readPicture = equation 𝓤 _ (λ κs a g r e. refl);

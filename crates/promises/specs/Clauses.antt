@@ -8,12 +8,14 @@ use Rattle.registers.specs.declared.Registers.{Registers}
 use Rattle.judge.specs.declared.Answer.{Answer}
 use Rattle.module.specs.Run.{Lent, Left, ran, stepped}
 use Rattle.builders.specs.declared.Built.{Built}
+use Rattle.builders.specs.declared.BuiltTwo.{BuiltTwo}
 use Rattle.builders.specs.Sums.{sumBuilt, differenceBuilt}
-use Rattle.builders.specs.Building.{BuiltLeft as Buffer}
+use Rattle.builders.specs.Searches.{equalBuilt, lessBuilt, greatestBuilt}
+use Rattle.builders.specs.Building.{BuiltLeft as Buffer, BuiltTwoLeft as Buffers}
 use Rattle.contents.specs.declared.Moved.{Moved}
 use Rattle.contents.specs.Content.{ContentLeft, contentRead, contentWritten}
 use Rattle.pictures.specs.Picture.{PictureLeft, pictureRead, pictureWritten}
-use Rattle.library.specs.Left.{runLeft, stepLeft, PassLeft, passLeft, BufferLeft, TargetsLeft, readPictureLeft, version}
+use Rattle.library.specs.Left.{runLeft, stepLeft, PassLeft, passLeft, BufferLeft, TwoLeft, TargetsLeft, readPictureLeft, version}
 
 -- ---- the array
 
@@ -40,6 +42,20 @@ SumList a b s n list list′ r = _≡_ {A = Buffer} (record { answer = r; list =
 -- `builders::sums::difference_list`
 abbrev pub DifferenceList : (a b s n : ℕ) (list list′ : List ℕ) → Built → Type 0
 DifferenceList a b s n list list′ r = _≡_ {A = Buffer} (record { answer = r; list = list′ }) (differenceBuilt a b s n list)
+
+-- `builders::searches::equal_list`
+abbrev pub EqualList : (start n number : ℕ) (list items list′ items′ : List ℕ) → BuiltTwo → Type 0
+EqualList start n number list items list′ items′ r =
+    _≡_ {A = Buffers} (record { answer = r; list = list′; items = items′ }) (equalBuilt start n number list items)
+
+-- `builders::searches::less_list`
+abbrev pub LessList : (start n number : ℕ) (list items list′ items′ : List ℕ) → BuiltTwo → Type 0
+LessList start n number list items list′ items′ r =
+    _≡_ {A = Buffers} (record { answer = r; list = list′; items = items′ }) (lessBuilt start n number list items)
+
+-- `builders::searches::greatest_list`
+abbrev pub GreatestList : (start n : ℕ) (list list′ : List ℕ) → Built → Type 0
+GreatestList start n list list′ r = _≡_ {A = Buffer} (record { answer = r; list = list′ }) (greatestBuilt start n list)
 
 -- ---- the disk
 
@@ -78,9 +94,13 @@ LibraryStep l u = u ≡ stepLeft l
 abbrev pub LibraryPass : (item : List ℕ) (flip code : ℕ) (passed′ answer′ : List ℕ) → Type 0
 LibraryPass item flip code passed′ answer′ = _≡_ {A = PassLeft} (record { passed = passed′; answer = answer′ }) (passLeft item flip code)
 
--- `staran_sum_list`, `staran_difference_list`, `staran_read_content`, `staran_write_content` and `staran_write_picture`, which write one buffer: l is what the function leaves
+-- `staran_sum_list`, `staran_difference_list`, `staran_greatest_list`, `staran_read_content`, `staran_write_content` and `staran_write_picture`, which write one buffer: l is what the function leaves
 abbrev pub LibraryBuffer : BufferLeft → (buffer′ answer′ : List ℕ) → Type 0
 LibraryBuffer l buffer′ answer′ = _≡_ {A = BufferLeft} (record { buffer = buffer′; answer = answer′ }) l
+
+-- `staran_equal_list` and `staran_less_list`, which write a list and its items
+abbrev pub LibraryTwo : TwoLeft → (list′ items′ answer′ : List ℕ) → Type 0
+LibraryTwo l list′ items′ answer′ = _≡_ {A = TwoLeft} (record { list = list′; items = items′; answer = answer′ }) l
 
 -- `staran_read_picture`
 abbrev pub LibraryReadPicture : (kind : ℕ) (bytes memory registers memory′ registers′ answer′ : List ℕ) → Type 0

@@ -58,9 +58,12 @@ use Rattle.module.specs.Run.{Left}
 use Rattle.module.proofs.run as run
 use Rattle.module.proofs.step as step
 use Rattle.module.proofs.advance as advance
-use Rattle.builders.specs.Building.{BuiltLeft as Buffer}
+use Rattle.builders.specs.Building.{BuiltLeft as Buffer, BuiltTwoLeft as Buffers}
 use Rattle.builders.proofs.sums.sum_list as sum_list
 use Rattle.builders.proofs.sums.difference_list as difference_list
+use Rattle.builders.proofs.searches.equal_list as equal_list
+use Rattle.builders.proofs.searches.less_list as less_list
+use Rattle.builders.proofs.searches.greatest_list as greatest_list
 use Rattle.blocks.proofs.two_at as two_at
 use Rattle.blocks.proofs.fault as block_fault
 use Rattle.blocks.proofs.seal as seal
@@ -77,13 +80,16 @@ use Rattle.contents.proofs.write_content as write_content
 use Rattle.pictures.specs.Picture.{PictureLeft}
 use Rattle.pictures.proofs.read_picture as read_picture
 use Rattle.pictures.proofs.write_picture as write_picture
-use Rattle.library.specs.Left.{PassLeft, BufferLeft, TargetsLeft}
+use Rattle.library.specs.Left.{PassLeft, BufferLeft, TwoLeft, TargetsLeft}
 use Rattle.library.proofs.staran_run as staran_run
 use Rattle.library.proofs.staran_step as staran_step
 use Rattle.library.proofs.staran_pass as staran_pass
 use Rattle.library.proofs.staran_wired_pass as staran_wired_pass
 use Rattle.library.proofs.staran_sum_list as staran_sum_list
 use Rattle.library.proofs.staran_difference_list as staran_difference_list
+use Rattle.library.proofs.staran_equal_list as staran_equal_list
+use Rattle.library.proofs.staran_less_list as staran_less_list
+use Rattle.library.proofs.staran_greatest_list as staran_greatest_list
 use Rattle.library.proofs.staran_read_content as staran_read_content
 use Rattle.library.proofs.staran_write_content as staran_write_content
 use Rattle.library.proofs.staran_read_picture as staran_read_picture
@@ -127,6 +133,12 @@ module _ {M : Type 1} (𝓤 : URA M) (H : Heap 𝓤) (A : Atoms 𝓤) (memory : 
     pub sumList : OneOutcome 𝓤 sum_list.ended (sum_list.clauses 𝓤 H A memory runs) {O = Buffer} (λ κs r e. record { answer = r; list = now (e .1 .1 .1 .1 .0) })
     -- `builders::sums::difference_list`
     pub differenceList : OneOutcome 𝓤 difference_list.ended (difference_list.clauses 𝓤 H A memory runs) {O = Buffer} (λ κs r e. record { answer = r; list = now (e .1 .1 .1 .1 .0) })
+    -- `builders::searches::equal_list`
+    pub equalList : OneOutcome 𝓤 equal_list.ended (equal_list.clauses 𝓤 H A memory runs) {O = Buffers} (λ κs r e. record { answer = r; list = now (e .1 .1 .1 .0); items = now (e .1 .1 .1 .1 .0) })
+    -- `builders::searches::less_list`
+    pub lessList : OneOutcome 𝓤 less_list.ended (less_list.clauses 𝓤 H A memory runs) {O = Buffers} (λ κs r e. record { answer = r; list = now (e .1 .1 .1 .0); items = now (e .1 .1 .1 .1 .0) })
+    -- `builders::searches::greatest_list`
+    pub greatestList : OneOutcome 𝓤 greatest_list.ended (greatest_list.clauses 𝓤 H A memory runs) {O = Buffer} (λ κs r e. record { answer = r; list = now (e .1 .1 .0) })
     -- `contents::read_content`
     pub readContent : OneOutcome 𝓤 read_content.ended (read_content.clauses 𝓤 H A memory runs) {O = ContentLeft} (λ κs r e. record { answer = r; buffer = now (e .1 .1 .0) })
     -- `contents::write_content`
@@ -145,6 +157,9 @@ module _ {M : Type 1} (𝓤 : URA M) (H : Heap 𝓤) (A : Atoms 𝓤) (memory : 
     pub wiredPass : OneOutcome 𝓤 staran_wired_pass.ended (staran_wired_pass.clauses 𝓤 H A memory runs) {O = PassLeft} (λ κs r e. record { passed = now (e .1 .1 .1 .0); answer = now (e .1 .1 .1 .1 .0) })
     pub sumList : OneOutcome 𝓤 staran_sum_list.ended (staran_sum_list.clauses 𝓤 H A memory runs) {O = BufferLeft} (λ κs r e. record { buffer = now (e .1 .1 .1 .1 .0); answer = now (e .1 .1 .1 .1 .1 .0) })
     pub differenceList : OneOutcome 𝓤 staran_difference_list.ended (staran_difference_list.clauses 𝓤 H A memory runs) {O = BufferLeft} (λ κs r e. record { buffer = now (e .1 .1 .1 .1 .0); answer = now (e .1 .1 .1 .1 .1 .0) })
+    pub equalList : OneOutcome 𝓤 staran_equal_list.ended (staran_equal_list.clauses 𝓤 H A memory runs) {O = TwoLeft} (λ κs r e. record { list = now (e .1 .1 .1 .0); items = now (e .1 .1 .1 .1 .0); answer = now (e .1 .1 .1 .1 .1 .0) })
+    pub lessList : OneOutcome 𝓤 staran_less_list.ended (staran_less_list.clauses 𝓤 H A memory runs) {O = TwoLeft} (λ κs r e. record { list = now (e .1 .1 .1 .0); items = now (e .1 .1 .1 .1 .0); answer = now (e .1 .1 .1 .1 .1 .0) })
+    pub greatestList : OneOutcome 𝓤 staran_greatest_list.ended (staran_greatest_list.clauses 𝓤 H A memory runs) {O = BufferLeft} (λ κs r e. record { buffer = now (e .1 .1 .0); answer = now (e .1 .1 .1 .0) })
     pub readContent : OneOutcome 𝓤 staran_read_content.ended (staran_read_content.clauses 𝓤 H A memory runs) {O = BufferLeft} (λ κs r e. record { buffer = now (e .1 .1 .0); answer = now (e .1 .1 .1 .0) })
     pub writeContent : OneOutcome 𝓤 staran_write_content.ended (staran_write_content.clauses 𝓤 H A memory runs) {O = BufferLeft} (λ κs r e. record { buffer = now (e .1 .1 .0); answer = now (e .1 .1 .1 .0) })
     pub readPicture : OneOutcome 𝓤 staran_read_picture.ended (staran_read_picture.clauses 𝓤 H A memory runs) {O = TargetsLeft} (λ κs r e. record { memory = now (e .1 .1 .0); registers = now (e .1 .1 .1 .0); answer = now (e .1 .1 .1 .1 .0) })
