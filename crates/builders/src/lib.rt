@@ -1,5 +1,6 @@
 // Builders of lists of instructions: the sum and the difference of two fields. Document 01, Sum and difference lists.
 mod field;
+mod search_rounds;
 mod sum_rounds;
 pub mod sums;
 mod writing;
