@@ -7,5 +7,6 @@ pub mod Bounds
 pub mod Folds
 pub mod Takes
 pub mod Carries
+pub mod Marks
 pub mod Adder
 pub mod Examples
