@@ -9,4 +9,5 @@ pub mod Takes
 pub mod Carries
 pub mod Marks
 pub mod Adder
+pub mod Comparing
 pub mod Examples
