@@ -2,6 +2,7 @@
 pub mod ListLaws
 pub mod PutLaws
 pub mod Refusals
+pub mod SearchRefusals
 pub mod TwoLaws
 pub mod Bounds
 pub mod Folds
