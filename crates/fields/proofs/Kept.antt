@@ -52,8 +52,7 @@ folded-keepsM (i ∷ l) items s (more h e) =
 
 -- ---- what a run leaves, by X and Y at its end
 
-module _ (l : List Instruction) (quiet : Each Quiet l) (logic : Each (λ i. i .kind ≡ 0) l) (few : length l ≤ 4096)
-    (lent : Lent (List ℕ)) (memory : Bytes (lent .memory) 8192) (registers : Bytes (lent .registers) 96) (items : List ℕ) where
+module _ (l : List Instruction) (lent : Lent (List ℕ)) (memory : Bytes (lent .memory) 8192) (registers : Bytes (lent .registers) 96) (items : List ℕ) where
   abbrev begin : State
   begin = begun lent (registersOf (lent .registers))
 
@@ -67,10 +66,11 @@ module _ (l : List Instruction) (quiet : Each Quiet l) (logic : Each (λ i. i .k
   rows = registers-bytes (end .regs) (end-good .m-ok .size) (end-good .x-ok .size) (end-good .y-ok .size)
 
   -- with the items that it is lent in the place of the lender's
-  pub marks-logic : unfit 32 (length items) ≡ false → 32 * takenBy l ≤ length items → (P : ℕ → Type 0) (x : List ℕ → List ℕ)
+  pub marks-logic : Each Quiet l → Each (λ i. i .kind ≡ 0) l → length l ≤ 4096 → unfit 32 (length items) ≡ false → 32 * takenBy l ≤ length items
+      → (P : ℕ → Type 0) (x : List ℕ → List ℕ)
       → ((w : ℕ) → w < 256 → (bitOf (end .regs .y) w ≡ 1) ↔ P w) → end .regs .x ≡ x (end .regs .y)
       → Marks (length l) (takenBy l) P x lent (runOf (encoded l) (withItems items lent))
-  marks-logic supplied enough P x marks afterX =
+  marks-logic quiet logic few supplied enough P x marks afterX =
       subst (Marks (length l) (takenBy l) P x lent) (sym (ran-quiet l quiet few (withItems items lent) (memory .size) (registers .size) supplied enough))
       (record {
         done = refl;

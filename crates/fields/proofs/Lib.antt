@@ -6,3 +6,4 @@ pub mod Runs
 pub mod Kept
 pub mod Sums
 pub mod SumRuns
+pub mod SearchRuns
