@@ -68,7 +68,7 @@ testY : ℕ → (ℕ → ℕ) → ℕ → ℕ → ℕ → Bool
 testY t u y a b = eqb (y2 t y a b + 2 * y4 t 0 y a b) (a + u b + y)
 
 -- a test of three bits, at each of the eight cases
-at-bits : (f : ℕ → ℕ → ℕ → Bool) → T (all 2 (λ y. all 2 (λ a. all 2 (f y a)))) → (y a b : ℕ) → Bit y → Bit a → Bit b → T (f y a b)
+pub at-bits : (f : ℕ → ℕ → ℕ → Bool) → T (all 2 (λ y. all 2 (λ a. all 2 (f y a)))) → (y a b : ℕ) → Bit y → Bit a → Bit b → T (f y a b)
 at-bits f t y a b hy ha hb = all-at 2 (f y a) (all-at 2 (λ a. all 2 (f y a)) (all-at 2 (λ y. all 2 (λ a. all 2 (f y a))) t y (bit-lt hy)) a (bit-lt ha)) b (bit-lt hb)
 
 adds-of : (t : ℕ) (u : ℕ → ℕ) → T (all 2 (λ y. all 2 (λ a. all 2 (testX t y a)))) → T (all 2 (λ y. all 2 (λ a. all 2 (testY t u y a))))

@@ -2,10 +2,13 @@
 pub mod ListLaws
 pub mod PutLaws
 pub mod Refusals
+pub mod SearchRefusals
 pub mod TwoLaws
 pub mod Bounds
 pub mod Folds
 pub mod Takes
 pub mod Carries
+pub mod Marks
 pub mod Adder
+pub mod Comparing
 pub mod Examples

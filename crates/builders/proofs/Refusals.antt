@@ -26,7 +26,7 @@ fault-row lead a b s n have m u = (number-first (fieldRows lead a b s n have) m 
 
 -- ---- no number: the fields are sound and there is room
 
-or-false : (a b : Bool) → a ≡ false → b ≡ false → (a || b) ≡ false
+pub or-false : (a b : Bool) → a ≡ false → b ≡ false → (a || b) ≡ false
 or-false a b p q = ap₂ _||_ p q
 
 clear-of : (s a n : ℕ) → crosses s a n ≡ false → Clear s a n

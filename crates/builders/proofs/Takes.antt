@@ -2,7 +2,7 @@
 use mathlib.Core.Path.{_≡_, refl, sym, ap, subst, subst₂, _∙_}
 use mathlib.Core.Bool.{Bool, true, false, cond}
 use mathlib.Core.List.{List, [], _∷_, _++_}
-use Prim.Native.Nat.{ℕ, zero, suc, _+_, _<_, _≤_}
+use Prim.Native.Nat.{ℕ, zero, suc, _+_, _*_, _<_, _≤_}
 use native.Mathlib.Nat.{add-zero, zero-add}
 use native.Mathlib.Numerals.{add-one}
 use native.Mathlib.Omega.{arith}
@@ -18,6 +18,12 @@ pub taken-append : (l r : List Instruction) → takenBy (l ++ r) ≡ takenBy l +
 unfolding takenBy
 taken-append [] r = sym (zero-add (takenBy r))
 taken-append (i ∷ l) r = omega (arith, taken-append l r)
+
+-- every round takes m
+pub taken-rounds : (g : ℕ → List Instruction) (m n : ℕ) → ((k : ℕ) → takenBy (g k) ≡ m) → takenBy (rounds g n) ≡ m * n
+unfolding rounds takenBy
+taken-rounds g m zero h = omega arith
+taken-rounds g m (suc n) h = taken-append (rounds g n) (g n) ∙ omega (arith, taken-rounds g m n h, h n)
 
 -- of the first n instructions of a list's bytes
 pub taken-decoded : (list : List ℕ) (n : ℕ) → takenBy (decoded list n) ≡ count (λ j. takes (instructionAt list j)) n

@@ -3,5 +3,7 @@ pub mod LineLaws
 pub mod Whole
 pub mod ItemLaws
 pub mod Runs
+pub mod Kept
 pub mod Sums
 pub mod SumRuns
+pub mod SearchRuns

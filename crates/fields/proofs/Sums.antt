@@ -38,11 +38,11 @@ use Rattle.fields.proofs.Runs.{Plain, ran-plain}
 
 -- ---- the lists are plain
 
-local : (k s t g l : ℕ) → g < 256 → Local (record { kind = k; source = s; tag = t; mode = 0; addr = g; flip = 0; code = 0; logic = l })
+pub local : (k s t g l : ℕ) → g < 256 → Local (record { kind = k; source = s; tag = t; mode = 0; addr = g; flip = 0; code = 0; logic = l })
 local k s t g l h = record { mode0 = refl; flip0 = refl; code0 = refl; inside = h }
 
 module _ (t : ℕ) (choice : ltb 4 (t / 16) ≡ false) where
-  plain-from : Plain (logicFrom 2 t)
+  pub plain-from : Plain (logicFrom 2 t)
   unfolding fits wrongKind wrongSource lacksTag wrongTag idleAccess wrongPass wrongLogic
   plain-from =
       record {
@@ -52,7 +52,7 @@ module _ (t : ℕ) (choice : ltb 4 (t / 16) ≡ false) where
         formed = formed-by _ (ap (λ (p : Bool). not p || false || false) none-permitted) (ap (λ (c : Bool). c || false) choice) refl;
       }
 
-  plain-at : (g : ℕ) → g < 256 → Plain (logicAt g t)
+  pub plain-at : (g : ℕ) → g < 256 → Plain (logicAt g t)
   unfolding fits wrongKind wrongSource lacksTag wrongTag idleAccess wrongPass wrongLogic
   plain-at g h =
       record {

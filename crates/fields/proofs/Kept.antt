@@ -1,0 +1,83 @@
+-- Runs of lists that have logic instructions alone: the memory and M are as before, and what is marked is what Y says at the end. Assumes nothing.
+use mathlib.Core.Path.{_≡_, refl, sym, ap, subst, _∙_}
+use mathlib.Core.Bool.{false, cond}
+use mathlib.Core.List.{List, [], _∷_}
+use mathlib.Core.Logic.{_↔_}
+use Prim.Native.Nat.{ℕ, _*_, _<_, _≤_}
+use lib.Dec.{eqb}
+use lib.ListN.{length}
+use Rattle.bits.specs.Bits.{bitOf}
+use Rattle.memory.specs.Memory.{stored, every, maskOf}
+use Rattle.registers.specs.declared.Registers.{Registers}
+use Rattle.registers.specs.Logic.{logicOf}
+use Rattle.registers.specs.Rows.{registersOf, bytesOf, withM}
+use Rattle.registers.proofs.RowLaws.{registers-bytes}
+use Rattle.judge.specs.declared.Instruction.{Instruction}
+use Rattle.judge.specs.Judge.{unfit}
+use Rattle.module.specs.Act.{State, modeOf, passedBy, regsAfter, memAfter, acted}
+use Rattle.module.specs.Run.{Lent, begun}
+use Rattle.builders.specs.Lists.{encoded}
+use Rattle.builders.specs.Word.{folded, takenBy, Each, none, more}
+use Rattle.fields.specs.Value.{Bytes, runOf}
+use Rattle.fields.specs.Search.{withItems, Marks}
+use Rattle.fields.proofs.Whole.{Good, begun-good, registers-ok, folded-good}
+use Rattle.fields.proofs.Runs.{Quiet, ran-quiet}
+
+-- ---- what is kept
+
+memory-kept : (i : Instruction) (mode : ℕ) (mem m f : List ℕ) → i .kind ≡ 0 → memAfter i mode mem m f ≡ mem
+unfolding memAfter
+memory-kept i mode mem m f e =
+    ap (λ (k : ℕ). cond (eqb k 2) (stored mem mode (i .addr) every (bitOf f))
+    (cond (eqb k 3) (stored mem mode (i .addr) (maskOf m (i .flip)) (bitOf f)) mem)) e
+
+m-kept : (i : Instruction) (r : Registers) (f : List ℕ) → i .kind ≡ 0 → regsAfter i r f .m ≡ r .m
+unfolding regsAfter logicOf
+m-kept i r f e = ap (λ (k : ℕ). cond (eqb k 0) (logicOf r f (i .logic)) (cond (eqb k 1) (withM r f) r) .m) e
+
+-- every byte of the memory
+pub folded-keeps : (l : List Instruction) (items : List ℕ) (s : State) → Each (λ i. i .kind ≡ 0) l → folded (λ i. acted i items) l s .mem ≡ s .mem
+unfolding folded acted
+folded-keeps [] items s none = refl
+folded-keeps (i ∷ l) items s (more h e) =
+    folded-keeps l items (acted i items s) e
+    ∙ memory-kept i (modeOf i (s .regs)) (s .mem) (s .regs .m) (passedBy i (s .mem) items (s .regs) (s .taken)) h
+
+-- and M
+pub folded-keepsM : (l : List Instruction) (items : List ℕ) (s : State) → Each (λ i. i .kind ≡ 0) l → folded (λ i. acted i items) l s .regs .m ≡ s .regs .m
+unfolding folded acted
+folded-keepsM [] items s none = refl
+folded-keepsM (i ∷ l) items s (more h e) =
+    folded-keepsM l items (acted i items s) e ∙ m-kept i (s .regs) (passedBy i (s .mem) items (s .regs) (s .taken)) h
+
+-- ---- what a run leaves, by X and Y at its end
+
+module _ (l : List Instruction) (lent : Lent (List ℕ)) (memory : Bytes (lent .memory) 8192) (registers : Bytes (lent .registers) 96) (items : List ℕ) where
+  abbrev begin : State
+  begin = begun lent (registersOf (lent .registers))
+
+  abbrev end : State
+  end = folded (λ i. acted i items) l begin
+
+  pub end-good : Good end
+  end-good = folded-good l items begin (begun-good lent memory registers)
+
+  rows : registersOf (bytesOf (end .regs)) ≡ end .regs
+  rows = registers-bytes (end .regs) (end-good .m-ok .size) (end-good .x-ok .size) (end-good .y-ok .size)
+
+  -- with the items that it is lent in the place of the lender's
+  pub marks-logic : Each Quiet l → Each (λ i. i .kind ≡ 0) l → length l ≤ 4096 → unfit 32 (length items) ≡ false → 32 * takenBy l ≤ length items
+      → (P : ℕ → Type 0) (x : List ℕ → List ℕ)
+      → ((w : ℕ) → w < 256 → (bitOf (end .regs .y) w ≡ 1) ↔ P w) → end .regs .x ≡ x (end .regs .y)
+      → Marks (length l) (takenBy l) P x lent (runOf (encoded l) (withItems items lent))
+  marks-logic quiet logic few supplied enough P x marks afterX =
+      subst (Marks (length l) (takenBy l) P x lent) (sym (ran-quiet l quiet few (withItems items lent) (memory .size) (registers .size) supplied enough))
+      (record {
+        done = refl;
+        marks = λ w h. subst (λ (r : Registers). (bitOf (r .y) w ≡ 1) ↔ P w) (sym rows) (marks w h);
+        afterX = subst (λ (r : Registers). r .x ≡ x (r .y)) (sym rows) afterX;
+        keepsM = ap (λ (r : Registers). r .m) rows ∙ folded-keepsM l items begin logic;
+        keeps = folded-keeps l items begin logic;
+        quiet = refl;
+        registers = registers-ok end end-good;
+      })
