@@ -1,17 +1,19 @@
 -- Laws of lists of instructions and of items as bytes: their length, one behind the other, and what is read back. Assumes nothing.
 use mathlib.Core.Path.{_≡_, refl, sym, ap, ap₂, _∙_}
+use mathlib.Core.Bool.{Bool}
 use mathlib.Core.List.{List, [], _∷_, _++_, append-assoc}
-use Prim.Native.Nat.{ℕ, zero, suc, _+_, _*_, _<_}
+use Prim.Native.Nat.{ℕ, zero, suc, _+_, _-_, _*_, _<_}
 use native.Mathlib.Decide.{ℕ-discrete}
 use native.Mathlib.Omega.{arith}
 use lib.ListN.{length, length-append, getD, take, drop}
 use lib.Seq.{getD-append-add, take-at, drop-at}
-use Rattle.bits.specs.Bits.{byteOf, item}
+use Rattle.bits.specs.Bits.{digit, byteOf, item}
 use Rattle.bits.proofs.Items.{length-listed}
 use Rattle.judge.specs.declared.Instruction.{Instruction}
 use Rattle.judge.specs.Judge.{instructionAt}
 use Rattle.builders.specs.Lists.{instruction, bytesOf, encoded, rounds, decoded, itemsOf}
 use Rattle.builders.specs.Sums.{bitRound, bitRounds, sumByte, differenceByte, sumList, differenceList, listLength}
+use Rattle.builders.specs.Searches.{moveX, searchRound, searchRounds, searchList, numberItems, greatestRound, greatestRounds, greatestList, searchLength, itemsLength, greatestLength}
 
 pub length-encoded : (l : List Instruction) → length (encoded l) ≡ 8 * length l
 unfolding encoded
@@ -70,10 +72,30 @@ sum-length a b s n = length-encoded (sumList a b s n) ∙ omega (arith, length-b
 pub difference-length : (a b s n : ℕ) → length (encoded (differenceList a b s n)) ≡ listLength 2 n
 difference-length a b s n = length-encoded (differenceList a b s n) ∙ omega (arith, length-bits differenceByte a b s n)
 
+-- 8(2+3n) bytes for equal and for less
+length-search : (less : Bool) (a n : ℕ) → length (searchRounds less a n) ≡ 3 * n
+length-search less a n = length-rounds (λ k. searchRound less (a + k)) 3 n (λ k. refl)
+
+pub search-length : (less : Bool) (a n : ℕ) → length (encoded (searchList less a n)) ≡ searchLength n
+search-length less a n =
+    length-encoded (searchList less a n)
+    ∙ omega (arith, length-append (searchRounds less a n) (moveX ∷ []), length-search less a n)
+
+-- and 8(1+11n) for greatest
+length-greatest : (a n m : ℕ) → length (greatestRounds a n m) ≡ 11 * m
+unfolding rounds
+length-greatest a n m = length-rounds (λ k. greatestRound (a + (n - suc k))) 11 m (λ k. refl)
+
+pub greatest-length : (a n : ℕ) → length (encoded (greatestList a n)) ≡ greatestLength n
+greatest-length a n = length-encoded (greatestList a n) ∙ omega (arith, length-greatest a n n)
+
 -- ---- items
 
 pub length-items : (g : ℕ → ℕ → ℕ) (n : ℕ) → length (itemsOf g n) ≡ 32 * n
 length-items g n = length-rounds (λ k. item (g k)) 32 n (λ k. length-listed (byteOf (g k)) 32)
+
+pub number-length : (number n : ℕ) → length (numberItems number n) ≡ itemsLength n
+number-length number n = length-items (λ k p. digit number k) n
 
 -- item k is read back, whatever stands behind the items
 pub items-at : (g : ℕ → ℕ → ℕ) (n k : ℕ) (r : List ℕ) → k < n → take 32 (drop (32 * k) (itemsOf g n ++ r)) ≡ item (g k)

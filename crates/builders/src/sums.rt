@@ -1,9 +1,9 @@
 // The lists that add two fields and that take one off another. Document 01, Sum and difference lists.
-use bits::choices::number_or;
 use crate::Built;
 use crate::field::beyond;
 use crate::field::wrong_width;
 use crate::sum_rounds;
+use bits::choices::number_or;
 ghost use mathlib.Core.Path.{_≡_};
 ghost use Prim.Native.Nat.{_<_};
 ghost use Rattle.builders.specs.Sums.{crosses, listLength, fieldsFault, sumBuilt, differenceBuilt};
