@@ -1,22 +1,17 @@
--- What a builder's numbers say: the table of refusals both ways, the fields that have none, and what is left in each case. Assumes nothing.
-use mathlib.Core.Path.{_≡_, refl, sym, ap, ap₂, subst, _∙_}
-use mathlib.Core.Bool.{Bool, true, false, cond, not, _&&_, _||_, true≢false}
+-- The table of refusals of a sum and a difference, both ways: the number of the first row that holds, and the fields that have none. Assumes nothing.
+use mathlib.Core.Path.{_≡_, refl, sym, ap, ap₂, _∙_}
+use mathlib.Core.Bool.{Bool, true, false, not, _&&_, _||_, true≢false}
 use mathlib.Core.Logic.{inl, inr, _↔_}
-use mathlib.Core.List.{List, _++_}
 use Prim.Native.Nat.{ℕ, _+_, _<_, _≤_}
 use native.Mathlib.Decide.{decLe, ℕ-discrete}
 use native.Mathlib.Omega.{arith}
 use lib.Dec.{eqb, ltb}
-use lib.ListN.{length, drop}
-use borrow.Author.Tests.{eqb-true, eq-eqb, ne-eqb, ltb-false, lt-ltb, le-ltb}
-use Rattle.bits.specs.Steps.{putAt}
-use Rattle.bits.proofs.Puts.{put-front}
+use borrow.Author.Tests.{eq-eqb, ne-eqb, ltb-false, lt-ltb, le-ltb}
 use Rattle.bits.specs.Rows.{FirstRow}
 use Rattle.bits.proofs.Rows.{none-number, number-none, first-number, number-first, row-off}
 use Rattle.judge.proofs.RowLaws.{or-none}
 use Rattle.builders.specs.Field.{beyond}
 use Rattle.builders.specs.Sums.{crosses, Clear, Fields, listLength, fieldRows, fieldsFault}
-use Rattle.builders.specs.Building.{BuiltLeft, builtWith}
 
 -- ---- the table: number n is given exactly if row n is the first that holds
 
@@ -93,55 +88,3 @@ module _ (lead a b s n have : ℕ) where
           ),
         ),
       )
-
--- ---- what is left: by the number, for a list of so many leading instructions
-
--- the number is that of the fields
-pub built-number : (fault : ℕ) (bytes buffer : List ℕ) → builtWith fault bytes buffer .answer .number ≡ fault
-built-number fault bytes buffer = go (eqb fault 0) refl
-  where
-    go : (t : Bool) → eqb fault 0 ≡ t
-        → cond {A = BuiltLeft} t (record { answer = record { number = 0; count = length bytes }; list = bytes ++ drop (length bytes) buffer })
-        (record { answer = record { number = fault; count = 0 }; list = buffer }) .answer .number ≡ fault
-    go true e = sym (eqb-true fault 0 e)
-    go false e = refl
-
-module _ (lead a b s n : ℕ) (bytes buffer : List ℕ) (number : ℕ) (e : number ≡ fieldsFault lead a b s n (length buffer)) where
-  pub built-refused : (number ≡ 0 → ⊥)
-      → _≡_ {A = BuiltLeft} (record { answer = record { number = number; count = 0 }; list = buffer }) (builtWith (fieldsFault lead a b s n (length buffer)) bytes buffer)
-  built-refused h =
-      ap (λ (x : ℕ). record { answer = record { number = x; count = 0 }; list = buffer }) e
-      ∙ sym (simp (ne-eqb (fieldsFault lead a b s n (length buffer)) 0 (λ z. h (e ∙ z))))
-
-  pub built-done : (count : ℕ) (l : List ℕ) → number ≡ 0 → length bytes ≡ listLength lead n → count ≡ listLength lead n → l ≡ putAt 0 bytes buffer
-      → _≡_ {A = BuiltLeft} (record { answer = record { number = 0; count = count }; list = l }) (builtWith (fieldsFault lead a b s n (length buffer)) bytes buffer)
-  built-done count l z h c p =
-      ap₂ (λ (x : ℕ) (y : List ℕ). record { answer = record { number = 0; count = x }; list = y }) (c ∙ sym h) (p ∙ put-front bytes buffer)
-      ∙ sym (simp (eq-eqb (fieldsFault lead a b s n (length buffer)) 0 (sym e ∙ z)))
-
--- ---- a builder's answer, both ways
-
-module _ (lead a b s n : ℕ) (bytes buffer : List ℕ) where
-  abbrev fault : ℕ
-  fault = fieldsFault lead a b s n (length buffer)
-
-  pub built-row : (m : ℕ) → (m ≡ 0 → ⊥) → (builtWith fault bytes buffer .answer .number ≡ m) ↔ FirstRow (fieldRows lead a b s n (length buffer)) m
-  built-row m u =
-      subst (λ (x : ℕ). (x ≡ m) ↔ FirstRow (fieldRows lead a b s n (length buffer)) m) (sym (built-number fault bytes buffer))
-      (fault-row lead a b s n (length buffer) m u)
-
-  pub built-0 : (builtWith fault bytes buffer .answer .number ≡ 0) ↔ Fields a b s n × (listLength lead n ≤ length buffer)
-  built-0 = (
-    sound lead a b s n (length buffer) _ (built-number fault bytes buffer),
-    λ r. built-number fault bytes buffer ∙ no-fault lead a b s n (length buffer) (r .0) (r .1),
-  )
-
-  pub built-count : builtWith fault bytes buffer .answer .number ≡ 0 → builtWith fault bytes buffer .answer .count ≡ length bytes
-  built-count z =
-      let e = sym (built-number fault bytes buffer) ∙ z in
-      simp (eq-eqb fault 0 e)
-
-  -- refused: the buffer as it was, and the count 0
-  pub built-unwritten : (builtWith fault bytes buffer .answer .number ≡ 0 → ⊥)
-      → builtWith fault bytes buffer ≡ record { answer = record { number = fault; count = 0 }; list = buffer }
-  built-unwritten u = sym (built-refused lead a b s n bytes buffer fault refl (λ z. u (built-number fault bytes buffer ∙ z)))

@@ -1,11 +1,11 @@
 -- Demand 1 of specs/DemandOne.antt: its tables from the crates' laws, and its fields from the promises. Assumes nothing.
-use mathlib.Core.Path.{_≡_, refl, sym, ap, subst, _∙_}
+use mathlib.Core.Path.{_≡_, refl, sym, ap, subst, subst₂, _∙_}
 use mathlib.Core.Bool.{Bool, true}
 use mathlib.Core.List.{List, [], _∷_}
-use mathlib.Core.Logic.{_≢_}
+use mathlib.Core.Logic.{_↔_, _≢_}
 use Prim.Native.Nat.{ℕ}
 use lib.ListN.{length, drop}
-use Rattle.bits.specs.Rows.{Row}
+use Rattle.bits.specs.Rows.{Row, FirstRow}
 use Rattle.bits.proofs.Rows.{numbered}
 use Rattle.network.specs.declared.Passed.{Passed}
 use Rattle.network.specs.Answer.{passedItem, answer}
@@ -19,11 +19,14 @@ use Rattle.module.specs.Run.{Lent, Left, unmoved, runLengths, stepLengths, ran,
 use Rattle.module.proofs.RunLaws.{ran-answer, ran-refused}
 use Rattle.module.proofs.StepLaws.{stepped-answer, stepped-refused, step-is-run, step-not-eight}
 use Rattle.builders.specs.declared.Built.{Built}
+use Rattle.builders.specs.declared.BuiltTwo.{BuiltTwo}
 use Rattle.builders.specs.Lists.{encoded}
-use Rattle.builders.specs.Sums.{sumList, differenceList, listLength, fieldsFault, sumBuilt, differenceBuilt}
-use Rattle.builders.specs.Building.{BuiltLeft as Buffer, builtWith}
+use Rattle.builders.specs.Sums.{sumList, differenceList, listLength, fieldRows, fieldsFault, sumBuilt, differenceBuilt}
+use Rattle.builders.specs.Building.{BuiltLeft as Buffer, builtWith, BuiltTwoLeft as Buffers, builtTwo}
 use Rattle.builders.proofs.ListLaws.{sum-length, difference-length}
-use Rattle.builders.proofs.Refusals.{built-row, built-0, built-count, built-unwritten}
+use Rattle.builders.proofs.OneLaws.{one-number, one-count, one-unwritten}
+use Rattle.builders.proofs.TwoLaws.{two-number, two-counts, two-unwritten}
+use Rattle.builders.proofs.Refusals.{fault-row, sound, no-fault}
 use Rattle.contents.specs.declared.Moved.{Moved}
 use Rattle.contents.specs.File.{contentOf, blocksOf}
 use Rattle.contents.specs.Content.{readAnswer, writeAnswer, changed, over, targetFits, contentFits, ContentLeft, contentRead, contentWritten}
@@ -33,7 +36,7 @@ use Rattle.pictures.specs.Picture.{pictureOf, scrambled, pictureFits, pictureRe
 use Rattle.pictures.proofs.PictureLaws.{both-parts}
 use Rattle.library.specs.Left.{five, three, runLeft, stepLeft, PassLeft, passLeft, BufferLeft, sumLeft, differenceLeft, readLeft, writeLeft, writePictureLeft, TargetsLeft, readPictureLeft}
 use Rattle.promises.specs.Clauses.{Run, Step, SumList, DifferenceList, ReadContent, WriteContent, ReadPicture, WritePicture, LibraryRun, LibraryStep, LibraryPass, LibraryBuffer, LibraryReadPicture}
-use Rattle.promises.specs.DemandOne.{AnswerTable, PassTable, ListTable, ReadTable, WriteTable, Kept, AllKept, DemandOne}
+use Rattle.promises.specs.DemandOne.{AnswerTable, PassTable, ListTable, TwoTable, FieldsTable, ReadTable, WriteTable, Kept, AllKept, DemandOne}
 
 -- ---- the tables, from the laws
 
@@ -55,15 +58,30 @@ answer-table rows l list apart =
       refused-is = numbers.refusal-counts rows l list apart;
     }
 
-list-table : (lead a b s n : ℕ) (bytes buffer : List ℕ) → length bytes ≡ listLength lead n
-    → ListTable lead a b s n (length buffer) (builtWith (fieldsFault lead a b s n (length buffer)) bytes buffer .answer)
-list-table lead a b s n bytes buffer size =
-    record {
-      refused = built-row lead a b s n bytes buffer;
-      row-0 = built-0 lead a b s n bytes buffer;
-      done-is = λ z. built-count lead a b s n bytes buffer z ∙ size;
-      refused-is = λ u. ap (λ (l : Buffer). l .answer .count) (built-unwritten lead a b s n bytes buffer u);
-    }
+-- the table of a builder: `fault` is the number that its rows give, and where it is 0 the request is good
+module _ (rows : List Row) (Good : Type 0) (fault : ℕ) (first : (m : ℕ) → m ≢ 0 → (fault ≡ m) ↔ FirstRow rows m) (good : (fault ≡ 0) ↔ Good) where
+  list-table : (bytes list : List ℕ) → ListTable rows Good (length bytes) (builtWith fault bytes list .answer)
+  list-table bytes list =
+      let e = sym (one-number fault bytes list) in
+      record {
+        refused = λ m u. subst (λ (x : ℕ). (x ≡ m) ↔ FirstRow rows m) e (first m u);
+        row-0 = subst (λ (x : ℕ). (x ≡ 0) ↔ Good) e good;
+        done-is = one-count fault bytes list;
+        refused-is = λ u. ap (λ (l : Buffer). l .answer .count) (one-unwritten fault bytes list u);
+      }
+
+  two-table : (bytes itemBytes list items : List ℕ)
+      → TwoTable rows Good (length bytes) (length itemBytes) (builtTwo fault bytes itemBytes list items .answer)
+  two-table bytes itemBytes list items =
+      let e = sym (two-number fault bytes itemBytes list items) in
+      record {
+        refused = λ m u. subst (λ (x : ℕ). (x ≡ m) ↔ FirstRow rows m) e (first m u);
+        row-0 = subst (λ (x : ℕ). (x ≡ 0) ↔ Good) e good;
+        done-is = two-counts fault bytes itemBytes list items;
+        refused-is = λ u.
+            let w = two-unwritten fault bytes itemBytes list items u in
+            (ap (λ (l : Buffers). l .answer .list) w, ap (λ (l : Buffers). l .answer .items) w);
+      }
 
 read-table : (kind : ℕ) (bytes : List ℕ) (fits : Bool) → ReadTable kind bytes fits (readAnswer kind bytes fits)
 read-table kind bytes fits =
@@ -112,23 +130,52 @@ step-meets l u h =
       all-kept l u (λ n. h ∙ sym (stepped-refused l (u .answer) e n)),
     )
 
-built : (lead a b s n : ℕ) (bytes list list′ : List ℕ) (r : Built) → length bytes ≡ listLength lead n
-    → _≡_ {A = Buffer} (record { answer = r; list = list′ }) (builtWith (fieldsFault lead a b s n (length list)) bytes list)
-    → ListTable lead a b s n (length list) r × Kept (r .number) list list′
-built lead a b s n bytes list list′ r size h =
-    let e = ap (λ (l : Buffer). l .answer) h in (
-      subst (ListTable lead a b s n (length list)) (sym e) (list-table lead a b s n bytes list size),
-      λ u. ap (λ (l : Buffer). l .list) (h ∙ built-unwritten lead a b s n bytes list (λ z. u (ap (λ (x : Built). x .number) e ∙ z))),
+-- what a builder leaves, where its bytes have the size that is told
+module _ (rows : List Row) (Good : Type 0) (fault : ℕ) (first : (m : ℕ) → m ≢ 0 → (fault ≡ m) ↔ FirstRow rows m) (good : (fault ≡ 0) ↔ Good) where
+  built : (bytes list list′ : List ℕ) (r : Built) → _≡_ {A = Buffer} (record { answer = r; list = list′ }) (builtWith fault bytes list)
+      → (size : ℕ) → length bytes ≡ size
+      → ListTable rows Good size r × Kept (r .number) list list′
+  built bytes list list′ r h size l =
+      let e = ap (λ (x : Buffer). x .answer) h in (
+        subst₂ (ListTable rows Good) l (sym e) (list-table rows Good fault first good bytes list),
+        λ u. ap (λ (x : Buffer). x .list) (h ∙ one-unwritten fault bytes list (λ z. u (ap (λ (x : Built). x .number) e ∙ z))),
+      )
+
+  module _ (bytes itemBytes list items list′ items′ : List ℕ) (r : BuiltTwo)
+      (h : _≡_ {A = Buffers} (record { answer = r; list = list′; items = items′ }) (builtTwo fault bytes itemBytes list items)) where
+    told : r ≡ builtTwo fault bytes itemBytes list items .answer
+    told = ap (λ (x : Buffers). x .answer) h
+
+    kept-two : (part : Buffers → List ℕ) → r .number ≢ 0
+        → part (record { answer = r; list = list′; items = items′ })
+        ≡ part (record { answer = record { number = fault; list = 0; items = 0 }; list = list; items = items })
+    kept-two part u = ap part (h ∙ two-unwritten fault bytes itemBytes list items (λ z. u (ap (λ (x : BuiltTwo). x .number) told ∙ z)))
+
+    built-two : (size itemsSize : ℕ) → length bytes ≡ size → length itemBytes ≡ itemsSize
+        → TwoTable rows Good size itemsSize r × Kept (r .number) list list′ × Kept (r .number) items items′
+    built-two size itemsSize l i = (
+      subst₂ (λ (n k : ℕ). TwoTable rows Good n k r) l i
+          (subst (TwoTable rows Good (length bytes) (length itemBytes)) (sym told) (two-table rows Good fault first good bytes itemBytes list items)),
+      kept-two (λ x. x .list),
+      kept-two (λ x. x .items),
     )
 
 module _ (a b s n : ℕ) (list list′ : List ℕ) (r : Built) where
-  sum-meets : SumList a b s n list list′ r → ListTable 1 a b s n (length list) r × Kept (r .number) list list′
-  unfolding sumBuilt
-  sum-meets h = built 1 a b s n (encoded (sumList a b s n)) list list′ r (sum-length a b s n) h
+  -- with `lead` instructions before the first bit's
+  fields-meet : (lead : ℕ) (bytes : List ℕ) → length bytes ≡ listLength lead n
+      → _≡_ {A = Buffer} (record { answer = r; list = list′ }) (builtWith (fieldsFault lead a b s n (length list)) bytes list)
+      → FieldsTable lead a b s n (length list) r × Kept (r .number) list list′
+  fields-meet lead bytes l h =
+      built (fieldRows lead a b s n (length list)) _ (fieldsFault lead a b s n (length list)) (fault-row lead a b s n (length list))
+      (sound lead a b s n (length list) _ refl, λ g. no-fault lead a b s n (length list) (g .0) (g .1)) bytes list list′ r h (listLength lead n) l
 
-  difference-meets : DifferenceList a b s n list list′ r → ListTable 2 a b s n (length list) r × Kept (r .number) list list′
+  sum-meets : SumList a b s n list list′ r → FieldsTable 1 a b s n (length list) r × Kept (r .number) list list′
+  unfolding sumBuilt
+  sum-meets h = fields-meet 1 (encoded (sumList a b s n)) (sum-length a b s n) h
+
+  difference-meets : DifferenceList a b s n list list′ r → FieldsTable 2 a b s n (length list) r × Kept (r .number) list list′
   unfolding differenceBuilt
-  difference-meets h = built 2 a b s n (encoded (differenceList a b s n)) list list′ r (difference-length a b s n) h
+  difference-meets h = fields-meet 2 (encoded (differenceList a b s n)) (difference-length a b s n) h
 
 -- what an entry leaves that reads, or writes, where its answer is one of the table
 module _ (r a : Moved) (new old after : List ℕ) where
@@ -200,7 +247,7 @@ library-step l u h =
 
 module _ (a b s n : ℕ) (list list′ answer′ : List ℕ) where
   library-sum : LibraryBuffer (sumLeft a b s n list) list′ answer′
-      → (r : Built) × (answer′ ≡ r .number ∷ r .count ∷ []) × ListTable 1 a b s n (length list) r × Kept (r .number) list list′
+      → (r : Built) × (answer′ ≡ r .number ∷ r .count ∷ []) × FieldsTable 1 a b s n (length list) r × Kept (r .number) list list′
   unfolding sumLeft
   library-sum h =
       let r = sumBuilt a b s n list .answer in
@@ -208,7 +255,7 @@ module _ (a b s n : ℕ) (list list′ answer′ : List ℕ) where
       (r, ap (λ (l : BufferLeft). l .answer) h, m .0, m .1)
 
   library-difference : LibraryBuffer (differenceLeft a b s n list) list′ answer′
-      → (r : Built) × (answer′ ≡ r .number ∷ r .count ∷ []) × ListTable 2 a b s n (length list) r × Kept (r .number) list list′
+      → (r : Built) × (answer′ ≡ r .number ∷ r .count ∷ []) × FieldsTable 2 a b s n (length list) r × Kept (r .number) list list′
   unfolding differenceLeft
   library-difference h =
       let r = differenceBuilt a b s n list .answer in

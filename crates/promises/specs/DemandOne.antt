@@ -18,6 +18,7 @@ use Rattle.judge.specs.Judge.{runRows, stepRows, refusal, done, judged, judgedS
 use Rattle.judge.specs.Numbers.{Gives, Refused, Unrefused}
 use Rattle.module.specs.Run.{Lent, Left, unmoved, runLengths, stepLengths, lentBytes, leftBytes}
 use Rattle.builders.specs.declared.Built.{Built}
+use Rattle.builders.specs.declared.BuiltTwo.{BuiltTwo}
 use Rattle.builders.specs.Sums.{Fields, listLength, fieldRows}
 use Rattle.blocks.specs.Block.{blockBytes}
 use Rattle.contents.specs.declared.Moved.{Moved}
@@ -47,13 +48,25 @@ pub record AnswerTable (rows : List Row) (l : Lengths) (list : List ℕ) (a : An
   -- "A refusal has the last three 0"
   pub refused-is : a .number ≢ 0 → a ≡ refusal (a .number) (a .place)
 
--- ---- Sum and difference lists: `lead` is 1 or 2, `have` the length of the list buffer. "In that order; nothing is written and the count is 0. Else .. their count is given"
-pub record ListTable (lead a b s n have : ℕ) (r : Built) : Type 0 where
-  -- "30 width not 1..64; 31 a start plus n over 256; 32 S overlaps A or B without having its start; 33 list buffer under 8(1+5n) or, for a difference, 8(2+5n) bytes"
-  pub refused : (m : ℕ) → m ≢ 0 → (r .number ≡ m) ↔ FirstRow (fieldRows lead a b s n have) m
-  pub row-0 : (r .number ≡ 0) ↔ Fields a b s n × (listLength lead n ≤ have)
-  pub done-is : r .number ≡ 0 → r .count ≡ listLength lead n
+-- ---- Builders of lists: "In that order; nothing is written and the count is 0. Else .. their count is given"
+
+-- `rows` are the table of a builder's numbers, `Good` says of a request that none of them refuses it, and `size` is the count of the list's bytes.
+pub record ListTable (rows : List Row) (Good : Type 0) (size : ℕ) (r : Built) : Type 0 where
+  pub refused : (m : ℕ) → m ≢ 0 → (r .number ≡ m) ↔ FirstRow rows m
+  pub row-0 : (r .number ≡ 0) ↔ Good
+  pub done-is : r .number ≡ 0 → r .count ≡ size
   pub refused-is : r .number ≢ 0 → r .count ≡ 0
+
+-- The same of a builder of a list with its items, which gives two counts.
+pub record TwoTable (rows : List Row) (Good : Type 0) (size itemsSize : ℕ) (r : BuiltTwo) : Type 0 where
+  pub refused : (m : ℕ) → m ≢ 0 → (r .number ≡ m) ↔ FirstRow rows m
+  pub row-0 : (r .number ≡ 0) ↔ Good
+  pub done-is : r .number ≡ 0 → (r .list ≡ size) × (r .items ≡ itemsSize)
+  pub refused-is : r .number ≢ 0 → (r .list ≡ 0) × (r .items ≡ 0)
+
+-- Sum and difference lists: `lead` is 1 or 2, `have` the length of the list buffer. "30 width not 1..64; 31 a start plus n over 256; 32 S overlaps A or B without having its start; 33 list buffer under 8(1+5n) or, for a difference, 8(2+5n) bytes"
+abbrev pub FieldsTable : (lead a b s n have : ℕ) → Built → Type 0
+FieldsTable lead a b s n have = ListTable (fieldRows lead a b s n have) (Fields a b s n × (listLength lead n ≤ have)) (listLength lead n)
 
 -- ---- Blocks on disk: "Place is the block for 21 to 24, else 0"
 
@@ -103,9 +116,9 @@ pub record DemandOne : Type 0 where
       → Step l u → u ≡ unmoved l (refusal 3 0)
   -- `sum_list` and `difference_list`
   pub sumList : (a b s n : ℕ) (list list′ : List ℕ) (r : Built) → SumList a b s n list list′ r
-      → ListTable 1 a b s n (length list) r × Kept (r .number) list list′
+      → FieldsTable 1 a b s n (length list) r × Kept (r .number) list list′
   pub differenceList : (a b s n : ℕ) (list list′ : List ℕ) (r : Built) → DifferenceList a b s n list list′ r
-      → ListTable 2 a b s n (length list) r × Kept (r .number) list list′
+      → FieldsTable 2 a b s n (length list) r × Kept (r .number) list list′
   -- `read_content`, of a list or items
   pub readContent : (kind : ℕ) (bytes target target′ : List ℕ) (r : Moved)
       → ReadContent kind bytes target target′ r
@@ -136,9 +149,9 @@ pub record DemandOne : Type 0 where
       → (a : Answer) × (u .answer ≡ five a) × AnswerTable (stepRows (stepLengths l) (l .list)) (stepLengths l) (l .list) a × AllKept (a .number) l u
   -- `staran_sum_list` and `staran_difference_list`
   pub librarySumList : (a b s n : ℕ) (list list′ answer′ : List ℕ) → LibraryBuffer (sumLeft a b s n list) list′ answer′
-      → (r : Built) × (answer′ ≡ r .number ∷ r .count ∷ []) × ListTable 1 a b s n (length list) r × Kept (r .number) list list′
+      → (r : Built) × (answer′ ≡ r .number ∷ r .count ∷ []) × FieldsTable 1 a b s n (length list) r × Kept (r .number) list list′
   pub libraryDifferenceList : (a b s n : ℕ) (list list′ answer′ : List ℕ) → LibraryBuffer (differenceLeft a b s n list) list′ answer′
-      → (r : Built) × (answer′ ≡ r .number ∷ r .count ∷ []) × ListTable 2 a b s n (length list) r × Kept (r .number) list list′
+      → (r : Built) × (answer′ ≡ r .number ∷ r .count ∷ []) × FieldsTable 2 a b s n (length list) r × Kept (r .number) list list′
   -- `staran_read_content`
   pub libraryReadContent : (kind : ℕ) (bytes target target′ answer′ : List ℕ) → LibraryBuffer (readLeft kind bytes target) target′ answer′
       → (r : Moved) × (answer′ ≡ three r) × ReadTable kind bytes (targetFits kind bytes target) r × Kept (r .number) target target′
