@@ -1,6 +1,6 @@
 -- Demand 1 of specs/DemandOne.antt: its tables from the crates' laws, and its fields from the promises. Assumes nothing.
 use mathlib.Core.Path.{_≡_, refl, sym, ap, subst, subst₂, _∙_}
-use mathlib.Core.Bool.{Bool, true}
+use mathlib.Core.Bool.{Bool, true, false}
 use mathlib.Core.List.{List, [], _∷_}
 use mathlib.Core.Logic.{_↔_, _≢_}
 use Prim.Native.Nat.{ℕ}
@@ -22,11 +22,13 @@ use Rattle.builders.specs.declared.Built.{Built}
 use Rattle.builders.specs.declared.BuiltTwo.{BuiltTwo}
 use Rattle.builders.specs.Lists.{encoded}
 use Rattle.builders.specs.Sums.{sumList, differenceList, listLength, fieldRows, fieldsFault, sumBuilt, differenceBuilt}
+use Rattle.builders.specs.Searches.{searchList, numberItems, greatestList, searchLength, itemsLength, greatestLength, searchRows, greatestRows, searchFault, greatestFault, searchBuilt, greatestBuilt}
 use Rattle.builders.specs.Building.{BuiltLeft as Buffer, builtWith, BuiltTwoLeft as Buffers, builtTwo}
-use Rattle.builders.proofs.ListLaws.{sum-length, difference-length}
+use Rattle.builders.proofs.ListLaws.{sum-length, difference-length, search-length, number-length, greatest-length}
 use Rattle.builders.proofs.OneLaws.{one-number, one-count, one-unwritten}
 use Rattle.builders.proofs.TwoLaws.{two-number, two-counts, two-unwritten}
 use Rattle.builders.proofs.Refusals.{fault-row, sound, no-fault}
+use Rattle.builders.proofs.SearchRefusals.{search-row, search-sound, search-no-fault, greatest-row, greatest-sound, greatest-no-fault}
 use Rattle.contents.specs.declared.Moved.{Moved}
 use Rattle.contents.specs.File.{contentOf, blocksOf}
 use Rattle.contents.specs.Content.{readAnswer, writeAnswer, changed, over, targetFits, contentFits, ContentLeft, contentRead, contentWritten}
@@ -34,9 +36,9 @@ use Rattle.contents.proofs.AnswerLaws.{changed-not, left-parts}
 use Rattle.contents.proofs.Numbers as blocks
 use Rattle.pictures.specs.Picture.{pictureOf, scrambled, pictureFits, pictureRead, pictureWritten}
 use Rattle.pictures.proofs.PictureLaws.{both-parts}
-use Rattle.library.specs.Left.{five, three, runLeft, stepLeft, PassLeft, passLeft, BufferLeft, sumLeft, differenceLeft, readLeft, writeLeft, writePictureLeft, TargetsLeft, readPictureLeft}
-use Rattle.promises.specs.Clauses.{Run, Step, SumList, DifferenceList, ReadContent, WriteContent, ReadPicture, WritePicture, LibraryRun, LibraryStep, LibraryPass, LibraryBuffer, LibraryReadPicture}
-use Rattle.promises.specs.DemandOne.{AnswerTable, PassTable, ListTable, TwoTable, FieldsTable, ReadTable, WriteTable, Kept, AllKept, DemandOne}
+use Rattle.library.specs.Left.{five, three, runLeft, stepLeft, PassLeft, passLeft, BufferLeft, sumLeft, differenceLeft, TwoLeft, twoLeft, equalLeft, lessLeft, greatestLeft, readLeft, writeLeft, writePictureLeft, TargetsLeft, readPictureLeft}
+use Rattle.promises.specs.Clauses.{Run, Step, SumList, DifferenceList, GreatestList, ReadContent, WriteContent, ReadPicture, WritePicture, LibraryRun, LibraryStep, LibraryPass, LibraryBuffer, LibraryTwo, LibraryReadPicture}
+use Rattle.promises.specs.DemandOne.{AnswerTable, PassTable, ListTable, TwoTable, FieldsTable, SearchTable, GreatestTable, ReadTable, WriteTable, Kept, AllKept, DemandOne}
 
 -- ---- the tables, from the laws
 
@@ -177,6 +179,26 @@ module _ (a b s n : ℕ) (list list′ : List ℕ) (r : Built) where
   unfolding differenceBuilt
   difference-meets h = fields-meet 2 (encoded (differenceList a b s n)) (difference-length a b s n) h
 
+-- a search for less, or else for equal
+search-meets : (less : Bool) (start n number : ℕ) (list items list′ items′ : List ℕ) (r : BuiltTwo)
+    → _≡_ {A = Buffers} (record { answer = r; list = list′; items = items′ }) (searchBuilt less start n number list items)
+    → SearchTable start n number (length list) (length items) r × Kept (r .number) list list′ × Kept (r .number) items items′
+unfolding searchBuilt
+search-meets less start n number list items list′ items′ r h =
+    let fault = searchFault start n number (length list) (length items) in
+    built-two (searchRows start n number (length list) (length items)) _ fault (search-row start n number (length list) (length items))
+    (search-sound start n number (length list) (length items) _ refl, λ g. search-no-fault start n number (length list) (length items) (g .0) (g .1) (g .2) (g .3))
+    (encoded (searchList less start n)) (numberItems number n) list items list′ items′ r h
+    (searchLength n) (itemsLength n) (search-length less start n) (number-length number n)
+
+greatest-meets : (start n : ℕ) (list list′ : List ℕ) (r : Built) → GreatestList start n list list′ r
+    → GreatestTable start n (length list) r × Kept (r .number) list list′
+unfolding greatestBuilt
+greatest-meets start n list list′ r h =
+    built (greatestRows start n (length list)) _ (greatestFault start n (length list)) (greatest-row start n (length list))
+    (greatest-sound start n (length list) _ refl, λ g. greatest-no-fault start n (length list) (g .0) (g .1))
+    (encoded (greatestList start n)) list list′ r h (greatestLength n) (greatest-length start n)
+
 -- what an entry leaves that reads, or writes, where its answer is one of the table
 module _ (r a : Moved) (new old after : List ℕ) where
   moved : (Table : Moved → Type 0) → Table a → _≡_ {A = ContentLeft} (record { answer = r; buffer = after }) (record { answer = a; buffer = changed a new old })
@@ -262,6 +284,24 @@ module _ (a b s n : ℕ) (list list′ answer′ : List ℕ) where
       let m = difference-meets a b s n list list′ r (λ t. record { answer = r; list = h t .buffer }) in
       (r, ap (λ (l : BufferLeft). l .answer) h, m .0, m .1)
 
+-- what a search leaves, with the three numbers of its answer
+library-search : (less : Bool) (start n number : ℕ) (list items list′ items′ answer′ : List ℕ)
+    → LibraryTwo (twoLeft (searchBuilt less start n number list items)) list′ items′ answer′
+    → (r : BuiltTwo) × (answer′ ≡ r .number ∷ r .list ∷ r .items ∷ []) × SearchTable start n number (length list) (length items) r
+    × Kept (r .number) list list′ × Kept (r .number) items items′
+library-search less start n number list items list′ items′ answer′ h =
+    let r = searchBuilt less start n number list items .answer in
+    let m = search-meets less start n number list items list′ items′ r (λ t. record { answer = r; list = h t .list; items = h t .items }) in
+    (r, ap (λ (l : TwoLeft). l .answer) h, m .0, m .1, m .2)
+
+library-greatest : (start n : ℕ) (list list′ answer′ : List ℕ) → LibraryBuffer (greatestLeft start n list) list′ answer′
+    → (r : Built) × (answer′ ≡ r .number ∷ r .count ∷ []) × GreatestTable start n (length list) r × Kept (r .number) list list′
+unfolding greatestLeft
+library-greatest start n list list′ answer′ h =
+    let r = greatestBuilt start n list .answer in
+    let m = greatest-meets start n list list′ r (λ t. record { answer = r; list = h t .buffer }) in
+    (r, ap (λ (l : BufferLeft). l .answer) h, m .0, m .1)
+
 library-read : (kind : ℕ) (bytes target target′ answer′ : List ℕ) → LibraryBuffer (readLeft kind bytes target) target′ answer′
     → (r : Moved) × (answer′ ≡ three r) × ReadTable kind bytes (targetFits kind bytes target) r × Kept (r .number) target target′
 unfolding readLeft
@@ -307,6 +347,9 @@ demand-one =
       stepNotEight = λ l u m n s. s ∙ step-not-eight l m n;
       sumList = sum-meets;
       differenceList = difference-meets;
+      equalList = search-meets false;
+      lessList = search-meets true;
+      greatestList = greatest-meets;
       readContent = read-meets;
       writeContent = write-meets;
       readPicture = read-picture-meets;
@@ -316,6 +359,9 @@ demand-one =
       libraryStep = library-step;
       librarySumList = library-sum;
       libraryDifferenceList = library-difference;
+      libraryEqualList = unfold equalLeft in library-search false;
+      libraryLessList = unfold lessLeft in library-search true;
+      libraryGreatestList = library-greatest;
       libraryReadContent = library-read;
       libraryWriteContent = library-write;
       libraryReadPicture = library-read-picture;

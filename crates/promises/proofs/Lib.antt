@@ -3,5 +3,6 @@ pub mod Clauses
 pub mod DemandOne
 pub mod DemandTwo
 pub mod DemandThree
+pub mod DemandSearch
 pub mod Examples
 pub mod Uniqueness

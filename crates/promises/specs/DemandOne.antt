@@ -5,7 +5,7 @@ use mathlib.Core.Path.{_≡_}
 use mathlib.Core.Bool.{Bool, true, false}
 use mathlib.Core.List.{List, [], _∷_}
 use mathlib.Core.Logic.{_↔_, _≢_}
-use Prim.Native.Nat.{ℕ, _*_, _/_, _<_, _≤_}
+use Prim.Native.Nat.{ℕ, _*_, _/_, _^_, _<_, _≤_}
 use lib.ListN.{length, replicate}
 use Rattle.bits.specs.Rows.{Row, FirstRow}
 use Rattle.network.specs.declared.Passed.{Passed}
@@ -19,15 +19,17 @@ use Rattle.judge.specs.Numbers.{Gives, Refused, Unrefused}
 use Rattle.module.specs.Run.{Lent, Left, unmoved, runLengths, stepLengths, lentBytes, leftBytes}
 use Rattle.builders.specs.declared.Built.{Built}
 use Rattle.builders.specs.declared.BuiltTwo.{BuiltTwo}
+use Rattle.builders.specs.Field.{Field}
 use Rattle.builders.specs.Sums.{Fields, listLength, fieldRows}
+use Rattle.builders.specs.Searches.{searchLength, itemsLength, greatestLength, searchRows, greatestRows}
 use Rattle.blocks.specs.Block.{blockBytes}
 use Rattle.contents.specs.declared.Moved.{Moved}
 use Rattle.contents.specs.File.{pictureBytes, contentOf, kindRight, lengthRight, sizeFits, blockCount}
 use Rattle.contents.specs.Content.{targetFits, contentFits}
 use Rattle.contents.specs.Numbers.{Answers, Sound, ReadRefused, writeRows}
 use Rattle.pictures.specs.Picture.{pictureFits}
-use Rattle.library.specs.Left.{five, three, sumLeft, differenceLeft, readLeft, writeLeft, writePictureLeft}
-use Rattle.promises.specs.Clauses.{Run, Step, Pass, SumList, DifferenceList, ReadContent, WriteContent, ReadPicture, WritePicture, LibraryRun, LibraryStep, LibraryPass, LibraryBuffer, LibraryReadPicture, LibraryVersion}
+use Rattle.library.specs.Left.{five, three, sumLeft, differenceLeft, equalLeft, lessLeft, greatestLeft, readLeft, writeLeft, writePictureLeft}
+use Rattle.promises.specs.Clauses.{Run, Step, Pass, SumList, DifferenceList, EqualList, LessList, GreatestList, ReadContent, WriteContent, ReadPicture, WritePicture, LibraryRun, LibraryStep, LibraryPass, LibraryBuffer, LibraryTwo, LibraryReadPicture, LibraryVersion}
 
 -- ---- Network: "it gives 10 and a zero item where byte 6 is none of the 37, and otherwise 0 and the passed item"
 pub record PassTable (lines : List ℕ) (flip code : ℕ) (r : Passed) : Type 0 where
@@ -67,6 +69,15 @@ pub record TwoTable (rows : List Row) (Good : Type 0) (size itemsSize : ℕ) (r 
 -- Sum and difference lists: `lead` is 1 or 2, `have` the length of the list buffer. "30 width not 1..64; 31 a start plus n over 256; 32 S overlaps A or B without having its start; 33 list buffer under 8(1+5n) or, for a difference, 8(2+5n) bytes"
 abbrev pub FieldsTable : (lead a b s n have : ℕ) → Built → Type 0
 FieldsTable lead a b s n have = ListTable (fieldRows lead a b s n have) (Fields a b s n × (listLength lead n ≤ have)) (listLength lead n)
+
+-- Searches for equal and less: `list` and `items` are the lengths of the buffers. Document 02: "30 and 31 as in document 01; 34, number too large for the width; 33, either buffer too short"
+abbrev pub SearchTable : (start n number list items : ℕ) → BuiltTwo → Type 0
+SearchTable start n number list items =
+    TwoTable (searchRows start n number list items) (Field start n × (number < 2 ^ n) × (searchLength n ≤ list) × (itemsLength n ≤ items)) (searchLength n) (itemsLength n)
+
+-- Greatest, which has no number and no items.
+abbrev pub GreatestTable : (start n list : ℕ) → Built → Type 0
+GreatestTable start n list = ListTable (greatestRows start n list) (Field start n × (greatestLength n ≤ list)) (greatestLength n)
 
 -- ---- Blocks on disk: "Place is the block for 21 to 24, else 0"
 
@@ -119,6 +130,13 @@ pub record DemandOne : Type 0 where
       → FieldsTable 1 a b s n (length list) r × Kept (r .number) list list′
   pub differenceList : (a b s n : ℕ) (list list′ : List ℕ) (r : Built) → DifferenceList a b s n list list′ r
       → FieldsTable 2 a b s n (length list) r × Kept (r .number) list list′
+  -- `equal_list`, `less_list` and `greatest_list`
+  pub equalList : (start n number : ℕ) (list items list′ items′ : List ℕ) (r : BuiltTwo) → EqualList start n number list items list′ items′ r
+      → SearchTable start n number (length list) (length items) r × Kept (r .number) list list′ × Kept (r .number) items items′
+  pub lessList : (start n number : ℕ) (list items list′ items′ : List ℕ) (r : BuiltTwo) → LessList start n number list items list′ items′ r
+      → SearchTable start n number (length list) (length items) r × Kept (r .number) list list′ × Kept (r .number) items items′
+  pub greatestList : (start n : ℕ) (list list′ : List ℕ) (r : Built) → GreatestList start n list list′ r
+      → GreatestTable start n (length list) r × Kept (r .number) list list′
   -- `read_content`, of a list or items
   pub readContent : (kind : ℕ) (bytes target target′ : List ℕ) (r : Moved)
       → ReadContent kind bytes target target′ r
@@ -152,6 +170,15 @@ pub record DemandOne : Type 0 where
       → (r : Built) × (answer′ ≡ r .number ∷ r .count ∷ []) × FieldsTable 1 a b s n (length list) r × Kept (r .number) list list′
   pub libraryDifferenceList : (a b s n : ℕ) (list list′ answer′ : List ℕ) → LibraryBuffer (differenceLeft a b s n list) list′ answer′
       → (r : Built) × (answer′ ≡ r .number ∷ r .count ∷ []) × FieldsTable 2 a b s n (length list) r × Kept (r .number) list list′
+  -- `staran_equal_list`, `staran_less_list` and `staran_greatest_list`
+  pub libraryEqualList : (start n number : ℕ) (list items list′ items′ answer′ : List ℕ) → LibraryTwo (equalLeft start n number list items) list′ items′ answer′
+      → (r : BuiltTwo) × (answer′ ≡ r .number ∷ r .list ∷ r .items ∷ []) × SearchTable start n number (length list) (length items) r
+      × Kept (r .number) list list′ × Kept (r .number) items items′
+  pub libraryLessList : (start n number : ℕ) (list items list′ items′ answer′ : List ℕ) → LibraryTwo (lessLeft start n number list items) list′ items′ answer′
+      → (r : BuiltTwo) × (answer′ ≡ r .number ∷ r .list ∷ r .items ∷ []) × SearchTable start n number (length list) (length items) r
+      × Kept (r .number) list list′ × Kept (r .number) items items′
+  pub libraryGreatestList : (start n : ℕ) (list list′ answer′ : List ℕ) → LibraryBuffer (greatestLeft start n list) list′ answer′
+      → (r : Built) × (answer′ ≡ r .number ∷ r .count ∷ []) × GreatestTable start n (length list) r × Kept (r .number) list list′
   -- `staran_read_content`
   pub libraryReadContent : (kind : ℕ) (bytes target target′ answer′ : List ℕ) → LibraryBuffer (readLeft kind bytes target) target′ answer′
       → (r : Moved) × (answer′ ≡ three r) × ReadTable kind bytes (targetFits kind bytes target) r × Kept (r .number) target target′
