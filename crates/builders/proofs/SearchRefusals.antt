@@ -1,9 +1,11 @@
 -- The table of refusals of the searches, both ways, and of greatest: the number of the first row that holds, and what is not refused. Assumes nothing.
-use mathlib.Core.Path.{_≡_, refl, sym, ap, _∙_}
-use mathlib.Core.Bool.{Bool, false, not, _||_}
+use mathlib.Core.Path.{_≡_, refl, sym, ap, subst, _∙_}
+use mathlib.Core.Bool.{Bool, true, false, not, _||_}
 use mathlib.Core.Logic.{_↔_}
-use Prim.Native.Nat.{ℕ, _+_, _^_, _<_, _≤_}
+use Prim.Native.Nat.{ℕ, _+_, _/_, _^_, _<_, _≤_}
+use native.Mathlib.Nat.{lt-of-lt-of-le, div-eq-of-lt, le-div-iff-mul-le, one-mul}
 use lib.Dec.{ltb}
+use lib.Pow.{pow-pos, pow-mono}
 use borrow.Author.Tests.{ltb-true, ltb-false, lt-ltb, le-ltb, not-false}
 use Rattle.bits.specs.Rows.{FirstRow}
 use Rattle.bits.proofs.Rows.{none-number, number-none, first-number, number-first, row-off}
@@ -24,6 +26,20 @@ width-right a n f = or-false _ _ (le-ltb n 1 (f .some)) (le-ltb 64 n (f .width))
 
 not-beyond : (a n : ℕ) → Field a n → beyond a n ≡ false
 not-beyond a n f = le-ltb 256 (a + n) (f .fits)
+
+-- ---- too large: for a width of 64 and more no 64-bit number is; below, one that is not shifted out whole
+
+pub wide-enough : (number n : ℕ) → number < 2 ^ 64 → 64 ≤ n → false ≡ tooLarge number n
+wide-enough number n h w = sym (ap not (lt-ltb number (2 ^ n) (lt-of-lt-of-le h (pow-mono w))))
+
+pub shifted-out : (number n : ℕ) → ltb 0 (number / 2 ^ n) ≡ tooLarge number n
+shifted-out number n = go (ltb number (2 ^ n)) refl
+  where
+    go : (b : Bool) → ltb number (2 ^ n) ≡ b → ltb 0 (number / 2 ^ n) ≡ not b
+    go true e = ap (ltb 0) (div-eq-of-lt (ltb-true number (2 ^ n) e))
+    go false e =
+        let h = ltb-false number (2 ^ n) e in
+        lt-ltb 0 (number / 2 ^ n) (le-div-iff-mul-le (pow-pos n) .1 (subst (λ (x : ℕ). x ≤ number) (sym (one-mul (2 ^ n))) h))
 
 -- ---- equal and less: `list` and `items` are the lengths of the buffers
 

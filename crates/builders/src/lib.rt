@@ -1,6 +1,7 @@
-// Builders of lists of instructions: the sum and the difference of two fields. Document 01, Sum and difference lists.
+// Builders of lists of instructions: the sum and the difference of two fields, and searches over a field. Document 01, Sum and difference lists; document 02, One.
 mod field;
 mod search_rounds;
+pub mod searches;
 mod sum_rounds;
 pub mod sums;
 mod writing;
