@@ -2,7 +2,8 @@
 use mathlib.Core.Path.{_≡_, refl, sym, ap, ap₂, _∙_}
 use mathlib.Core.Bool.{Bool}
 use mathlib.Core.List.{List, [], _∷_, _++_, append-assoc}
-use Prim.Native.Nat.{ℕ, zero, suc, _+_, _*_, _<_}
+use Prim.Native.Nat.{ℕ, zero, suc, _+_, _-_, _*_, _<_}
+use native.Mathlib.Nat.{one-mul}
 use native.Mathlib.Decide.{ℕ-discrete}
 use native.Mathlib.Omega.{arith}
 use lib.ListN.{length, length-append, getD, take, drop}
@@ -13,6 +14,7 @@ use Rattle.judge.specs.declared.Instruction.{Instruction}
 use Rattle.judge.specs.Judge.{instructionAt}
 use Rattle.builders.specs.Lists.{instruction, bytesOf, encoded, rounds, decoded, itemsOf}
 use Rattle.builders.specs.Searches.{moveX, searchRound, searchRounds, searchList, searchLength, numberItems, itemsLength}
+use Rattle.builders.specs.Searches.{orFlipped, without, unmark, greatestRound, greatestRounds, greatestList, greatestLength}
 use Rattle.builders.specs.Sums.{bitRound, bitRounds, sumByte, differenceByte, sumList, differenceList, listLength}
 
 pub length-encoded : (l : List Instruction) → length (encoded l) ≡ 8 * length l
@@ -80,6 +82,21 @@ pub search-length : (less : Bool) (a n : ℕ) → length (encoded (searchList le
 search-length less a n =
     length-encoded (searchList less a n)
     ∙ omega (arith, length-append (searchRounds less a n) (moveX ∷ []), length-search-rounds less a n)
+
+-- the first e of greatest's flips
+pub length-flips : (e : ℕ) → length (rounds orFlipped e) ≡ e
+length-flips e = length-rounds orFlipped 1 e (λ k. refl) ∙ one-mul e
+
+-- the first k rounds of n
+pub length-greatest-rounds : (a n k : ℕ) → length (greatestRounds a n k) ≡ 11 * k
+length-greatest-rounds a n k = length-rounds (λ k. greatestRound (a + (n - suc k))) 11 k (λ k. eleven (a + (n - suc k)))
+  where
+    eleven : (g : ℕ) → length (greatestRound g) ≡ 11
+    eleven g = omega (arith, length-append (rounds orFlipped 8) (without g ∷ unmark ∷ []), length-flips 8)
+
+-- 8(1+11n)
+pub greatest-length : (a n : ℕ) → length (encoded (greatestList a n)) ≡ greatestLength n
+greatest-length a n = length-encoded (greatestList a n) ∙ omega (arith, length-greatest-rounds a n n)
 
 -- ---- items
 
