@@ -5,6 +5,7 @@ pub mod ItemLaws
 pub mod Runs
 pub mod Kept
 pub mod Spreading
+pub mod Topmost
 pub mod Sums
 pub mod SumRuns
 pub mod SearchRuns
