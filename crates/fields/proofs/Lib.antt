@@ -9,3 +9,4 @@ pub mod Topmost
 pub mod Sums
 pub mod SumRuns
 pub mod SearchRuns
+pub mod GreatestRuns
