@@ -13,9 +13,10 @@ use Rattle.registers.specs.Logic.{logicOf}
 use Rattle.registers.specs.Rows.{registersOf, bytesOf, withM}
 use Rattle.registers.proofs.RowLaws.{registers-bytes}
 use Rattle.judge.specs.declared.Instruction.{Instruction}
+use Rattle.judge.specs.declared.Answer.{Answer}
 use Rattle.judge.specs.Judge.{unfit}
 use Rattle.module.specs.Act.{State, modeOf, passedBy, regsAfter, memAfter, acted}
-use Rattle.module.specs.Run.{Lent, begun}
+use Rattle.module.specs.Run.{Lent, Left, begun}
 use Rattle.builders.specs.Lists.{encoded}
 use Rattle.builders.specs.Word.{folded, takenBy, Each, none, more}
 use Rattle.fields.specs.Value.{Bytes, runOf}
@@ -81,3 +82,17 @@ module _ (l : List Instruction) (lent : Lent (List ℕ)) (memory : Bytes (lent .
         quiet = refl;
         registers = registers-ok end end-good;
       })
+
+-- the same marks, by a claim that holds of the same words
+pub marks-map : {steps taken : ℕ} {P Q : ℕ → Type 0} {x : List ℕ → List ℕ} {lent : Lent (List ℕ)} {r : Left (List ℕ) Answer}
+    → ((w : ℕ) → w < 256 → P w ↔ Q w) → Marks steps taken P x lent r → Marks steps taken Q x lent r
+marks-map same m =
+    record {
+      done = m .done;
+      marks = λ w h. (λ q. same w h .0 (m .marks w h .0 q), λ q. m .marks w h .1 (same w h .1 q));
+      afterX = m .afterX;
+      keepsM = m .keepsM;
+      keeps = m .keeps;
+      quiet = m .quiet;
+      registers = m .registers;
+    }

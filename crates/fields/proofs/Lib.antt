@@ -4,6 +4,9 @@ pub mod Whole
 pub mod ItemLaws
 pub mod Runs
 pub mod Kept
+pub mod Spreading
+pub mod Topmost
 pub mod Sums
 pub mod SumRuns
 pub mod SearchRuns
+pub mod GreatestRuns

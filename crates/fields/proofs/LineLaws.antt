@@ -110,6 +110,11 @@ passed-from p i items s w hp sl a =
     bitOf-passedItem (sourceItem i (s .mem) items (s .regs) (s .taken)) (i .flip) (i .code) p (sl .shifts) hp
     ∙ source-at (cameFrom i p) i items s w (from-lt i p sl hp) sl a
 
+-- with no shift, its bit comes from the line across the flip
+pub came-flipped : (i : Instruction) (p : ℕ) → i .code ≡ 0 → cameFrom i p ≡ bitXor p (i .flip)
+unfolding source
+came-flipped i p e = ap (λ (c : ℕ). source (i .flip) (c / 16) (c % 16) p) e ∙ ap (λ (z : ℕ). bitXor z (i .flip)) (unshifted-none 0 p)
+
 -- ---- and what it makes of the line
 
 module _ (p : ℕ) (hp : p < 256) where
@@ -173,9 +178,7 @@ module _ (p : ℕ) (hp : p < 256) where
 
   -- with no flip and no shift that is line p itself, and its own M bit
   stays : (i : Instruction) → Local i → cameFrom i p ≡ p
-  unfolding source
-  stays i lc =
-      ap₂ (λ (f c : ℕ). source f (c / 16) (c % 16) p) (lc .flip0) (lc .code0) ∙ xor-zero-r _ ∙ unshifted-none 0 p
+  stays i lc = came-flipped i p (lc .code0) ∙ ap (bitXor p) (lc .flip0) ∙ xor-zero-r p
 
   sliced-of : (i : Instruction) → Local i → Sliced i
   sliced-of i lc =

@@ -5,7 +5,8 @@ use mathlib.Core.List.{List, [], _∷_, append-nil}
 use Prim.Native.Nat.{ℕ, zero, suc, _+_, _*_, _/_, _%_, _<_, _≤_}
 use native.Mathlib.Decide.{ℕ-discrete}
 use native.Mathlib.Omega.{arith}
-use borrow.Author.Tests.{eq-eqb, le-ltb}
+use borrow.Author.Tests.{eqb-true, eq-eqb, ltb-false, le-ltb, not-false}
+use lib.Dec.{eqb, ltb}
 use lib.ListN.{length}
 use Rattle.bits.specs.Search.{count}
 use Rattle.registers.specs.Rows.{registersOf, bytesOf}
@@ -14,6 +15,7 @@ use Rattle.judge.specs.declared.Lengths.{Lengths}
 use Rattle.judge.specs.declared.Answer.{Answer}
 use Rattle.judge.specs.Judge.{instructionAt, takes, gives, unfit, faultOf, judged}
 use Rattle.judge.proofs.Accepted.{run-of}
+use Rattle.judge.proofs.RowLaws.{or-none}
 use Rattle.module.specs.Act.{State, passedBy, acted}
 use Rattle.module.specs.Run.{Lent, Left, runLengths, begun}
 use Rattle.module.proofs.ActLaws.{no-out}
@@ -39,6 +41,9 @@ pub record Plain (i : Instruction) : Type 0 where
   pub gives-none : gives i ≡ false
   pub formed : faultOf i ≡ 0
 
+pub plain-quiet : (i : Instruction) → Plain i → Quiet i
+plain-quiet i h = record { gives-none = h .gives-none; formed = h .formed }
+
 -- ---- counts
 
 count-none : (f : ℕ → Bool) (n : ℕ) → ((k : ℕ) → k < n → f k ≡ false) → count f n ≡ 0
@@ -58,6 +63,19 @@ count-beyond f k (suc n) h t = go (ℕ-discrete k n) (λ l. count-beyond f k n l
         let q : cond {A = ℕ} (f n) 1 0 ≡ 1 = ap (λ (b : Bool). cond {A = ℕ} b 1 0) (ap f (sym e) ∙ t) in
         omega (arith, ap (count f) e)
     go (no u) ih = let r = ih (omega arith) in omega arith
+
+-- ---- lengths that are not refused
+
+fits : (unit n : ℕ) → n % unit ≡ 0 → n ≤ 32768 → unfit unit n ≡ false
+fits unit n e h = ap₂ (λ (x y : Bool). not x || y) (eq-eqb (n % unit) 0 e) (le-ltb 32768 n h)
+
+-- of items that stand behind n others
+pub fits-behind : (n k : ℕ) → unfit 32 (32 * n + k) ≡ false → unfit 32 k ≡ false
+fits-behind n k e =
+    let h = or-none (not (eqb ((32 * n + k) % 32) 0)) (ltb 32768 (32 * n + k)) e in
+    let whole = eqb-true ((32 * n + k) % 32) 0 (not-false (eqb ((32 * n + k) % 32) 0) (h .0)) in
+    let small = ltb-false 32768 (32 * n + k) (h .1) in
+    fits 32 k (omega arith) (omega arith)
 
 -- ---- a quiet list
 
@@ -95,9 +113,6 @@ module _ (l : List Instruction) (quiet : Each Quiet l) (few : length l ≤ 4096)
   taken-all : count (λ k. takes (instructionAt (encoded l) k)) (length (encoded l) / 8) ≡ takenBy l
   taken-all = sym (taken-decoded (encoded l) (length (encoded l) / 8)) ∙ ap takenBy back
 
-  fits : (unit n : ℕ) → n % unit ≡ 0 → n ≤ 32768 → unfit unit n ≡ false
-  fits unit n e h = ap₂ (λ (x y : Bool). not x || y) (eq-eqb (n % unit) 0 e) (le-ltb 32768 n h)
-
   -- number 0, as many steps as instructions, as many taken as take one, and nothing given
   pub judged-quiet : (lengths : Lengths) → lengths .memory ≡ 8192 → lengths .registers ≡ 96 → unfit 32 (lengths .items) ≡ false → 32 * takenBy l ≤ lengths .items
       → judged lengths (encoded l) ≡ record { number = 0; place = 0; steps = length l; taken = takenBy l; given = 0 }
@@ -125,12 +140,14 @@ module _ (l : List Instruction) (quiet : Each Quiet l) (few : length l ≤ 4096)
       refl)
       ∙ ap (λ (z : List ℕ). record { memory = s .mem; registers = bytesOf (s .regs); out = z; answer = a }) (folded-out l (lent .items) start quiet)
 
--- ---- a plain list
+-- ---- a list that takes nothing
 
-taken-plain : {l : List Instruction} → Each Plain l → takenBy l ≡ 0
+pub taken-none : {l : List Instruction} → Each (λ i. takes i ≡ false) l → takenBy l ≡ 0
 unfolding takenBy
-taken-plain none = refl
-taken-plain (more {i} h e) = ap₂ (λ (t : Bool) (n : ℕ). cond t 1 0 + n) (h .takes-none) (taken-plain e)
+taken-none none = refl
+taken-none (more h e) = ap₂ (λ (t : Bool) (n : ℕ). cond t 1 0 + n) h (taken-none e)
+
+-- ---- a plain list
 
 module _ (l : List Instruction) (plain : Each Plain l) (few : length l ≤ 4096) where
   -- nothing is taken either
@@ -138,6 +155,6 @@ module _ (l : List Instruction) (plain : Each Plain l) (few : length l ≤ 4096)
       → runOf (encoded l) lent ≡ leftBy lent (folded (λ i. acted i (lent .items)) l (begun lent (registersOf (lent .registers)))) (length l) 0
   ran-plain lent hm hr hi =
       let s = folded (λ i. acted i (lent .items)) l (begun lent (registersOf (lent .registers))) in
-      let none = taken-plain plain in
-      ran-quiet l (each-map (λ i h. record { gives-none = h .gives-none; formed = h .formed }) plain) few lent hm hr hi (omega arith)
+      let none = taken-none (each-map (λ i h. h .takes-none) plain) in
+      ran-quiet l (each-map plain-quiet plain) few lent hm hr hi (omega arith)
       ∙ ap (leftBy lent s (length l)) none

@@ -38,7 +38,7 @@ use Rattle.fields.specs.Value.{value, Bytes, runOf}
 use Rattle.fields.specs.Search.{withItems, runOfTwo, equalRun, lessRun, Marks}
 use Rattle.fields.proofs.LineLaws.{ran-at, at-self}
 use Rattle.fields.proofs.Whole.{bytes-ext, Good}
-use Rattle.fields.proofs.Runs.{Quiet, Plain}
+use Rattle.fields.proofs.Runs.{Quiet, Plain, plain-quiet}
 use Rattle.fields.proofs.Sums.{local, plain-from, plain-at}
 use Rattle.fields.proofs.Kept.{end-good, marks-logic}
 
@@ -51,7 +51,7 @@ record Fit (i : Instruction) : Type 0 where
   quiet : Quiet i
 
 fit-plain : (i : Instruction) → i .kind ≡ 0 → Plain i → Fit i
-fit-plain i e p = record { logic = e; local = p .local; quiet = record { gives-none = p .gives-none; formed = p .formed } }
+fit-plain i e p = record { logic = e; local = p .local; quiet = plain-quiet i p }
 
 fit-from : (t : ℕ) → ltb 4 (t / 16) ≡ false → Fit (logicFrom 2 t)
 fit-from t choice = fit-plain (logicFrom 2 t) refl (plain-from t choice)

@@ -25,7 +25,7 @@ use Rattle.fields.proofs.Sums.{sum-plain, difference-plain, list-built,
 
 -- ---- the list is written
 
-answer-built : (fault : ℕ) (bytes buffer : List ℕ) (k : ℕ) → fault ≡ 0 → length bytes ≡ k → builtWith fault bytes buffer .answer ≡ record { number = 0; count = k }
+pub answer-built : (fault : ℕ) (bytes buffer : List ℕ) (k : ℕ) → fault ≡ 0 → length bytes ≡ k → builtWith fault bytes buffer .answer ≡ record { number = 0; count = k }
 answer-built fault bytes buffer k e l =
     ap (λ (x : ℕ). builtWith x bytes buffer .answer) e ∙ ap (λ (x : ℕ). answered x) l
   where

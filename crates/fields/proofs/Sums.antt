@@ -6,12 +6,11 @@ use Prim.Native.Nat.{ℕ, _+_, _-_, _/_, _%_, _^_, _<_, _≤_}
 use native.Mathlib.Decide.{decLe}
 use native.Mathlib.Omega.{arith}
 use lib.Dec.{ltb}
-use lib.ListN.{length, take, drop, replicate, take-append-drop, length-drop}
+use lib.ListN.{length, take, drop, take-append-drop, length-drop}
 use lib.Seq.{take-at, take-all, drop-drop}
-use Rattle.bits.specs.Bits.{digit, bitOf, listed, byteOf, digitsOf, item}
-use Rattle.bits.proofs.Binary.{off}
+use Rattle.bits.specs.Bits.{digit, bitOf, digitsOf}
 use Rattle.bits.proofs.Digits.{digitsOf-lt, digitsOf-at, digitsOf-ext}
-use Rattle.bits.proofs.Items.{bitOf-bit, bitOf-pack}
+use Rattle.bits.proofs.Items.{bitOf-bit}
 use Rattle.network.proofs.TableRules.{none-permitted}
 use Rattle.registers.specs.declared.Registers.{Registers}
 use Rattle.registers.specs.Rows.{registersOf, bytesOf}
@@ -33,7 +32,7 @@ use Rattle.builders.proofs.Folds.{each-rounds, each-map}
 use Rattle.fields.proofs.LineLaws.{ran-at, at-self}
 use Rattle.builders.proofs.Carries.{quotient, rest}
 use Rattle.builders.proofs.Adder.{After}
-use Rattle.fields.proofs.Whole.{bytes-ext, pack-bytes, part-bytes, Good, begun-good, registers-ok, folded-good, memory-ext}
+use Rattle.fields.proofs.Whole.{bytes-ext, zero-item, part-bytes, Good, begun-good, registers-ok, folded-good, memory-ext}
 use Rattle.fields.proofs.Runs.{Plain, ran-plain}
 
 -- ---- the lists are plain
@@ -93,10 +92,6 @@ list-built fault bytes buffer e = ap (λ (x : ℕ). listOf (builtWith x bytes bu
 
 -- ---- what a plain list leaves that has the adder's invariant at each word
 
-zeros : item (λ k. 0) ≡ replicate 32 0
-unfolding listed byteOf digitsOf
-zeros = refl
-
 module _ (u : ℕ → ℕ) (a b s n c : ℕ) (l : List Instruction) (plain : Each Plain l) (few : length l ≤ 4096) (fitsS : s + n ≤ 256)
     (lent : Lent (List ℕ)) (memory : Bytes (lent .memory) 8192) (registers : Bytes (lent .registers) 96) (supplied : unfit 32 (length (lent .items)) ≡ false) where
   abbrev begin : State
@@ -132,7 +127,7 @@ module _ (u : ℕ → ℕ) (a b s n c : ℕ) (l : List Instruction) (plain : Eac
           done = refl;
           field = λ w h. field-end w h ∙ rest n _ (wordEnd w .y) (t w) (small w h) (after w h .total ∙ total w h);
           carry = λ w h. ap (λ (r : Registers). bitOf (r .y) w) rows ∙ line w h .bitY ∙ quotient n _ (wordEnd w .y) (t w) (small w h) (after w h .total ∙ total w h);
-          zeroX = ap (λ (r : Registers). r .x) rows ∙ bytes-ext (end .regs .x) (item (λ k. 0)) 32 (good .x-ok) (pack-bytes (λ k. 0) (λ k. off) 32) (λ w h. line w h .bitX ∙ after w h .zeroX ∙ sym (bitOf-pack (λ k. 0) (λ k. off) 32 w h)) ∙ zeros;
+          zeroX = ap (λ (r : Registers). r .x) rows ∙ zero-item (end .regs .x) (good .x-ok) (λ w h. line w h .bitX ∙ after w h .zeroX);
           keepsM = ap (λ (r : Registers). r .m) rows ∙ bytes-ext (end .regs .m) (begin .regs .m) 32 (good .m-ok) (begun-good lent memory registers .m-ok) (λ w h. line w h .bitM ∙ after w h .keepsM);
           others = λ w i h q o. line w h .word i q ∙ after w h .other i o;
           memory = good .mem-ok;

@@ -1,5 +1,5 @@
 -- States whose every line is the same are the same, byte for byte: bytes stay bytes in a run, and bytes are known by their bits. Assumes nothing.
-use mathlib.Core.Path.{_≡_, sym, ap, ap₂, _∙_}
+use mathlib.Core.Path.{_≡_, refl, sym, ap, ap₂, _∙_}
 use mathlib.Core.Bool.{Bool, true, false, cond}
 use mathlib.Core.List.{List, [], _∷_, _++_}
 use Prim.Native.Nat.{ℕ, _+_, _-_, _*_, _/_, _%_, _<_, _≤_}
@@ -7,11 +7,11 @@ use native.Mathlib.Decide.{decLt}
 use native.Mathlib.Omega.{arith}
 use lib.Bits.{bitXor, xor-lt}
 use lib.Dec.{eqb}
-use lib.ListN.{length, getD, take, drop, length-append, length-take, length-drop, List·getD-append, List·getD-eq-default}
+use lib.ListN.{length, getD, take, drop, replicate, length-append, length-take, length-drop, List·getD-append, List·getD-eq-default}
 use lib.Seq.{getD-append-add, getD-take, getD-drop}
-use Rattle.bits.specs.Bits.{bitOf, byteOf, pack}
-use Rattle.bits.proofs.Binary.{Bit}
-use Rattle.bits.proofs.Items.{length-listed, getD-listed, bitOf-bit, byteOf-lt, same-bits}
+use Rattle.bits.specs.Bits.{bitOf, listed, byteOf, digitsOf, pack, item}
+use Rattle.bits.proofs.Binary.{Bit, off}
+use Rattle.bits.proofs.Items.{length-listed, getD-listed, bitOf-bit, bitOf-pack, byteOf-lt, same-bits}
 use Rattle.bits.proofs.Xor.{xor-twice}
 use Rattle.memory.specs.Table.{table}
 use Rattle.memory.specs.Memory.{cell, stored, every, maskOf}
@@ -45,6 +45,15 @@ bytes-of l n size low = record { size = size; low = λ i. go i (decLt i n) }
 
 pub pack-bytes : (f : ℕ → ℕ) → ((k : ℕ) → Bit (f k)) → (n : ℕ) → Bytes (pack f n) n
 pack-bytes f bits n = bytes-of (pack f n) n (length-listed (byteOf f) n) (λ i h. rw (getD-listed (byteOf f) n i h) (byteOf-lt f bits i))
+
+zeros : item (λ k. 0) ≡ replicate 32 0
+unfolding listed byteOf digitsOf
+zeros = refl
+
+-- an item that is 0 on every line
+pub zero-item : (l : List ℕ) → Bytes l 32 → ((k : ℕ) → k < 256 → bitOf l k ≡ 0) → l ≡ replicate 32 0
+zero-item l a h =
+    bytes-ext l (item (λ k. 0)) 32 a (pack-bytes (λ k. 0) (λ k. off) 32) (λ k q. h k q ∙ sym (bitOf-pack (λ k. 0) (λ k. off) 32 k q)) ∙ zeros
 
 pub part-bytes : (l : List ℕ) (m k n : ℕ) → k + n ≤ m → Bytes l m → Bytes (take n (drop k l)) n
 part-bytes l m k n h a =
