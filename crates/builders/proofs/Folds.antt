@@ -6,8 +6,8 @@ use native.Mathlib.Decide.{decLt}
 use native.Mathlib.Omega.{arith}
 use Rattle.judge.specs.declared.Instruction.{Instruction}
 use Rattle.judge.specs.Judge.{instructionAt}
-use Rattle.builders.specs.Lists.{rounds, decoded}
-use Rattle.builders.specs.Word.{folded, Each, none, more}
+use Rattle.builders.specs.Lists.{rounds, decoded, Each, none, more}
+use Rattle.builders.specs.Word.{folded}
 
 -- ---- a fold
 

@@ -42,6 +42,11 @@ unfoldable pub decoded : List ℕ → ℕ → List Instruction
 decoded l zero = []
 decoded l (suc n) = decoded l n ++ (instructionAt l n ∷ [])
 
+-- Each instruction of a list has P.
+pub data Each (P : Instruction → Type 0) : List Instruction → Type 0 where
+  none : Each P []
+  more : {i : Instruction} {l : List Instruction} → P i → Each P l → Each P (i ∷ l)
+
 -- ---- items
 
 -- Items 0 to n - 1 one behind the other, where item k has g k p at line p.

@@ -59,8 +59,3 @@ takenBy (i ∷ l) = cond (takes i) 1 0 + takenBy l
 unfoldable pub foldedOn : {S O : Type 0} → (Instruction → O → S → S) → (ℕ → O) → List Instruction → ℕ → S → S
 foldedOn f o [] k s = s
 foldedOn f o (i ∷ l) k s = foldedOn f o l (k + cond (takes i) 1 0) (f i (o k) s)
-
--- Each instruction of a list has P.
-pub data Each (P : Instruction → Type 0) : List Instruction → Type 0 where
-  none : Each P []
-  more : {i : Instruction} {l : List Instruction} → P i → Each P l → Each P (i ∷ l)

@@ -22,10 +22,10 @@ use Rattle.judge.specs.Steps.{fits}
 use Rattle.judge.proofs.FormLaws.{formed-by}
 use Rattle.module.specs.Act.{State, acted}
 use Rattle.module.specs.Run.{Lent, begun}
-use Rattle.builders.specs.Lists.{logicAt, encoded, rounds}
+use Rattle.builders.specs.Lists.{logicAt, encoded, rounds, Each, none, more}
 use Rattle.builders.specs.Field.{Field}
 use Rattle.builders.specs.Searches.{clearX, takeMarked, orFlipped, without, unmark, greatestRound, greatestList, greatestLength, greatestFault, greatestBuilt}
-use Rattle.builders.specs.Word.{Word, sourceBit, afterBit, actedWord, folded, Each, none, more}
+use Rattle.builders.specs.Word.{Word, sourceBit, afterBit, actedWord, folded}
 use Rattle.builders.proofs.Folds.{folded-append, folded-rounds, each-append, each-rounds}
 use Rattle.builders.proofs.ListLaws.{length-greatest-rounds, greatest-length}
 use Rattle.builders.proofs.SearchRefusals.{greatest-no-fault}
@@ -40,7 +40,7 @@ use Rattle.fields.proofs.Kept.{end-good, marks-logic, marks-map}
 use Rattle.fields.proofs.Sums.{plain-from, plain-at, list-built}
 use Rattle.fields.proofs.SumRuns.{answer-built}
 use Rattle.fields.proofs.Spreading.{flip, withX, spread-all}
-use Rattle.fields.proofs.Topmost.{Top, Some, top-more}
+use Rattle.fields.proofs.Topmost.{Top, Some, top-more, top-there}
 
 -- ---- the list's instructions
 
@@ -262,3 +262,9 @@ module _ (a n : ℕ) (field : Field a n) (list : List ℕ) (room : greatestLengt
     -- "If none is marked, none is at the end"
     pub greatest-none : ((w : ℕ) → w < 256 → Marked (lent .registers) w → ⊥) → (w : ℕ) → w < 256 → Marked (greatestRun a n list lent .registers) w → ⊥
     greatest-none u w h m = u w h (greatest-marks .marks w h .0 m .0)
+
+    -- and if one is, one is
+    pub greatest-some : (w : ℕ) → w < 256 → Marked (lent .registers) w → (v : ℕ) × (v < 256) × Marked (greatestRun a n list lent .registers) v
+    greatest-some w h m =
+        let t = top-there (bitOf (registersOf (lent .registers) .y)) (λ q. value (lent .memory) q a n) w h m in
+        (t .0, t .1, greatest-marks .marks (t .0) (t .1) .1 (t .2))

@@ -17,8 +17,8 @@ use Rattle.judge.specs.declared.Answer.{Answer}
 use Rattle.judge.specs.Judge.{unfit}
 use Rattle.module.specs.Act.{State, modeOf, passedBy, regsAfter, memAfter, acted}
 use Rattle.module.specs.Run.{Lent, Left, begun}
-use Rattle.builders.specs.Lists.{encoded}
-use Rattle.builders.specs.Word.{folded, takenBy, Each, none, more}
+use Rattle.builders.specs.Lists.{encoded, Each, none, more}
+use Rattle.builders.specs.Word.{folded, takenBy}
 use Rattle.fields.specs.Value.{Bytes, runOf}
 use Rattle.fields.specs.Search.{withItems, Marks}
 use Rattle.fields.proofs.Whole.{Good, begun-good, registers-ok, folded-good}

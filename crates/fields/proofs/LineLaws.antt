@@ -30,8 +30,8 @@ use Rattle.judge.specs.declared.Instruction.{Instruction}
 use Rattle.judge.specs.Judge.{instructionAt, takes}
 use Rattle.module.specs.Act.{State, modeOf, partAt, held, heldItem, sourceItem, passedBy, regsAfter, memAfter, acted}
 use Rattle.module.specs.Run.{ranBy}
-use Rattle.builders.specs.Lists.{decoded}
-use Rattle.builders.specs.Word.{Word, heldBit, sourceBit, afterBit, actedWord, folded, ranWord, Each, none, more}
+use Rattle.builders.specs.Lists.{decoded, Each, none, more}
+use Rattle.builders.specs.Word.{Word, heldBit, sourceBit, afterBit, actedWord, folded, ranWord}
 use Rattle.builders.proofs.Folds.{folded-append}
 use Rattle.fields.specs.Line.{At, wordOf, outsideAt, cameFrom, Sliced, Local}
 

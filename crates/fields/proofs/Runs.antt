@@ -20,9 +20,9 @@ use Rattle.module.specs.Act.{State, passedBy, acted}
 use Rattle.module.specs.Run.{Lent, Left, runLengths, begun}
 use Rattle.module.proofs.ActLaws.{no-out}
 use Rattle.module.proofs.RunLaws.{ran-done}
-use Rattle.builders.specs.Lists.{encoded, decoded}
+use Rattle.builders.specs.Lists.{encoded, decoded, Each, none, more}
 use Rattle.builders.proofs.ListLaws.{length-encoded, decoded-encoded}
-use Rattle.builders.specs.Word.{folded, takenBy, Each, none, more}
+use Rattle.builders.specs.Word.{folded, takenBy}
 use Rattle.builders.proofs.Takes.{taken-decoded}
 use Rattle.fields.specs.Line.{Local}
 use Rattle.fields.specs.Value.{runOf}

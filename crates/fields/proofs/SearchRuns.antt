@@ -21,12 +21,12 @@ use Rattle.judge.proofs.FormLaws.{formed-by}
 use Rattle.module.specs.Act.{State, acted}
 use Rattle.module.specs.Run.{Lent, begun}
 use Rattle.builders.specs.declared.BuiltTwo.{BuiltTwo}
-use Rattle.builders.specs.Lists.{logicFrom, logicAt, encoded}
+use Rattle.builders.specs.Lists.{logicFrom, logicAt, encoded, Each, none, more}
 use Rattle.builders.specs.Building.{BuiltTwoLeft, builtTwo}
 use Rattle.builders.specs.Field.{Field}
 use Rattle.builders.specs.Searches.{takeBit, started, changed, moveX, searchRound, searchRounds, searchList, equalList, lessList, numberItems}
 use Rattle.builders.specs.Searches.{searchLength, itemsLength, searchFault, searchBuilt, equalBuilt, lessBuilt}
-use Rattle.builders.specs.Word.{Word, folded, ranWord, takenBy, Each, none, more}
+use Rattle.builders.specs.Word.{Word, folded, ranWord, takenBy}
 use Rattle.builders.proofs.Folds.{each-append, each-rounds, each-map}
 use Rattle.builders.proofs.Takes.{taken-append, taken-rounds}
 use Rattle.builders.proofs.ListLaws.{length-encoded, search-length, number-length, items-at}

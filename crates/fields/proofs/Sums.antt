@@ -22,10 +22,10 @@ use Rattle.module.specs.Act.{State, acted}
 use Rattle.judge.specs.Steps.{fits}
 use Rattle.judge.proofs.FormLaws.{formed-by}
 use Rattle.module.specs.Run.{Lent, Left, begun}
-use Rattle.builders.specs.Lists.{logicFrom, logicAt, storeAt, encoded}
+use Rattle.builders.specs.Lists.{logicFrom, logicAt, storeAt, encoded, Each, none, more}
 use Rattle.builders.specs.Sums.{bitRound, bitRounds, sumByte, differenceByte, carryByte, moveByte, sumList, differenceList, Fields}
 use Rattle.builders.specs.Building.{builtWith}
-use Rattle.builders.specs.Word.{Word, folded, ranWord, Each, none, more}
+use Rattle.builders.specs.Word.{Word, folded, ranWord}
 use Rattle.fields.specs.Line.{wordOf, outsideAt, At, Local}
 use Rattle.fields.specs.Value.{wordBit, value, listOf, Bytes, Put, runOf}
 use Rattle.builders.proofs.Folds.{each-rounds, each-map}

@@ -1,7 +1,8 @@
 -- The greatest by one bit more, from the highest bit on: of those that are the greatest by the bits so far, one loses exactly if it lacks the bit and another has it. Assumes nothing.
-use mathlib.Core.Path.{_≡_}
-use Prim.Native.Nat.{ℕ, _/_, _%_, _<_, _≤_}
-use native.Mathlib.Decide.{decLe}
+use mathlib.Core.Path.{_≡_, subst}
+use mathlib.Core.Logic.{_⊎_, inl, inr}
+use Prim.Native.Nat.{ℕ, zero, suc, _/_, _%_, _<_, _≤_}
+use native.Mathlib.Decide.{decLt, decLe, ℕ-discrete}
 use native.Mathlib.Omega.{arith}
 use Rattle.registers.specs.Logic.{functionBit}
 use Rattle.builders.proofs.Marks.{Mark, mark-iff, mark-map, mark-without}
@@ -48,3 +49,43 @@ module _ (y z v : ℕ → ℕ) (tops : (p : ℕ) → p < 256 → Mark (Top y (λ
   pub top-more : {a b : ℕ} → Mark (Some z v) a → Mark (v p % 2 ≡ 1) b → Mark (Top y v p) (functionBit 4 (z p) (functionBit 4 a b))
   unfolding Loses
   top-more some bit = mark-map (λ g. stays (g .0) (g .1), held) (mark-without (tops p hp) (mark-without some bit))
+
+-- ---- where a word is marked, there is a greatest
+
+one-more : (k : ℕ) (P : ℕ → Type 0) → ((q : ℕ) → q < k → P q) → P k → (q : ℕ) → q < suc k → P q
+one-more k P h last q l = go (decLt q k)
+  where
+    go : Dec (q < k) → P q
+    go (yes c) = h q c
+    go (no c) = let e : k ≡ q = omega arith in subst P e last
+
+module _ (y v : ℕ → ℕ) where
+  -- of the words below k none is marked, or one that is has no less than any
+  None : ℕ → Type 0
+  None k = (q : ℕ) → q < k → y q ≡ 1 → ⊥
+
+  Best : ℕ → Type 0
+  Best k = (p : ℕ) × (p < k) × (y p ≡ 1) × ((q : ℕ) → q < k → y q ≡ 1 → v q ≤ v p)
+
+  best-below : (k : ℕ) → None k ⊎ Best k
+  unfolding None Best
+  best-below zero = inl (λ q h e. omega arith)
+  best-below (suc k) = go (best-below k) (ℕ-discrete (y k) 1)
+    where
+      go : None k ⊎ Best k → Dec (y k ≡ 1) → None (suc k) ⊎ Best (suc k)
+      go (inl u) (no n) = inl (one-more k (λ q. y q ≡ 1 → ⊥) u n)
+      go (inl u) (yes m) = inr (k, omega arith, m, one-more k (λ q. y q ≡ 1 → v q ≤ v k) (λ q h e. absurd (u q h e)) (λ e. omega arith))
+      go (inr (p, h, e, b)) (no n) = inr (p, omega arith, e, one-more k (λ q. y q ≡ 1 → v q ≤ v p) b (λ m. absurd (n m)))
+      go (inr (p, h, e, b)) (yes m) = by (decLe (v k) (v p))
+        where
+          by : Dec (v k ≤ v p) → None (suc k) ⊎ Best (suc k)
+          by (yes l) = inr (p, omega arith, e, one-more k (λ q. y q ≡ 1 → v q ≤ v p) b (λ m. l))
+          by (no l) = inr (k, omega arith, m, one-more k (λ q. y q ≡ 1 → v q ≤ v k) (λ q c w. let i = b q c w in omega arith) (λ m. omega arith))
+
+  pub top-there : (w : ℕ) → w < 256 → y w ≡ 1 → (p : ℕ) × (p < 256) × Top y v p
+  unfolding None Best
+  top-there w h m = go (best-below 256)
+    where
+      go : None 256 ⊎ Best 256 → (p : ℕ) × (p < 256) × Top y v p
+      go (inl u) = absurd (u w h m)
+      go (inr (p, l, e, b)) = (p, l, (e, b))

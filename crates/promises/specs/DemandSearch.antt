@@ -8,7 +8,7 @@ use lib.ListN.{length, replicate}
 use Rattle.judge.specs.declared.Instruction.{Instruction}
 use Rattle.judge.specs.Judge.{unfit}
 use Rattle.module.specs.Run.{Lent}
-use Rattle.builders.specs.Word.{Each}
+use Rattle.builders.specs.Lists.{Each}
 use Rattle.builders.specs.Field.{Field}
 use Rattle.builders.specs.Searches.{equalList, lessList, greatestList, searchLength, itemsLength, greatestLength, equalBuilt, lessBuilt, greatestBuilt}
 use Rattle.fields.specs.Value.{value, Bytes, lentOn}
@@ -52,6 +52,8 @@ pub record DemandSearch (a n number : ℕ) (list items list′ : List ℕ) (lent
   pub greatest : Marks (1 + 11 * n) 0 (Greatest a n lent) zero lent (greatestRun a n list′ lent)
   -- "If none is marked, none is at the end"
   pub noneMarked : ((w : ℕ) → w < 256 → Marked (lent .registers) w → ⊥) → (w : ℕ) → w < 256 → Marked (greatestRun a n list′ lent .registers) w → ⊥
+  -- and if one is marked, one is
+  pub someMarked : (w : ℕ) → w < 256 → Marked (lent .registers) w → (v : ℕ) × (v < 256) × Marked (greatestRun a n list′ lent .registers) v
   -- one behind the other: the highest of the stations below a number
   pub greatestLess : (let r = lentOn lent (lessRun a n number list items lent) in
       Marks (1 + 11 * n) 0 (λ w. (value (lent .memory) w a n < number)
