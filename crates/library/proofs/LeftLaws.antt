@@ -1,6 +1,7 @@
 -- What a function of the library leaves, from what the entry that it calls leaves and from the answer as numbers; and that these numbers are small, whatever the entry is called on.
 -- A proof takes the arguments of a law from what the call ensures, so that a wrong call is refused at the contract's own equation. Assumes nothing.
 use mathlib.Core.Path.{_≡_, sym, ap, _∙_, subst}
+use mathlib.Core.Bool.{Bool}
 use mathlib.Core.List.{List, [], _∷_}
 use Prim.Native.Nat.{ℕ, _≤_}
 use native.Mathlib.Omega.{arith}
@@ -13,15 +14,15 @@ use Rattle.judge.proofs.Bounds.{Bounded as Bounded5, judged-bounds, step-bounds
 use Rattle.module.specs.Run.{Lent, Left, runLengths, stepLengths, ran, stepped}
 use Rattle.module.proofs.RunLaws.{ran-answer}
 use Rattle.module.proofs.StepLaws.{stepped-answer}
-use Rattle.builders.specs.declared.Built.{Built}
 use Rattle.builders.specs.Sums.{sumBuilt, differenceBuilt}
-use Rattle.builders.specs.Building.{BuiltLeft as Buffer}
-use Rattle.builders.proofs.Bounds.{sum-bounds, difference-bounds}
+use Rattle.builders.specs.Searches.{searchBuilt, equalBuilt, lessBuilt, greatestBuilt}
+use Rattle.builders.specs.Building.{BuiltLeft as Buffer, BuiltTwoLeft as Buffers}
+use Rattle.builders.proofs.Bounds.{Bounded as Bounded2, BoundedTwo, sum-bounds, difference-bounds, search-bounds, greatest-bounds}
 use Rattle.contents.specs.declared.Moved.{Moved}
 use Rattle.contents.specs.Content.{targetFits, ContentLeft, contentRead, contentWritten}
 use Rattle.contents.proofs.Bounds.{Bounded as Bounded3, read-bounds, write-bounds, write-content-bounds}
 use Rattle.pictures.specs.Picture.{pictureFits, PictureLeft, pictureRead, pictureWritten}
-use Rattle.library.specs.Left.{five, three, runLeft, stepLeft, PassLeft, passLeft, BufferLeft, builtLeft, sumLeft, differenceLeft, movedLeft, readLeft, writeLeft, writePictureLeft, TargetsLeft, readPictureLeft}
+use Rattle.library.specs.Left.{five, three, runLeft, stepLeft, PassLeft, passLeft, BufferLeft, builtLeft, sumLeft, differenceLeft, greatestLeft, TwoLeft, builtTwoLeft, equalLeft, lessLeft, movedLeft, readLeft, writeLeft, writePictureLeft, TargetsLeft, readPictureLeft}
 
 -- ---- the array
 
@@ -70,22 +71,59 @@ built-left : (b c : Buffer) (w : List ℕ) → b ≡ c → w ≡ b .answer .numb
     → _≡_ {A = BufferLeft} (record { buffer = b .list; answer = w }) (builtLeft c)
 built-left b c w e d = ap (λ (x : List ℕ). record { buffer = b .list; answer = x }) d ∙ ap builtLeft e
 
+-- 5,640 bytes are the most of any list
+small-built : (last most : ℕ) → most ≤ 5640 → (b c : Buffer) → b ≡ c → Bounded2 last most (c .answer) → b .answer .count ≤ 5640
+small-built last most m b c e h = let s = subst (λ (x : Buffer). Bounded2 last most (x .answer)) (sym e) h .count in omega arith
+
 module _ (a b s n : ℕ) (list : List ℕ) (l : Buffer) where
-  pub sum-small : l ≡ sumBuilt a b s n list → l .answer .count ≤ 2576
-  sum-small e = subst (λ (x : Buffer). x .answer .count ≤ 2576) (sym e) (sum-bounds a b s n list .count)
+  pub sum-small : l ≡ sumBuilt a b s n list → l .answer .count ≤ 5640
+  sum-small e = small-built 33 2576 (omega arith) l _ e (sum-bounds a b s n list)
 
   pub sum-left : (w : List ℕ) → l ≡ sumBuilt a b s n list → w ≡ l .answer .number ∷ l .answer .count ∷ []
       → _≡_ {A = BufferLeft} (record { buffer = l .list; answer = w }) (sumLeft a b s n list)
   unfolding sumLeft
   sum-left w e d = built-left l (sumBuilt a b s n list) w e d
 
-  pub difference-small : l ≡ differenceBuilt a b s n list → l .answer .count ≤ 2576
-  difference-small e = subst (λ (x : Buffer). x .answer .count ≤ 2576) (sym e) (difference-bounds a b s n list .count)
+  pub difference-small : l ≡ differenceBuilt a b s n list → l .answer .count ≤ 5640
+  difference-small e = small-built 33 2576 (omega arith) l _ e (difference-bounds a b s n list)
 
   pub difference-left : (w : List ℕ) → l ≡ differenceBuilt a b s n list → w ≡ l .answer .number ∷ l .answer .count ∷ []
       → _≡_ {A = BufferLeft} (record { buffer = l .list; answer = w }) (differenceLeft a b s n list)
   unfolding differenceLeft
   difference-left w e d = built-left l (differenceBuilt a b s n list) w e d
+
+module _ (a n : ℕ) (list : List ℕ) (l : Buffer) where
+  pub greatest-small : l ≡ greatestBuilt a n list → l .answer .count ≤ 5640
+  greatest-small e = small-built 33 5640 (omega arith) l _ e (greatest-bounds a n list)
+
+  pub greatest-left : (w : List ℕ) → l ≡ greatestBuilt a n list → w ≡ l .answer .number ∷ l .answer .count ∷ []
+      → _≡_ {A = BufferLeft} (record { buffer = l .list; answer = w }) (greatestLeft a n list)
+  unfolding greatestLeft
+  greatest-left w e d = built-left l (greatestBuilt a n list) w e d
+
+-- ---- lists with their items
+
+built-two-left : (b c : Buffers) (w : List ℕ) → b ≡ c → w ≡ b .answer .number ∷ b .answer .list ∷ b .answer .items ∷ []
+    → _≡_ {A = TwoLeft} (record { list = b .list; items = b .items; answer = w }) (builtTwoLeft c)
+built-two-left b c w e d = ap (λ (x : List ℕ). record { list = b .list; items = b .items; answer = x }) d ∙ ap builtTwoLeft e
+
+-- either search
+pub search-small : (less : Bool) (a n number : ℕ) (list items : List ℕ) (l : Buffers) → l ≡ searchBuilt less a n number list items
+    → (l .answer .list ≤ 1552) × (l .answer .items ≤ 2048)
+search-small less a n number list items l e =
+    let s = subst (λ (x : Buffers). BoundedTwo 34 1552 2048 (x .answer)) (sym e) (search-bounds less a n number list items) in
+    (s .list, s .items)
+
+module _ (a n number : ℕ) (list items : List ℕ) (l : Buffers) (w : List ℕ) where
+  pub equal-left : l ≡ equalBuilt a n number list items → w ≡ l .answer .number ∷ l .answer .list ∷ l .answer .items ∷ []
+      → _≡_ {A = TwoLeft} (record { list = l .list; items = l .items; answer = w }) (equalLeft a n number list items)
+  unfolding equalLeft
+  equal-left e d = built-two-left l (equalBuilt a n number list items) w e d
+
+  pub less-left : l ≡ lessBuilt a n number list items → w ≡ l .answer .number ∷ l .answer .list ∷ l .answer .items ∷ []
+      → _≡_ {A = TwoLeft} (record { list = l .list; items = l .items; answer = w }) (lessLeft a n number list items)
+  unfolding lessLeft
+  less-left e d = built-two-left l (lessBuilt a n number list items) w e d
 
 -- ---- disk
 

@@ -6,7 +6,8 @@ use Rattle.registers.specs.declared.Registers.{Registers}
 use Rattle.judge.specs.declared.Answer.{Answer as Verdict}
 use Rattle.module.specs.Run.{Lent, Left, ran, stepped}
 use Rattle.builders.specs.Sums.{sumBuilt, differenceBuilt}
-use Rattle.builders.specs.Building.{BuiltLeft as Built}
+use Rattle.builders.specs.Searches.{equalBuilt, lessBuilt, greatestBuilt}
+use Rattle.builders.specs.Building.{BuiltLeft as Built, BuiltTwoLeft as BuiltTwo}
 use Rattle.contents.specs.declared.Moved.{Moved}
 use Rattle.contents.specs.Content.{ContentLeft, contentRead, contentWritten}
 use Rattle.pictures.specs.Picture.{pictureRead, pictureWritten}
@@ -56,6 +57,9 @@ sumLeft a b s n list = builtLeft (sumBuilt a b s n list)
 unfoldable pub differenceLeft : ℕ → ℕ → ℕ → ℕ → List ℕ → BufferLeft
 differenceLeft a b s n list = builtLeft (differenceBuilt a b s n list)
 
+unfoldable pub greatestLeft : ℕ → ℕ → List ℕ → BufferLeft
+greatestLeft start n list = builtLeft (greatestBuilt start n list)
+
 -- The buffer, and the three numbers.
 abbrev pub movedLeft : ContentLeft → BufferLeft
 movedLeft l = record { buffer = l .buffer; answer = three (l .answer) }
@@ -68,6 +72,23 @@ writeLeft kind content out = movedLeft (contentWritten kind content out)
 
 unfoldable pub writePictureLeft : ℕ → List ℕ → List ℕ → List ℕ → BufferLeft
 writePictureLeft kind memory registers out = movedLeft (pictureWritten kind memory registers out)
+
+-- ---- lists with their items: two buffers are written
+
+pub record TwoLeft : Type 0 where
+  pub list : List ℕ
+  pub items : List ℕ
+  pub answer : List ℕ
+
+-- The number, and the counts of the bytes written to each.
+abbrev pub builtTwoLeft : BuiltTwo → TwoLeft
+builtTwoLeft b = record { list = b .list; items = b .items; answer = b .answer .number ∷ b .answer .list ∷ b .answer .items ∷ [] }
+
+unfoldable pub equalLeft : ℕ → ℕ → ℕ → List ℕ → List ℕ → TwoLeft
+equalLeft start n number list items = builtTwoLeft (equalBuilt start n number list items)
+
+unfoldable pub lessLeft : ℕ → ℕ → ℕ → List ℕ → List ℕ → TwoLeft
+lessLeft start n number list items = builtTwoLeft (lessBuilt start n number list items)
 
 -- ---- a picture that is read: two buffers are written
 

@@ -1,5 +1,6 @@
 // Answers as 32-bit numbers: the entries' own, each small enough.
 use builders::Built;
+use builders::BuiltTwo;
 use contents::Moved;
 ghost use mathlib.Core.Path.{_≡_};
 ghost use mathlib.Core.List.{[], _∷_};
@@ -38,8 +39,16 @@ pub fn three(a: Moved) -> [u32; 3]
 
 // Number and count of bytes.
 pub fn two(b: Built) -> [u32; 2]
-    requires { ⌜ b .count ≤ 2576 ⌝ }
+    requires { ⌜ b .count ≤ 5640 ⌝ }
     ensures { λ r. ⌜ r ≡ b .number ∷ b .count ∷ [] ⌝ }
 {
     [b.number as u32, b.count as u32]
+}
+
+// Number, and the counts of the bytes of a list and of its items.
+pub fn two_counts(b: BuiltTwo) -> [u32; 3]
+    requires { ⌜ (b .list ≤ 1552) × (b .items ≤ 2048) ⌝ }
+    ensures { λ r. ⌜ r ≡ b .number ∷ b .list ∷ b .items ∷ [] ⌝ }
+{
+    [b.number as u32, b.list as u32, b.items as u32]
 }

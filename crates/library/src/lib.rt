@@ -5,7 +5,7 @@ mod answers;
 
 use registers::Registers;
 ghost use mathlib.Core.Path.{_≡_};
-ghost use Rattle.library.specs.Left.{runLeft, stepLeft, passLeft, sumLeft, differenceLeft, readLeft, writeLeft, readPictureLeft, writePictureLeft, version};
+ghost use Rattle.library.specs.Left.{runLeft, stepLeft, passLeft, sumLeft, differenceLeft, equalLeft, lessLeft, greatestLeft, readLeft, writeLeft, readPictureLeft, writePictureLeft, version};
 
 // A run of an instruction list.
 #[no_mangle]
@@ -111,6 +111,49 @@ pub extern "C" fn staran_difference_list(
     *answer = answers::two(r);
 }
 
+// The list that marks the words whose field equals a number, with its items.
+#[no_mangle]
+pub extern "C" fn staran_equal_list(
+    start: u32,
+    n: u32,
+    number: u64,
+    list: &mut [u8],
+    items: &mut [u8],
+    answer: &mut [u32; 3],
+)
+    ensures { λ _. ⌜ record { list = now (list .exit); items = now (items .exit); answer = now (answer .exit) }
+        ≡ equalLeft start n number (now (list .entry)) (now (items .entry)) ⌝ }
+{
+    let r = builders::searches::equal_list(start, n, number, list, items);
+    *answer = answers::two_counts(r);
+}
+
+// The list that marks those whose field is less than it, with its items.
+#[no_mangle]
+pub extern "C" fn staran_less_list(
+    start: u32,
+    n: u32,
+    number: u64,
+    list: &mut [u8],
+    items: &mut [u8],
+    answer: &mut [u32; 3],
+)
+    ensures { λ _. ⌜ record { list = now (list .exit); items = now (items .exit); answer = now (answer .exit) }
+        ≡ lessLeft start n number (now (list .entry)) (now (items .entry)) ⌝ }
+{
+    let r = builders::searches::less_list(start, n, number, list, items);
+    *answer = answers::two_counts(r);
+}
+
+// The list that keeps the marks of the words with the greatest field among the marked.
+#[no_mangle]
+pub extern "C" fn staran_greatest_list(start: u32, n: u32, list: &mut [u8], answer: &mut [u32; 2])
+    ensures { λ _. ⌜ record { buffer = now (list .exit); answer = now (answer .exit) } ≡ greatestLeft start n (now (list .entry)) ⌝ }
+{
+    let r = builders::searches::greatest_list(start, n, list);
+    *answer = answers::two(r);
+}
+
 // Reads the blocks of a list or of items.
 #[no_mangle]
 pub extern "C" fn staran_read_content(
@@ -176,7 +219,7 @@ pub extern "C" fn staran_write_picture(
 // The version of the library that is linked, to be held to the header's.
 #[no_mangle]
 pub extern "C" fn staran_version() -> u32
-    ensures { λ r. ⌜ r ≡ version 1 0 ⌝ }
+    ensures { λ r. ⌜ r ≡ version 1 1 ⌝ }
 {
-    65536
+    65537
 }
