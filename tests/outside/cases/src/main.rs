@@ -111,12 +111,13 @@ fn count_up(cases: &[Case], replies: &[Reply], asked: usize, answered: usize) {
     let mut by_kind: BTreeMap<u8, (usize, usize)> = BTreeMap::new();
     let mut by_number: BTreeMap<u32, (usize, BTreeMap<u32, usize>)> = BTreeMap::new();
     for (case, reply) in cases.iter().zip(replies) {
+        let (answer, place) = case.number_and_place(reply);
         let kind = by_kind.entry(case.kind).or_default();
         kind.0 += 1;
-        kind.1 += (reply.words[0] == 0) as usize;
-        let number = by_number.entry(reply.words[0]).or_default();
+        kind.1 += (answer == 0) as usize;
+        let number = by_number.entry(answer).or_default();
         number.0 += 1;
-        *number.1.entry(reply.words[1]).or_default() += 1;
+        *number.1.entry(place).or_default() += 1;
     }
     println!("{} cases, {} + {} bytes", cases.len(), asked, answered);
     println!("kind                        cases   done");
