@@ -1,5 +1,6 @@
 """The making of the buffers and the digest once more, from PROTOCOL.md alone: checks that page and
-the stored files against each other for every buffer that a call leaves as it was.
+the stored files against each other for every buffer that a call leaves as it was, and for the searches
+every word of the answer.
 
     python3 extra/protocol.py ../../crates/vectors/stdin ../../crates/vectors/stdout
 """
@@ -53,11 +54,29 @@ def make(r):
     for _ in range(np):
         t,o,n=r[at],le(at+1,2),r[at+3]
         if t==255: assert n==0; seal(B[5],o)
+        elif t==254:
+            assert n==0 and 32<=o<=8192
+            for i in range(o,len(B[0])):B[0][i]=B[0][i-o]
         else:
             assert o+n<=len(B[t]); B[t][o:o+n]=r[at+4:at+4+n]
         at+=4+n
     assert at==len(r)
     return kind,p,B
+def search(kind,p,B):
+    """Kinds 12 to 14 from the page's part on searches: all words of the answer."""
+    mem,reg,lst,itm=B[:4];start,n,number=p[0],p[1],p[2]+(p[3]<<32)
+    steps,taken=(1+11*n,0) if kind==14 else (2+3*n,n)
+    no=30 if not 1<=n<=64 else 31 if start+n>256 else 34 if kind<14 and number>=2**n else 33 if len(lst)<8*steps or len(itm)<32*taken else 0
+    if no: return [no]+7*[0]+[digest(b) for b in B]
+    for k in range(taken):itm[32*k:32*k+32]=bytes([255*(number>>k&1)])*32
+    bad=1 if len(mem)!=8192 else 2 if len(reg)!=96 else 4 if len(itm)%32 or len(itm)>32768 else 0
+    if not bad:
+        v=[sum((mem[32*(b^w)+b//8]>>b%8&1)<<b-start for b in range(start,start+n)) for w in range(256)]
+        was=[w for w in range(256) if reg[64+w//8]>>w%8&1]
+        top=max([v[w] for w in was],default=0)
+        y=sum(1<<w for w in range(256) if (v[w]==number if kind==12 else v[w]<number if kind==13 else w in was and v[w]==top)).to_bytes(32,'little')
+        reg[32:96]=(bytes(32) if kind==14 else y)+y
+    return [0,8*steps,32*taken]+([bad,0,0,0,0] if bad else [0,0,steps,taken,0])+[digest(b[8*steps:] if k==2 else b) for k,b in enumerate(B)]
 kept={0:[2,3,5],1:[2,3,5],2:[0,1,2,3,5],3:[0,1,2,3,5],4:[0,1,3,4,5],5:[0,1,3,4,5],6:[0,1,3,4,5],7:[2,3,4,5],8:[0,1,2,3,4],9:[0,1,2,3,4],10:[3,5],11:[3,5]}
 lines=open(sys.argv[1]).read().split('\n');ans=open(sys.argv[2]).read().split('\n')
 assert lines[-1]=='' and ans[-1]=='' and len(lines)==len(ans)
@@ -65,6 +84,8 @@ checked=0
 for k in range(0,len(lines)-1):
     kind,p,B=make(bytes.fromhex(lines[k]))
     w=[int(v,16) for v in ans[k].split(' ')];assert len(ans[k])==9*len(w)-1 and len(w)>=5+len(B)
+    if kind>=12:
+        assert w==search(kind,p,B),k; checked+=len(B); continue
     keep=kept[kind] if w[0]==0 else range(len(B))
     for b in keep:
         if kind in (2,3) and b==4: continue

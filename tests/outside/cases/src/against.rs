@@ -60,7 +60,11 @@ fn smaller(case: &Case) -> Vec<Case> {
                         patch.bytes.truncate(end);
                     }
                 }
-                one.patches.retain(|p| if p.target == SEAL { (p.offset as usize) < one.lengths[FILE] as usize / 512 } else { !p.bytes.is_empty() });
+                one.patches.retain(|p| match p.target {
+                    SEAL => (p.offset as usize) < one.lengths[FILE] as usize / 512,
+                    REPEAT => true,
+                    _ => !p.bytes.is_empty(),
+                });
                 all.push(one);
             }
         }

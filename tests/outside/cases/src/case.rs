@@ -7,8 +7,9 @@ pub const LIST: usize = 2;
 pub const ITEMS: usize = 3;
 pub const OUT: usize = 4;
 pub const FILE: usize = 5;
-/// Not a buffer: a patch that seals a block of the file.
+/// Not buffers: a patch that seals a block of the file, and one that repeats the memory's beginning.
 pub const SEAL: u8 = 255;
+pub const REPEAT: u8 = 254;
 
 /// How many buffers a case has.
 pub const COUNT: usize = 6;
@@ -33,8 +34,11 @@ pub const WRITE_PLAIN: u8 = 8;
 pub const WRITE_PICTURE: u8 = 9;
 pub const SUM_RUN: u8 = 10;
 pub const DIFFERENCE_RUN: u8 = 11;
+pub const EQUAL_RUN: u8 = 12;
+pub const LESS_RUN: u8 = 13;
+pub const GREATEST_RUN: u8 = 14;
 
-pub const KINDS: [&str; 12] = [
+pub const KINDS: [&str; 15] = [
     "run",
     "step",
     "pass",
@@ -47,6 +51,9 @@ pub const KINDS: [&str; 12] = [
     "write picture",
     "sum list, then run",
     "difference list, then run",
+    "equal list, then run",
+    "less list, then run",
+    "greatest list, then run",
 ];
 
 pub const BUFFERS: [&str; COUNT] = ["memory", "registers", "list", "items", "out", "file"];
@@ -175,6 +182,12 @@ impl Case {
         self
     }
 
+    /// The memory's bytes from `period` on become those before them, over and over.
+    pub fn repeat(&mut self, period: usize) -> &mut Case {
+        self.patches.push(Patch { target: REPEAT, offset: period as u16, bytes: vec![] });
+        self
+    }
+
     pub fn seal(&mut self, block: usize) -> &mut Case {
         self.patches.push(Patch { target: SEAL, offset: block as u16, bytes: vec![] });
         self
@@ -192,10 +205,15 @@ impl Case {
         if self.kind == PASS || self.kind == WIRED {
             assert!(self.lengths[ITEMS] == 32 && self.lengths[OUT] == 32 && self.p[0] < 256 && self.p[1] < 256);
         }
+        if self.kind == GREATEST_RUN {
+            assert!(self.p[2] == 0 && self.p[3] == 0);
+        }
         assert!(self.patches.len() < 256);
         for patch in &self.patches {
             if patch.target == SEAL {
                 assert!(patch.bytes.is_empty() && (patch.offset as usize) < self.lengths[FILE] as usize / 512);
+            } else if patch.target == REPEAT {
+                assert!(patch.bytes.is_empty() && 32 <= patch.offset && patch.offset <= 8192);
             } else {
                 let end = patch.offset as usize + patch.bytes.len();
                 assert!(end <= self.lengths[patch.target as usize] as usize, "{:?}", self);
@@ -304,6 +322,10 @@ impl Case {
             let offset = patch.offset as usize;
             if patch.target == SEAL {
                 seal(&mut buffers[FILE], offset);
+            } else if patch.target == REPEAT {
+                for i in offset..buffers[MEMORY].len() {
+                    buffers[MEMORY][i] = buffers[MEMORY][i - offset];
+                }
             } else {
                 buffers[patch.target as usize][offset..offset + patch.bytes.len()].copy_from_slice(&patch.bytes);
             }
@@ -311,8 +333,40 @@ impl Case {
         buffers
     }
 
+    /// The search that a case of kinds 12 to 14 asks for.
+    pub fn search(&self) -> Option<emulator::Search> {
+        let number = self.p[2] as u64 + ((self.p[3] as u64) << 32);
+        match self.kind {
+            EQUAL_RUN => Some(emulator::Search::Equal(number)),
+            LESS_RUN => Some(emulator::Search::Less(number)),
+            GREATEST_RUN => Some(emulator::Search::Greatest),
+            _ => None,
+        }
+    }
+
     /// Calls the emulator: the numbers of the answer.
-    pub fn call(&self, buffers: &mut Buffers) -> [u32; NUMBERS] {
+    pub fn call(&self, buffers: &mut Buffers) -> Vec<u32> {
+        if let Some(search) = self.search() {
+            return self.call_search(search, buffers);
+        }
+        self.call_base(buffers).to_vec()
+    }
+
+    /// A search: the builder's three numbers, then the run's five.
+    fn call_search(&self, search: emulator::Search, buffers: &mut Buffers) -> Vec<u32> {
+        let [memory, registers, list, items, _, _] = buffers;
+        let (start, width) = (self.p[0], self.p[1]);
+        let built = emulator::prepare(search, start, width, list.len(), items);
+        let mut words = vec![built.number, built.list, built.items];
+        let run = match built.number {
+            0 => numbers(emulator::run_prepared(search, start, width, memory, registers, items)),
+            _ => [0; NUMBERS],
+        };
+        words.extend(run);
+        words
+    }
+
+    fn call_base(&self, buffers: &mut Buffers) -> [u32; NUMBERS] {
         let [memory, registers, list, items, out, file] = buffers;
         let p = self.p;
         match self.kind {
@@ -355,9 +409,20 @@ impl Case {
 
     pub fn answer(&self) -> Reply {
         let mut buffers = self.make();
-        let mut words = self.call(&mut buffers).to_vec();
+        let mut words = self.call(&mut buffers);
+        if self.search().is_some() {
+            // no document fixes the bytes of a search's list
+            buffers[LIST].drain(..words[1] as usize);
+        }
         words.extend(buffers.iter().map(|b| digest(b)));
         Reply { words }
+    }
+
+    /// The number and the place of its answer: the run's, where a search is built and run.
+    pub fn number_and_place(&self, reply: &Reply) -> (u32, u32) {
+        let at = if self.search().is_some() && reply.words[0] == 0 { 3 } else { 0 };
+        let place = if self.search().is_some() && at == 0 { 0 } else { reply.words[at + 1] };
+        (reply.words[at], place)
     }
 }
 
@@ -489,7 +554,7 @@ mod tests {
         let mut checked = 0;
         let asked: Vec<&str> = lines.iter().copied().filter(|l| l.len() > 70 && l.bytes().all(|c| c.is_ascii_hexdigit())).collect();
         let answered: Vec<&str> = lines.iter().copied().filter(|l| Reply::from_line(l).is_some()).collect();
-        assert_eq!((asked.len(), answered.len()), (4, 4));
+        assert_eq!((asked.len(), answered.len()), (7, 7));
         for (line, reply) in asked.iter().zip(&answered) {
             let case = Case::from_line(line).unwrap();
             case.check();
@@ -497,7 +562,7 @@ mod tests {
             assert_eq!(case.answer().line(), *reply);
             checked += 1;
         }
-        assert_eq!(checked, 4);
+        assert_eq!(checked, 7);
         let mut case = Case::new(RUN, 1);
         case.lengths[LIST] = 8;
         assert_eq!(case.make()[LIST], [0x21, 0x01, 0xc5, 0x4f, 0xd1, 0xd0, 0x1a, 0xb2]);

@@ -4,6 +4,7 @@
 mod case;
 mod plan;
 mod against;
+mod searches;
 mod words;
 
 use case::*;
@@ -11,7 +12,7 @@ use plan::Plan;
 use std::collections::BTreeMap;
 use std::io::{BufRead, BufWriter, Write};
 
-/// The stored files: the planned cases and this many random ones after them.
+/// The stored files: the planned cases and this many random ones of document 01.
 const STORED_SEED: u64 = 1975;
 const STORED_RANDOM: usize = 300;
 
@@ -79,8 +80,7 @@ fn generate(seed: Option<u64>, count: Option<usize>, directory: &str, open_point
     let mut plan = Plan::new(seed.unwrap_or(STORED_SEED));
     plan.open_points = open_points;
     if seed.is_none() && count.is_none() {
-        plan.planned();
-        plan.random_cases(STORED_RANDOM);
+        plan.stored(STORED_RANDOM);
     } else {
         plan.random_cases(count.unwrap_or(2000));
     }
@@ -108,20 +108,22 @@ fn generate(seed: Option<u64>, count: Option<usize>, directory: &str, open_point
 
 /// Counts by kind and by number, for whoever runs it.
 fn count_up(cases: &[Case], replies: &[Reply], asked: usize, answered: usize) {
-    let mut by_kind: BTreeMap<u8, (usize, usize)> = BTreeMap::new();
+    let mut by_kind: BTreeMap<u8, (usize, BTreeMap<u32, usize>)> = BTreeMap::new();
     let mut by_number: BTreeMap<u32, (usize, BTreeMap<u32, usize>)> = BTreeMap::new();
     for (case, reply) in cases.iter().zip(replies) {
+        let (answer, place) = case.number_and_place(reply);
         let kind = by_kind.entry(case.kind).or_default();
         kind.0 += 1;
-        kind.1 += (reply.words[0] == 0) as usize;
-        let number = by_number.entry(reply.words[0]).or_default();
+        *kind.1.entry(answer).or_default() += 1;
+        let number = by_number.entry(answer).or_default();
         number.0 += 1;
-        *number.1.entry(reply.words[1]).or_default() += 1;
+        *number.1.entry(place).or_default() += 1;
     }
     println!("{} cases, {} + {} bytes", cases.len(), asked, answered);
-    println!("kind                        cases   done");
-    for (kind, (all, done)) in by_kind {
-        println!("{:<26} {:>6} {:>6}", KINDS[kind as usize], all, done);
+    println!("kind                        cases   done  refused with");
+    for (kind, (all, numbers)) in by_kind {
+        let refused: Vec<String> = numbers.iter().filter(|n| *n.0 != 0).map(|n| format!("{}: {}", n.0, n.1)).collect();
+        println!("{:<26} {:>6} {:>6}  {}", KINDS[kind as usize], all, numbers.get(&0).unwrap_or(&0), refused.join(", "));
     }
     println!("number  cases  different places");
     for (number, (all, places)) in by_number {

@@ -62,12 +62,12 @@ impl Plan {
         Plan { r: Random::new(seed), cases: vec![], open_points: false }
     }
 
-    fn add(&mut self, case: Case) {
+    pub fn add(&mut self, case: Case) {
         case.check();
         self.cases.push(case);
     }
 
-    fn case(&mut self, kind: u8) -> Case {
+    pub fn case(&mut self, kind: u8) -> Case {
         let seed = (self.r.next() >> 20) as u32 | 1;
         Case::new(kind, seed)
     }
@@ -574,8 +574,17 @@ impl Plan {
         self.write_plain(asked, content, output)
     }
 
-    /// One random case of any family, at times with some buffers of zeros.
-    pub fn random_case(&mut self) -> Case {
+    /// One random case of any family; one in eight is a search.
+    fn random_case(&mut self) -> Case {
+        if self.r.one_in(8) {
+            self.random_search()
+        } else {
+            self.random_base()
+        }
+    }
+
+    /// One random case of document 01, at times with some buffers of zeros.
+    fn random_base(&mut self) -> Case {
         let mut case = self.random_family();
         if self.r.one_in(8) {
             let k = self.r.of(&[MEMORY, REGISTERS, ITEMS, OUT, FILE]);
@@ -619,7 +628,18 @@ impl Plan {
 
     // ---- the planned cases
 
-    pub fn planned(&mut self) {
+    /// The stored cases: those of document 01, planned and this many random ones, then the searches. What
+    /// a later document adds stands behind, so that the cases before it stay.
+    pub fn stored(&mut self, random: usize) {
+        self.planned();
+        for _ in 0..random {
+            let case = self.random_base();
+            self.add(case);
+        }
+        self.all_searches();
+    }
+
+    fn planned(&mut self) {
         self.examples();
         self.all_passes();
         self.all_steps();

@@ -1,6 +1,8 @@
 //! A case and a difference in words.
 
 use crate::case::*;
+use crate::searches::{room, values};
+use std::collections::BTreeMap;
 use std::fmt::Write;
 
 const DID: [&str; 6] = ["logic", "set M", "store", "masked store", "deliver", "resolve"];
@@ -54,6 +56,7 @@ pub fn describe(case: &Case) -> String {
             }
         }
         WRITE_PLAIN => writeln!(t, "kind asked {}", p[0]).unwrap(),
+        EQUAL_RUN | LESS_RUN | GREATEST_RUN => describe_search(&mut t, case),
         _ => {}
     }
     for k in 0..COUNT {
@@ -86,6 +89,7 @@ pub fn describe(case: &Case) -> String {
         let at = patch.offset as usize;
         match patch.target {
             SEAL => writeln!(t, "then block {} is sealed", at).unwrap(),
+            REPEAT => writeln!(t, "then the memory repeats its first {} bytes", at).unwrap(),
             k if k as usize == LIST && (case.kind == RUN || case.kind == STEP) && at % 8 == 0 => {
                 writeln!(t, "patch: list from instruction {} on, {} bytes", at / 8, patch.bytes.len()).unwrap()
             }
@@ -96,6 +100,33 @@ pub fn describe(case: &Case) -> String {
         }
     }
     t
+}
+
+fn describe_search(t: &mut String, case: &Case) {
+    let p = case.p;
+    writeln!(t, "the field starts at {}, width {}", p[0], p[1]).unwrap();
+    if case.kind != GREATEST_RUN {
+        writeln!(t, "the number is {}", p[2] as u64 + ((p[3] as u64) << 32)).unwrap();
+    }
+    if p[1] < 1 || p[1] > 64 {
+        return;
+    }
+    let (list, items) = room(case.kind, p[1]);
+    writeln!(t, "the list wants {} bytes, the items {}", list, items).unwrap();
+    if p[0] > 256 - p[1] || case.lengths[MEMORY] != 8192 || case.lengths[REGISTERS] != 96 {
+        return;
+    }
+    let marked = emulator::bits::unpack(&case.make()[REGISTERS][64..]);
+    let mut words: BTreeMap<u64, (usize, usize)> = BTreeMap::new();
+    for (word, value) in values(case).into_iter().enumerate() {
+        let count = words.entry(value).or_default();
+        count.0 += 1;
+        count.1 += marked[word] as usize;
+    }
+    writeln!(t, "{} different values, the greatest first:", words.len()).unwrap();
+    for (value, (all, marked)) in words.into_iter().rev().take(20) {
+        writeln!(t, "  {} in {} words, {} of them marked in Y", value, all, marked).unwrap();
+    }
 }
 
 pub fn differences(one: &str, x: Option<&str>, other: &str, y: Option<&str>) -> String {
@@ -110,12 +141,14 @@ pub fn differences(one: &str, x: Option<&str>, other: &str, y: Option<&str>) -> 
             return t;
         }
     };
-    const NAMES: [&str; NUMBERS] = ["number", "place", "steps, count or bytes", "taken", "given"];
+    const BASE: &[&str] = &["number", "place", "steps, count or bytes", "taken", "given"];
+    const SEARCH: &[&str] = &["builder's number", "bytes of the list", "bytes of the items", "run's number", "place", "steps", "taken", "given"];
     let numbers = a.len() - COUNT;
+    let names = if numbers == SEARCH.len() { SEARCH } else { BASE };
     for k in 0..a.len() {
         if a[k] != b[k] {
             if k < numbers {
-                let name = NAMES.get(k).copied().unwrap_or("a further number");
+                let name = names.get(k).copied().unwrap_or("a further number");
                 writeln!(t, "{}: {} against {}", name, a[k], b[k]).unwrap();
             } else {
                 writeln!(t, "buffer {} ({}) differs afterwards", k - numbers, BUFFERS[k - numbers]).unwrap();
