@@ -21,7 +21,7 @@
  *   run at once. Nothing throws, and nothing is called back.
  * - "Stack" is how many bytes of stack a call needs at most below its caller. tests/c/run measures it; docs/PERFORMANCE.md has counts.
  * - The calling convention is C's own on x86-64 Linux (System V): a compiler that reads this header follows it. From another language,
- *   each parameter below is one of size_t, uint8_t, uint32_t or a pointer, in the order in which it stands, in the registers rdi,
+ *   each parameter below is one of size_t, uint8_t, uint32_t, uint64_t or a pointer, in the order in which it stands, in the registers rdi,
  *   rsi, rdx, rcx, r8 and r9, then on the stack; staran_version gives its number in eax.
  *
  * ITEMS, MEMORY, REGISTERS
@@ -66,7 +66,7 @@ extern "C" {
 
 /* The version of this header, and the linked library's: see staran_version. */
 #define STARAN_VERSION_MAJOR 1
-#define STARAN_VERSION_MINOR 0
+#define STARAN_VERSION_MINOR 1
 #define STARAN_VERSION (STARAN_VERSION_MAJOR * UINT32_C(65536) + STARAN_VERSION_MINOR)
 
 /* Lengths in bytes. */
@@ -81,14 +81,22 @@ extern "C" {
 #define STARAN_SUM_LIST_BYTES(n) (8 * (1 + 5 * (size_t)(n)))
 #define STARAN_DIFFERENCE_LIST_BYTES(n) (8 * (2 + 5 * (size_t)(n)))
 
+/* The lengths of a search over a field of width n, 1 to 64: of the list for equal and of the one for less, of the items of either, and
+ * of the list for greatest, which has no items. */
+#define STARAN_SEARCH_LIST_BYTES(n) (8 * (2 + 3 * (size_t)(n)))
+#define STARAN_SEARCH_ITEMS_BYTES(n) (32 * (size_t)(n))
+#define STARAN_GREATEST_LIST_BYTES(n) (8 * (1 + 11 * (size_t)(n)))
+
 /* The length of the blocks of a list or of items of n bytes, n at most 32,768: a block has 496 bytes of payload, and no content takes
  * one block. */
 #define STARAN_FILE_BYTES(n) ((n) == 0 ? (size_t)512 : 512 * (((size_t)(n) + 495) / 496))
 
-/* How many numbers an answer has: of a run or a step, of reading or writing, of a list's builder, of a pass. */
+/* How many numbers an answer has: of a run or a step, of reading or writing, of a list's builder, of a builder of a list with its
+ * items, of a pass. */
 #define STARAN_RUN_NUMBERS 5
 #define STARAN_DISK_NUMBERS 3
 #define STARAN_LIST_NUMBERS 2
+#define STARAN_LIST_AND_ITEMS_NUMBERS 3
 #define STARAN_PASS_NUMBERS 1
 
 /* Kinds of content on disk. */
@@ -129,6 +137,7 @@ enum {
 enum {
     STARAN_FUNCTION_CLEAR = 0,    /* 0 */
     STARAN_FUNCTION_NOT_OLD = 3,  /* not old */
+    STARAN_FUNCTION_WITHOUT = 4,  /* old and not item */
     STARAN_FUNCTION_NOT_ITEM = 5, /* not item */
     STARAN_FUNCTION_XOR = 6,      /* one of old and item, and not both */
     STARAN_FUNCTION_AND = 8,      /* old and item */
@@ -267,6 +276,46 @@ void staran_sum_list(uint32_t a, uint32_t b, uint32_t s, uint32_t n, uint8_t *li
  * Stack: at most 128 bytes. */
 void staran_difference_list(uint32_t a, uint32_t b, uint32_t s, uint32_t n, uint8_t *list, size_t list_length,
                             uint32_t answer[STARAN_LIST_NUMBERS]);
+
+/* Builds the list of instructions, and its items, that, run, mark in Y exactly the words whose field is equal to a number: of all 256
+ * words, whatever M, X and Y hold before. X then has the same marks; M, the memory and the out buffer are as they were.
+ *
+ * start     the start of the field, the number of its least significant bit: any number of 32 bits
+ * n         its width: any number of 32 bits
+ * number    any number of 64 bits
+ * list      any length; the list has 8 * (2 + 3n) bytes
+ * items     any length; the items have 32n bytes: item k has bit k of the number on every line
+ * answer    number, count of bytes written to list, count of bytes written to items
+ *
+ * Judged: 30 (n is not 1 to 64); 31 (start + n is over 256, as whole numbers); 34 (number is 2^n or more); 33 (list_length is under
+ * 8 * (2 + 3n), or items_length under 32n).
+ * Done: the first bytes of list are the list and the first bytes of items its items, the counts are their lengths, and the bytes past
+ * them stay. Refused: both counts are 0, and list and items are as they were.
+ * To run it, lend staran_run both: the list takes the first n items, in their order. Items behind those are no fault. The list depends
+ * on the field alone and the items on the number and the width alone, so one list serves every number.
+ * Stack: at most 256 bytes. */
+void staran_equal_list(uint32_t start, uint32_t n, uint64_t number, uint8_t *list, size_t list_length, uint8_t *items,
+                       size_t items_length, uint32_t answer[STARAN_LIST_AND_ITEMS_NUMBERS]);
+
+/* The same for the words whose field is less than the number, both as whole numbers with no sign.
+ * Stack: at most 256 bytes. */
+void staran_less_list(uint32_t start, uint32_t n, uint64_t number, uint8_t *list, size_t list_length, uint8_t *items,
+                      size_t items_length, uint32_t answer[STARAN_LIST_AND_ITEMS_NUMBERS]);
+
+/* Builds the list of instructions that, run, leaves marked in Y, of the words that are marked there before, exactly those whose field
+ * holds the greatest value: all of them where several do, and none where none is marked. X is then 0; M, the memory and the out buffer
+ * are as they were. It takes no items.
+ *
+ * start     the start of the field: any number of 32 bits
+ * n         its width: any number of 32 bits
+ * list      any length; the list has 8 * (1 + 11n) bytes
+ * answer    number, count of bytes written
+ *
+ * Judged: 30 (n is not 1 to 64); 31 (start + n is over 256, as whole numbers); 33 (list_length is under 8 * (1 + 11n)).
+ * Done: the first bytes of list are the list, the count is its length, and the bytes past it stay. Refused: the count is 0 and list is
+ * as it was.
+ * Stack: at most 256 bytes. */
+void staran_greatest_list(uint32_t start, uint32_t n, uint8_t *list, size_t list_length, uint32_t answer[STARAN_LIST_NUMBERS]);
 
 /* Reads the blocks of a list or of items.
  *

@@ -55,14 +55,18 @@ enum {
     STARAN_REFUSED_LENT_LENGTH = 26,
     /* writing: the output is shorter than the blocks */
     STARAN_REFUSED_OUTPUT_TOO_SHORT = 27,
-    /* sum and difference lists: the width n is not 1 to 64 */
+    /* builders of lists: the width n is not 1 to 64 */
     STARAN_REFUSED_WIDTH = 30,
-    /* sum and difference lists: a start plus the width is over 256 */
+    /* builders of lists: a start plus the width is over 256 */
     STARAN_REFUSED_FIELD_BEYOND = 31,
     /* sum and difference lists: S overlaps A or B without having its start */
     STARAN_REFUSED_FIELDS_CROSS = 32,
-    /* sum and difference lists: the list buffer is under 8(1 + 5n) bytes, or for a difference 8(2 + 5n) */
-    STARAN_REFUSED_LIST_TOO_SHORT = 33
+    /* builders of lists: the list buffer is under 8(1 + 5n) bytes for a sum, 8(2 + 5n) for a difference, 8(2 + 3n)
+       for a search for equal or less, 8(1 + 11n) for greatest; or the items buffer is under 32n bytes, for equal or
+       less */
+    STARAN_REFUSED_LIST_TOO_SHORT = 33,
+    /* searches for equal and less: the number is 2^n or more, n being the width */
+    STARAN_REFUSED_NUMBER_TOO_LARGE = 34
 };
 
 /* What a number means, in words: when it is given. A number that is never given has a sentence too; the pointer is never null.
@@ -125,7 +129,11 @@ static inline const char *staran_meaning(uint32_t number)
     case STARAN_REFUSED_FIELDS_CROSS:
         return "S overlaps A or B without having its start";
     case STARAN_REFUSED_LIST_TOO_SHORT:
-        return "the list buffer is under 8(1 + 5n) bytes, or for a difference 8(2 + 5n)";
+        return "the list buffer is under 8(1 + 5n) bytes for a sum, 8(2 + 5n) for a difference, 8(2 + 3n) for a "
+               "search for equal or less, 8(1 + 11n) for greatest; or the items buffer is under 32n bytes, for equal"
+               " or less";
+    case STARAN_REFUSED_NUMBER_TOO_LARGE:
+        return "the number is 2^n or more, n being the width";
     default:
         return "no such number is ever given";
     }
