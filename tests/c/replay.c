@@ -141,9 +141,6 @@ static int make_buffers(const outside_case *c, int end)
     return 1;
 }
 
-/* A buffer and its length, as two arguments. */
-#define WHOLE(k) buffers[k].bytes, buffers[k].length
-
 /* The entry that the case names. Its answer is put to words 0 to 4, and bit k of what is given back is set where buffer k was lent for writing. */
 static unsigned call(const outside_case *c, int end, uint32_t words[WORDS])
 {
