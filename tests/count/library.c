@@ -9,12 +9,19 @@
 #include <string.h>
 
 enum { WIDTH = 32, LIST = 8192, MANY = 4096, LONGEST = STARAN_INSTRUCTION_BYTES * MANY };
+static const uint64_t NUMBER = 0x5A3C96E1;
 
 static uint8_t memory[STARAN_MEMORY_BYTES], registers[STARAN_REGISTERS_BYTES], out[STARAN_ITEM_BYTES];
 static uint8_t list[STARAN_SUM_LIST_BYTES(WIDTH)], many[LONGEST], content[LIST], target[LIST], file[STARAN_FILE_BYTES(LIST)], picture[STARAN_PICTURE_FILE_BYTES];
+static uint8_t equal[STARAN_SEARCH_LIST_BYTES(WIDTH)], less[STARAN_SEARCH_LIST_BYTES(WIDTH)], greatest[STARAN_GREATEST_LIST_BYTES(WIDTH)];
+static uint8_t searched[STARAN_SEARCH_ITEMS_BYTES(WIDTH)]; /* the items of equal and of less: the same number */
 static staran_registers record;
 static uint8_t item[32], passed[32];
 static uint32_t answer[5];
+
+static void equal_list(void) { staran_equal_list(0, WIDTH, NUMBER, equal, sizeof equal, searched, sizeof searched, answer); }
+static void less_list(void) { staran_less_list(0, WIDTH, NUMBER, less, sizeof less, searched, sizeof searched, answer); }
+static void greatest_list(void) { staran_greatest_list(0, WIDTH, greatest, sizeof greatest, answer); }
 
 /* What the calls start from: no two neighbouring bytes are alike, and the files are whole. */
 static void prepare(void)
@@ -26,6 +33,9 @@ static void prepare(void)
     memcpy(registers, content, sizeof registers);
     memcpy(item, content + 7, sizeof item);
     staran_sum_list(0, 32, 64, WIDTH, list, sizeof list, answer);
+    equal_list();
+    less_list();
+    greatest_list();
     for (size_t i = 0; i < sizeof many; i++)
         many[i] = list[i % sizeof list];
     many[sizeof many - 1] = 0x50; /* a choice over 4, or byte 7 of a store: 11 in any kind */
@@ -45,6 +55,11 @@ static size_t prepare_list(const char *digits, size_t count)
 static void run(const uint8_t *instructions, size_t length)
 {
     staran_run(memory, sizeof memory, registers, sizeof registers, instructions, length, item, 0, out, sizeof out, answer);
+}
+
+static void run_search(const uint8_t *instructions, size_t length)
+{
+    staran_run(memory, sizeof memory, registers, sizeof registers, instructions, length, searched, sizeof searched, out, sizeof out, answer);
 }
 
 static void pass(uint8_t flip, uint8_t code) { staran_pass(item, flip, code, passed, answer); }
@@ -70,6 +85,18 @@ static int call(const char *name, size_t length)
         staran_sum_list(0, 32, 64, WIDTH, list, sizeof list, answer);
     else if (strcmp(name, "run-sum") == 0)
         run(list, sizeof list);
+    else if (strcmp(name, "equal-list") == 0)
+        equal_list();
+    else if (strcmp(name, "run-equal") == 0)
+        run_search(equal, sizeof equal);
+    else if (strcmp(name, "less-list") == 0)
+        less_list();
+    else if (strcmp(name, "run-less") == 0)
+        run_search(less, sizeof less);
+    else if (strcmp(name, "greatest-list") == 0)
+        greatest_list();
+    else if (strcmp(name, "run-greatest") == 0)
+        run(greatest, sizeof greatest);
     else if (strcmp(name, "list") == 0)
         run(many, length);
     else if (strcmp(name, "judge") == 0)
