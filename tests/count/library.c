@@ -62,6 +62,24 @@ static void run_search(const uint8_t *instructions, size_t length)
     staran_run(memory, sizeof memory, registers, sizeof registers, instructions, length, searched, sizeof searched, out, sizeof out, answer);
 }
 
+static void run_equal(void) { run_search(equal, sizeof equal); }
+static void run_less(void) { run_search(less, sizeof less); }
+static void run_greatest(void) { run(greatest, sizeof greatest); }
+
+/* A search's call by its name, NULL where there is none: it is looked up once, before the calls that are counted. */
+static void (*search_named(const char *name))(void)
+{
+    static const struct {
+        const char *name;
+        void (*call)(void);
+    } searches[] = {{"equal-list", equal_list}, {"run-equal", run_equal}, {"less-list", less_list}, {"run-less", run_less},
+                    {"greatest-list", greatest_list}, {"run-greatest", run_greatest}};
+    for (size_t i = 0; i < sizeof searches / sizeof *searches; i++)
+        if (strcmp(name, searches[i].name) == 0)
+            return searches[i].call;
+    return NULL;
+}
+
 static void pass(uint8_t flip, uint8_t code) { staran_pass(item, flip, code, passed, answer); }
 
 static void read_list(size_t length)
@@ -69,6 +87,7 @@ static void read_list(size_t length)
     staran_read_content(STARAN_CONTENT_LIST, file, length, target, sizeof target, answer);
 }
 
+/* Every other call, by its name at each: some 25 instructions for each name before it, which the figures of these calls have always had. */
 static int call(const char *name, size_t length)
 {
     if (strcmp(name, "pass-both") == 0)
@@ -85,18 +104,6 @@ static int call(const char *name, size_t length)
         staran_sum_list(0, 32, 64, WIDTH, list, sizeof list, answer);
     else if (strcmp(name, "run-sum") == 0)
         run(list, sizeof list);
-    else if (strcmp(name, "equal-list") == 0)
-        equal_list();
-    else if (strcmp(name, "run-equal") == 0)
-        run_search(equal, sizeof equal);
-    else if (strcmp(name, "less-list") == 0)
-        less_list();
-    else if (strcmp(name, "run-less") == 0)
-        run_search(less, sizeof less);
-    else if (strcmp(name, "greatest-list") == 0)
-        greatest_list();
-    else if (strcmp(name, "run-greatest") == 0)
-        run(greatest, sizeof greatest);
     else if (strcmp(name, "list") == 0)
         run(many, length);
     else if (strcmp(name, "judge") == 0)
@@ -130,8 +137,11 @@ int main(int count, char **words)
     prepare();
     if (count == 5)
         length = prepare_list(words[3], (size_t)atoi(words[4]));
+    void (*search)(void) = search_named(words[2]);
     for (int times = atoi(words[1]); times > 0; times--)
-        if (!call(words[2], length)) {
+        if (search != NULL)
+            search();
+        else if (!call(words[2], length)) {
             fputs("no such call\n", stderr);
             return 2;
         }
