@@ -1,91 +1,15 @@
-/* Calls every function of the library with good and bad lengths, kinds and codes. Each check is one call: its numbers, every byte of every buffer
- * afterwards, and the bytes around each buffer are held to what the header says. */
+/* Calls every function of the library with good and bad lengths, kinds, codes, widths and numbers, and holds each call to what the header says. */
 #define _DEFAULT_SOURCE
 #include "lengths.h"
 
+#include "checks.h"
 #include "lent.h"
 #include "model.h"
 #include "staran.h"
 
-#include <stdarg.h>
 #include <stdio.h>
 #include <string.h>
 #include <sys/mman.h>
-
-#define COUNT(array) (sizeof(array) / sizeof *(array))
-#define WHOLE(k) buffers[k].bytes, buffers[k].length
-
-static unsigned long passed, failed, passed_before, failed_before;
-static int right;
-
-/* Names the check that follows; where the call breaks off, this name is said. */
-static void check(const char *format, ...)
-{
-    va_list words;
-    va_start(words, format);
-    vsnprintf(calling, sizeof calling, format, words);
-    va_end(words);
-    right = 1;
-}
-
-static void wrong(const char *what)
-{
-    printf("FAIL %s: %s\n", calling, what);
-    right = 0;
-}
-
-static void count(void)
-{
-    if (right)
-        passed++;
-    else
-        failed++;
-}
-
-/* The answer must be these numbers. */
-static void answered(const uint32_t *answer, size_t n, const uint32_t *expected)
-{
-    char said[200];
-    int at = snprintf(said, sizeof said, "answers");
-    if (memcmp(answer, expected, 4 * n) == 0)
-        return;
-    for (size_t i = 0; i < n; i++)
-        at += snprintf(said + at, sizeof said - (size_t)at, " %u", (unsigned)answer[i]);
-    at += snprintf(said + at, sizeof said - (size_t)at, ", not");
-    for (size_t i = 0; i < n; i++)
-        at += snprintf(said + at, sizeof said - (size_t)at, " %u", (unsigned)expected[i]);
-    wrong(said);
-}
-
-/* Closes a check: the answer, every buffer, and the bytes around each. */
-static void settle(const uint32_t *answer, size_t n, const uint32_t *expected)
-{
-    char said[100];
-    answered(answer, n, expected);
-    memcpy(buffers[ANSWER].expected, answer, 4 * n);
-    for (int k = 0; k < BUFFERS; k++) {
-        snprintf(said, sizeof said, "%s of %zu bytes", buffers[k].name, buffers[k].length);
-        if (!as_expected(k))
-            strcat(said, " is not as it must be"), wrong(said);
-        else if (!guarded(k))
-            strcat(said, ": a byte beside it was written"), wrong(said);
-    }
-    count();
-}
-
-/* Prints what one function passed and failed. */
-static void function(const char *name)
-{
-    printf("%-16s %6lu passed, %lu failed\n", name, passed - passed_before, failed - failed_before);
-    passed_before = passed;
-    failed_before = failed;
-}
-
-static void nothing_lent(int end)
-{
-    for (int k = 0; k < BUFFERS; k++)
-        lend(k, 0, end);
-}
 
 /* ---- run and step: every instruction delivers an item from outside, so that the lengths alone decide */
 
@@ -314,6 +238,98 @@ static void builder_lengths(const char *name, builder *build, int lead)
                 build_once(name, build, lead, p, tried[t], (int)(i % 2));
         }
     function(name);
+}
+
+/* ---- searches: the same around every edge, numbers around 2^n, and both buffers */
+
+typedef void searcher(uint32_t, uint32_t, uint64_t, uint8_t *, size_t, uint8_t *, size_t, uint32_t *);
+
+static const uint32_t search_widths[] = {0, 1, 2, 31, 32, 63, 64, 65, 0x80000000u, 0xFFFFFFFFu};
+
+/* Starts around those that a width allows, and those at which start and width are 0, 255 or 256 modulo 2^32. */
+static uint32_t search_start(uint32_t n, size_t i)
+{
+    const uint32_t starts[] = {0, 192, 193, 255, 256, 0xFFFFFFFFu, 256 - n, 257 - n, 255 - n, 0 - n};
+    return starts[i];
+}
+enum { STARTS = 10 };
+
+/* Numbers around 2^n, and the largest of 64 bits; where 2^n is none of these, 0 and the largest stand for it. */
+static uint64_t search_number(uint32_t n, size_t i)
+{
+    const uint64_t power = n < 64 ? (uint64_t)1 << n : 0;
+    const uint64_t numbers[] = {0, 1, power - 1, power, (uint64_t)1 << 63, UINT64_MAX};
+    return numbers[i];
+}
+enum { NUMBERS = 6 };
+
+/* Lengths around the one that is needed; SIZE_MAX stands behind the last. */
+static size_t around(size_t need, size_t i)
+{
+    const size_t tried[] = {0, need - (need > 0), need, need + 1, 65536, SIZE_MAX};
+    return tried[i];
+}
+
+static void search_once(const char *name, searcher *build, int less, uint32_t start, uint32_t n, uint64_t number, size_t list, size_t items, int end)
+{
+    uint32_t expected[3] = {0, 0, 0}, *answer;
+    check("%s: start %u, width %u, number %llu, list %zu, items %zu", name, (unsigned)start, (unsigned)n, (unsigned long long)number, list, items);
+    nothing_lent(end);
+    lend(LIST, list, end);
+    lend(ITEMS, items, end);
+    expected[0] = model_search(less, start, n, number, buffers[LIST].expected, list, buffers[ITEMS].expected, items);
+    if (expected[0] == 0)
+        expected[1] = 8 * (2 + 3 * n), expected[2] = 32 * n;
+    answer = lend_answer(3, end);
+    build(start, n, number, WHOLE(LIST), WHOLE(ITEMS), answer);
+    settle(answer, 3, expected);
+}
+
+/* Every width at lengths that are good; then some widths with every start and number, and every pair of lengths. */
+static void search_lengths(const char *name, searcher *build, int less)
+{
+    for (uint32_t n = 0; n <= 65; n++)
+        for (size_t i = 0; i < NUMBERS * ENDS; i++)
+            search_once(name, build, less, 256 - n, n, search_number(n, i / ENDS), STARAN_SEARCH_LIST_BYTES(n), STARAN_SEARCH_ITEMS_BYTES(n), (int)(i % ENDS));
+    for (size_t w = 0; w < COUNT(search_widths); w++) {
+        uint32_t n = search_widths[w];
+        size_t list = STARAN_SEARCH_LIST_BYTES(n <= 256 ? n : 64), items = STARAN_SEARCH_ITEMS_BYTES(n <= 256 ? n : 64);
+        for (size_t i = 0; i < STARTS * NUMBERS; i++)
+            for (size_t l = 0; around(list, l) != SIZE_MAX; l++)
+                for (size_t k = 0; around(items, k) != SIZE_MAX; k++)
+                    search_once(name, build, less, search_start(n, i % STARTS), n, search_number(n, i / STARTS), around(list, l), around(items, k),
+                                (int)((w + i + i / STARTS + l + k) % ENDS));
+    }
+    function(name);
+}
+
+static void greatest_once(uint32_t start, uint32_t n, size_t list, int end)
+{
+    uint32_t expected[2] = {0, 0}, *answer;
+    check("greatest_list: start %u, width %u, list %zu", (unsigned)start, (unsigned)n, list);
+    nothing_lent(end);
+    lend(LIST, list, end);
+    expected[0] = model_greatest(start, n, buffers[LIST].expected, list);
+    if (expected[0] == 0)
+        expected[1] = 8 * (1 + 11 * n);
+    answer = lend_answer(2, end);
+    staran_greatest_list(start, n, WHOLE(LIST), answer);
+    settle(answer, 2, expected);
+}
+
+static void greatest_lengths(void)
+{
+    for (uint32_t n = 0; n <= 65; n++)
+        for (size_t i = 0; i < STARTS * ENDS; i++)
+            greatest_once(search_start(n, i / ENDS), n, STARAN_GREATEST_LIST_BYTES(n), (int)(i % ENDS));
+    for (size_t w = 0; w < COUNT(search_widths); w++) {
+        uint32_t n = search_widths[w];
+        size_t list = STARAN_GREATEST_LIST_BYTES(n <= 256 ? n : 64);
+        for (size_t i = 0; i < STARTS * ENDS; i++)
+            for (size_t l = 0; around(list, l) != SIZE_MAX; l++)
+                greatest_once(search_start(n, i / ENDS), n, around(list, l), (int)(i % ENDS));
+    }
+    function("greatest_list");
 }
 
 /* ---- disk: kinds, file lengths, targets, damaged blocks */
@@ -545,6 +561,15 @@ static void refused_long(uint8_t *far, size_t long_by)
     LONG_CALL(write_content(STARAN_CONTENT_LIST, far, long_by + 8, WHOLE(OUT), answer), 3, 26);
     LONG_CALL(write_picture(STARAN_CONTENT_PICTURE, far, long_by + 8192, WHOLE(REGISTERS), WHOLE(OUT), answer), 3, 26);
     LONG_CALL(write_picture(STARAN_CONTENT_PICTURE, WHOLE(MEMORY), far, long_by + 96, WHOLE(OUT), answer), 3, 26);
+    lend(ITEMS, 2047, LAST);
+    LONG_CALL(equal_list(0, 65, 0, far, long_by, WHOLE(ITEMS), answer), 3, 30);
+    LONG_CALL(equal_list(0, 64, 0, far, long_by + 1552, WHOLE(ITEMS), answer), 3, 33);
+    LONG_CALL(less_list(0, 64, 0, far, long_by + 1552, WHOLE(ITEMS), answer), 3, 33);
+    lend(LIST, 1551, LAST);
+    LONG_CALL(equal_list(0, 63, (uint64_t)1 << 63, WHOLE(LIST), far, long_by, answer), 3, 34);
+    LONG_CALL(equal_list(0, 64, 0, WHOLE(LIST), far, long_by + 2048, answer), 3, 33);
+    LONG_CALL(less_list(0, 64, 0, WHOLE(LIST), far, long_by + 2048, answer), 3, 33);
+    LONG_CALL(greatest_list(193, 64, far, long_by + 5640, answer), 2, 31);
     lend_bytes(FILE_BYTES, file, make_file(STARAN_CONTENT_PICTURE, 8288), LAST);
     LONG_CALL(read_picture(STARAN_CONTENT_PICTURE, WHOLE(FILE_BYTES), far, long_by + 8192, WHOLE(REGISTERS), answer), 3, 26);
     LONG_CALL(read_picture(STARAN_CONTENT_PICTURE, WHOLE(FILE_BYTES), WHOLE(MEMORY), far, long_by + 96, answer), 3, 26);
@@ -563,6 +588,34 @@ static void written_long(uint8_t *far, size_t long_by, const uint8_t *expected, 
         wrong("the long buffer is not as it must be");
     count();
     memset(far, 0, 65536);
+}
+
+/* The searches with a long list, and with long items; the other buffer is of the very length. */
+static void searched_long(uint8_t *far, size_t long_by, uint8_t *made)
+{
+    const uint64_t number = UINT64_C(0xFEDCBA9876543210);
+    for (int less = 0; less < 2; less++) {
+        lend(LIST, 0, LAST);
+        lend(ITEMS, 2048, LAST);
+        model_search(less, 192, 64, number, made, 1552, buffers[ITEMS].expected, 2048);
+        if (less)
+            LONG_CALL(less_list(192, 64, number, far, long_by, WHOLE(ITEMS), answer), 3, 0, 1552, 2048);
+        else
+            LONG_CALL(equal_list(192, 64, number, far, long_by + 1551, WHOLE(ITEMS), answer), 3, 0, 1552, 2048);
+        written_long(far, long_by, made, 1552);
+        lend(LIST, 1552, LAST);
+        lend(ITEMS, 0, LAST);
+        model_search(less, 192, 64, number, buffers[LIST].expected, 1552, made, 2048);
+        if (less)
+            LONG_CALL(less_list(192, 64, number, WHOLE(LIST), far, long_by, answer), 3, 0, 1552, 2048);
+        else
+            LONG_CALL(equal_list(192, 64, number, WHOLE(LIST), far, long_by + 2047, answer), 3, 0, 1552, 2048);
+        written_long(far, long_by, made, 2048);
+    }
+    lend(LIST, 0, LAST);
+    model_greatest(192, 64, made, 5640);
+    LONG_CALL(greatest_list(192, 64, far, long_by + 5639, answer), 2, 0, 5640);
+    written_long(far, long_by, made, 5640);
 }
 
 /* Where any length will do, a long one is no refusal. */
@@ -598,6 +651,7 @@ static void done_long(uint8_t *far, size_t long_by)
     model_list(2, 0, 64, 128, 64, made, 2576);
     LONG_CALL(difference_list(0, 64, 128, 64, far, long_by + 2575, answer), 2, 0, 2576);
     written_long(far, long_by, made, 2576);
+    searched_long(far, long_by, made);
 }
 
 static void long_lengths(void)
@@ -626,12 +680,14 @@ int lengths(void)
     pass_codes("wired_pass", staran_wired_pass);
     builder_lengths("sum_list", staran_sum_list, 1);
     builder_lengths("difference_list", staran_difference_list, 2);
+    search_lengths("equal_list", staran_equal_list, 0);
+    search_lengths("less_list", staran_less_list, 1);
+    greatest_lengths();
     read_lengths();
     read_picture_lengths();
     damaged_blocks();
     write_lengths();
     write_picture_lengths();
     long_lengths();
-    printf("%lu passed, %lu failed\n", passed, failed);
-    return failed != 0;
+    return counted();
 }

@@ -24,6 +24,9 @@ enum { LONGEST = 70000 };
 enum { MEMORY, REGISTERS, LIST, ITEMS, OUT, FILE_BYTES, ANSWER, BUFFERS };
 extern lent buffers[BUFFERS];
 
+/* A buffer and its length, as two arguments. */
+#define WHOLE(k) buffers[k].bytes, buffers[k].length
+
 /* Makes the rooms. What is being called is kept by name: touching a byte outside every room ends the driver with that name. */
 void make_rooms(void);
 extern char calling[256];

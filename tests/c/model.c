@@ -59,6 +59,51 @@ unsigned model_list(int lead, uint32_t a, uint32_t b, uint32_t s, uint32_t n, ui
     return 0;
 }
 
+unsigned model_search(int less, uint32_t start, uint32_t n, uint64_t number, uint8_t *list, size_t list_length, uint8_t *items, size_t items_length)
+{
+    size_t at = 0;
+    if (n < 1 || n > 64)
+        return 30;
+    if ((uint64_t)start + n > 256)
+        return 31;
+    if (n != 64 && number >= (uint64_t)1 << n)
+        return 34;
+    if (list_length < 8 * (2 + 3 * (size_t)n) || items_length < 32 * (size_t)n)
+        return 33;
+    at = put(list, at, 0, 2, -1, less ? 0x00 : 0x0F);
+    for (uint32_t k = 0; k < n; k++) {
+        at = put(list, at, 0, 4, -1, 0x1A);
+        at = put(list, at, 0, 0, (int)(start + k), 0x16);
+        at = less ? put(list, at, 0, 0, (int)(start + k), 0x35) : put(list, at, 0, 2, -1, 0x30);
+    }
+    put(list, at, 0, 2, -1, 0x1A);
+    for (size_t i = 0; i < 256 * (size_t)n; i++)
+        set(items, i, number >> i / 256 & 1);
+    return 0;
+}
+
+unsigned model_greatest(uint32_t start, uint32_t n, uint8_t *list, size_t list_length)
+{
+    size_t at = 0;
+    if (n < 1 || n > 64)
+        return 30;
+    if ((uint64_t)start + n > 256)
+        return 31;
+    if (list_length < 8 * (1 + 11 * (size_t)n))
+        return 33;
+    at = put(list, at, 0, 2, -1, 0x00);
+    for (uint32_t k = 1; k <= n; k++) {
+        at = put(list, at, 0, 0, (int)(start + n - k), 0x3A);
+        for (unsigned flip = 1; flip <= 128; flip *= 2) {
+            at = put(list, at, 0, 2, -1, 0x0E);
+            list[at - 3] = (uint8_t)flip;
+        }
+        at = put(list, at, 0, 0, (int)(start + n - k), 0x04);
+        at = put(list, at, 0, 2, -1, 0x24);
+    }
+    return 0;
+}
+
 static uint32_t two(const uint8_t *b) { return b[0] + 256u * b[1]; }
 
 static void put_two(uint8_t *b, size_t n)

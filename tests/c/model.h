@@ -11,6 +11,12 @@ int model_pass(const uint8_t item[32], uint8_t flip, uint8_t code, uint8_t passe
 /* The number of a list's refusal, or 0 and the list: `lead` is 1 for a sum, 2 for a difference. */
 unsigned model_list(int lead, uint32_t a, uint32_t b, uint32_t s, uint32_t n, uint8_t *list, size_t list_length);
 
+/* The number of a search's refusal, or 0, the list and its items: `less` is 0 for equal. */
+unsigned model_search(int less, uint32_t start, uint32_t n, uint64_t number, uint8_t *list, size_t list_length, uint8_t *items, size_t items_length);
+
+/* The number of a refusal, or 0 and the list for greatest. */
+unsigned model_greatest(uint32_t start, uint32_t n, uint8_t *list, size_t list_length);
+
 /* The blocks of a content, and their length. */
 size_t model_blocks(size_t kind, const uint8_t *content, size_t content_length, uint8_t *file);
 

@@ -8,7 +8,8 @@
 #include <stdlib.h>
 #include <string.h>
 
-enum { RECORD = 1000, NUMBERS = 5, COUNT = 6, WORDS = NUMBERS + COUNT, SEAL = 255 };
+enum { RECORD = 1000, NUMBERS = 8, COUNT = 6, WORDS = NUMBERS + COUNT, REPEAT = 254, SEAL = 255 };
+enum { SUM_RUN = 10, DIFFERENCE_RUN, EQUAL_RUN, LESS_RUN, GREATEST_RUN, KINDS };
 
 /* A case, taken apart: every kind that is known here has COUNT buffers and at most four parameters. */
 typedef struct {
@@ -16,6 +17,9 @@ typedef struct {
     size_t length, patches;
     uint32_t p[4];
 } outside_case;
+
+/* The numbers of its answer, before the digests. */
+static int numbers(const outside_case *c) { return c->record[0] >= EQUAL_RUN ? NUMBERS : 5; }
 
 /* Where buffer k stands in a record: two bytes of its length, and whether it is filled with zeros. */
 static const uint8_t *buffer_of(const outside_case *c, int k) { return c->record + 9 + 3 * k; }
@@ -101,6 +105,13 @@ static void format(const outside_case *c)
     }
 }
 
+/* The memory repeats its first bytes. */
+static void repeat(size_t period)
+{
+    for (size_t i = period; i < buffers[MEMORY].length; i++)
+        buffers[MEMORY].bytes[i] = buffers[MEMORY].bytes[i - period];
+}
+
 /* Patches, in order. Answers 0 where one does not fit: the case is then no case of the protocol. */
 static int patch(const outside_case *c)
 {
@@ -111,9 +122,13 @@ static int patch(const outside_case *c)
         const uint8_t *p = c->record + at;
         size_t offset = two(p + 1), n = p[3];
         at += 4 + n;
-        if (at > c->length || (p[0] >= COUNT && p[0] != SEAL))
+        if (at > c->length || (p[0] >= COUNT && p[0] != SEAL && p[0] != REPEAT))
             return 0;
-        if (p[0] == SEAL) {
+        if (p[0] == REPEAT) {
+            if (offset < 32 || offset > 8192)
+                return 0;
+            repeat(offset);
+        } else if (p[0] == SEAL) {
             if (512 * offset + 512 > buffers[FILE_BYTES].length)
                 return 0;
             seal(buffers[FILE_BYTES].bytes + 512 * offset);
@@ -141,10 +156,7 @@ static int make_buffers(const outside_case *c, int end)
     return 1;
 }
 
-/* A buffer and its length, as two arguments. */
-#define WHOLE(k) buffers[k].bytes, buffers[k].length
-
-/* The entry that the case names. Its answer is put to words 0 to 4, and bit k of what is given back is set where buffer k was lent for writing. */
+/* The entry that the case names. Its answer is put to the first words, and bit k of what is given back is set where buffer k was lent for writing. */
 static unsigned call(const outside_case *c, int end, uint32_t words[WORDS])
 {
     const uint32_t *p = c->p;
@@ -169,8 +181,8 @@ static unsigned call(const outside_case *c, int end, uint32_t words[WORDS])
         return 1u << OUT;
     case 4:
     case 5:
-    case 10:
-    case 11:
+    case SUM_RUN:
+    case DIFFERENCE_RUN:
         a = lend_answer(2, end);
         (kind % 2 == 0 ? staran_sum_list : staran_difference_list)(p[0], p[1], p[2], p[3], WHOLE(LIST), a);
         words[0] = a[0];
@@ -191,6 +203,17 @@ static unsigned call(const outside_case *c, int end, uint32_t words[WORDS])
         staran_write_content(p[0], WHOLE(LIST), WHOLE(FILE_BYTES), a);
         memcpy(words, a, 12);
         return 1u << FILE_BYTES;
+    case EQUAL_RUN:
+    case LESS_RUN:
+        a = lend_answer(3, end);
+        (kind == EQUAL_RUN ? staran_equal_list : staran_less_list)(p[0], p[1], p[2] + ((uint64_t)p[3] << 32), WHOLE(LIST), WHOLE(ITEMS), a);
+        memcpy(words, a, 12);
+        return 1u << LIST | 1u << ITEMS;
+    case GREATEST_RUN:
+        a = lend_answer(2, end);
+        staran_greatest_list(p[0], p[1], WHOLE(LIST), a);
+        memcpy(words, a, 8);
+        return 1u << LIST;
     default:
         a = lend_answer(3, end);
         staran_write_picture(STARAN_CONTENT_PICTURE, WHOLE(MEMORY), WHOLE(REGISTERS), WHOLE(FILE_BYTES), a);
@@ -210,23 +233,24 @@ static const char *disturbed(unsigned lent_for_writing)
     return NULL;
 }
 
-/* A list that was built is run: the bytes that were counted. */
-static const char *run_built(int end, uint32_t words[WORDS])
+/* A list that was built is run: the bytes that were counted, with the items as they now are. */
+static const char *run_built(int end, size_t count, uint32_t *words)
 {
-    size_t count = words[2];
     if (count > buffers[LIST].length)
         return "count";
     memcpy(buffers[LIST].expected, buffers[LIST].bytes, buffers[LIST].length);
+    memcpy(buffers[ITEMS].expected, buffers[ITEMS].bytes, buffers[ITEMS].length);
     uint32_t *a = lend_answer(5, end);
     staran_run(WHOLE(MEMORY), WHOLE(REGISTERS), buffers[LIST].bytes, count, WHOLE(ITEMS), WHOLE(OUT), a);
     memcpy(words, a, 20);
     return disturbed(1u << MEMORY | 1u << REGISTERS | 1u << OUT);
 }
 
-static uint32_t digest(const lent *b)
+/* The digest of a buffer from this byte on. */
+static uint32_t digest(const lent *b, size_t from)
 {
     uint32_t d1 = 1, d2 = 1;
-    for (size_t i = 0; i < b->length; i++) {
+    for (size_t i = from; i < b->length; i++) {
         d1 = (d1 * 251 + b->bytes[i]) % 65521;
         d2 = (d2 * 263 + b->bytes[i]) % 65519;
     }
@@ -240,14 +264,19 @@ static const char *run_case(const outside_case *c, int end, uint32_t words[WORDS
     if (!make_buffers(c, end))
         return "the case is not one of the protocol";
     const char *wrong = disturbed(call(c, end, words));
-    if (wrong == NULL && c->record[0] >= 10) {
+    int kind = c->record[0];
+    size_t left_out = 0; /* the list of a search is not digested */
+    if (wrong == NULL && kind >= EQUAL_RUN && words[0] == 0) {
+        left_out = words[1];
+        wrong = run_built(end, words[1], words + 3);
+    } else if (wrong == NULL && kind >= SUM_RUN && kind < EQUAL_RUN) {
         if (words[0] == 0)
-            wrong = run_built(end, words);
+            wrong = run_built(end, words[2], words);
         else
             words[2] = 0;
     }
     for (int k = 0; k < COUNT; k++)
-        words[NUMBERS + k] = digest(&buffers[k]);
+        words[numbers(c) + k] = digest(&buffers[k], k == LIST ? left_out : 0);
     return wrong;
 }
 
@@ -263,7 +292,7 @@ static int read_case(outside_case *c)
     for (; digit(line[2 * c->length]) >= 0 && digit(line[2 * c->length + 1]) >= 0; c->length++)
         c->record[c->length] = (uint8_t)(16 * digit(line[2 * c->length]) + digit(line[2 * c->length + 1]));
     c->patches = 9 + 3 * COUNT + 4 * c->record[3];
-    if (line[2 * c->length] != '\n' || c->length < c->patches || c->record[0] > 11 || c->record[2] != COUNT || c->record[3] > 4) {
+    if (line[2 * c->length] != '\n' || c->length < c->patches || c->record[0] >= KINDS || c->record[2] != COUNT || c->record[3] > 4) {
         fputs("driver: a line that is no case\n", stderr);
         exit(2);
     }
@@ -290,8 +319,8 @@ int replay(void)
             failed = 1;
             continue;
         }
-        for (int i = 0; i < WORDS; i++)
-            printf("%08x%c", (unsigned)words[FIRST][i], i + 1 < WORDS ? ' ' : '\n');
+        for (int i = 0; i < numbers(&c) + COUNT; i++)
+            printf("%08x%c", (unsigned)words[FIRST][i], i + 1 < numbers(&c) + COUNT ? ' ' : '\n');
     }
     return failed;
 }

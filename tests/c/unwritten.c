@@ -1,21 +1,15 @@
 /* A call that is refused, and a run of no instructions, write nothing at all, not even the same bytes back: every buffer but the answer's stands in memory that cannot be written. */
 #include "unwritten.h"
 
+#include "checks.h"
 #include "lent.h"
 #include "staran.h"
 
-#include <stdio.h>
-
-static int passed, failed;
-
-static void expect(uint32_t number, const uint32_t *answer)
+/* The answer must begin with these numbers. */
+static void expect(const uint32_t *answer, size_t n, const uint32_t *expected)
 {
-    if (answer[0] == number)
-        passed++;
-    else {
-        failed++;
-        printf("FAIL %s: %u expected, %u given\n", calling, number, answer[0]);
-    }
+    answered(answer, n, expected);
+    count();
 }
 
 /* A run and, where it is one instruction, a step of it. */
@@ -29,21 +23,19 @@ static void call(const char *name, const uint8_t *list, size_t length, size_t it
         lend(OUT, out, end);
         uint32_t *answer = lend_answer(5, end);
         shut_rooms();
-        snprintf(calling, sizeof calling, "run that writes nothing: %s", name);
-        staran_run(buffers[MEMORY].bytes, buffers[MEMORY].length, buffers[REGISTERS].bytes, buffers[REGISTERS].length, buffers[LIST].bytes, length, buffers[ITEMS].bytes,
-                   items, buffers[OUT].bytes, out, answer);
-        expect(number, answer);
+        check("run that writes nothing: %s", name);
+        staran_run(WHOLE(MEMORY), WHOLE(REGISTERS), WHOLE(LIST), WHOLE(ITEMS), WHOLE(OUT), answer);
+        expect(answer, 1, &number);
         if (length == STARAN_INSTRUCTION_BYTES) {
-            snprintf(calling, sizeof calling, "step that writes nothing: %s", name);
-            staran_step(buffers[MEMORY].bytes, buffers[MEMORY].length, (staran_registers *)buffers[REGISTERS].bytes, buffers[LIST].bytes, length, buffers[ITEMS].bytes, items,
-                        buffers[OUT].bytes, out, answer);
-            expect(number, answer);
+            check("step that writes nothing: %s", name);
+            staran_step(WHOLE(MEMORY), (staran_registers *)buffers[REGISTERS].bytes, WHOLE(LIST), WHOLE(ITEMS), WHOLE(OUT), answer);
+            expect(answer, 1, &number);
         }
         open_rooms();
     }
 }
 
-int unwritten(void)
+static void instructions(void)
 {
     static const uint8_t kind[] = {6, 0, 0, 0, 0, 0, 0, 0}, source[] = {0, 5, 0, 0, 0, 0, 0, 0}, no_mode[] = {2, 3, 0, 255, 13, 0, 0, 0}, tag[] = {2, 3, 2, 255, 13, 0, 0, 0},
                          unused[] = {0, 2, 1, 0, 0, 0, 0, 0x46}, shift[] = {0, 2, 0, 0, 0, 0, 136, 0x46}, logic[] = {0, 2, 0, 0, 0, 0, 0, 0x50}, outside[] = {0, 4, 0, 0, 0, 0, 0, 0x46},
@@ -61,6 +53,76 @@ int unwritten(void)
     call("items of 31 bytes", resolve, sizeof resolve, 31, 32, STARAN_REFUSED_ITEMS_LENGTH);
     call("a good instruction before a bad one", done_then_not, sizeof done_then_not, 0, 32, STARAN_REFUSED_NO_MODE);
     call("a list of 7 bytes", kind, 7, 0, 32, STARAN_REFUSED_LIST_LENGTH);
-    printf("%d passed, %d failed\n", passed, failed);
-    return failed != 0;
+}
+
+/* A refused builder's counts are 0. S has its start at 2n. */
+static void sums(const char *name, uint32_t a, uint32_t b, uint32_t n, size_t short_by, uint32_t number)
+{
+    const uint32_t expected[STARAN_LIST_NUMBERS] = {number, 0};
+    for (int end = 0; end < ENDS; end++) {
+        lend(LIST, STARAN_SUM_LIST_BYTES(n) - short_by, end);
+        lend(OUT, STARAN_DIFFERENCE_LIST_BYTES(n) - short_by, end);
+        uint32_t *answer = lend_answer(STARAN_LIST_NUMBERS, end);
+        shut_rooms();
+        check("sum list that writes nothing: %s", name);
+        staran_sum_list(a, b, 2 * n, n, WHOLE(LIST), answer);
+        expect(answer, STARAN_LIST_NUMBERS, expected);
+        check("difference list that writes nothing: %s", name);
+        staran_difference_list(a, b, 2 * n, n, WHOLE(OUT), answer);
+        expect(answer, STARAN_LIST_NUMBERS, expected);
+        open_rooms();
+    }
+}
+
+static void searches(const char *name, uint32_t start, uint32_t n, uint64_t number, size_t list_short_by, size_t items_short_by, uint32_t refused)
+{
+    const uint32_t expected[STARAN_LIST_AND_ITEMS_NUMBERS] = {refused, 0, 0};
+    for (int end = 0; end < ENDS; end++) {
+        lend(LIST, STARAN_SEARCH_LIST_BYTES(n) - list_short_by, end);
+        lend(ITEMS, STARAN_SEARCH_ITEMS_BYTES(n) - items_short_by, end);
+        uint32_t *answer = lend_answer(STARAN_LIST_AND_ITEMS_NUMBERS, end);
+        shut_rooms();
+        check("equal list that writes nothing: %s", name);
+        staran_equal_list(start, n, number, WHOLE(LIST), WHOLE(ITEMS), answer);
+        expect(answer, STARAN_LIST_AND_ITEMS_NUMBERS, expected);
+        check("less list that writes nothing: %s", name);
+        staran_less_list(start, n, number, WHOLE(LIST), WHOLE(ITEMS), answer);
+        expect(answer, STARAN_LIST_AND_ITEMS_NUMBERS, expected);
+        open_rooms();
+    }
+}
+
+static void greatest(const char *name, uint32_t start, uint32_t n, size_t short_by, uint32_t number)
+{
+    const uint32_t expected[STARAN_LIST_NUMBERS] = {number, 0};
+    for (int end = 0; end < ENDS; end++) {
+        lend(LIST, STARAN_GREATEST_LIST_BYTES(n) - short_by, end);
+        uint32_t *answer = lend_answer(STARAN_LIST_NUMBERS, end);
+        shut_rooms();
+        check("greatest list that writes nothing: %s", name);
+        staran_greatest_list(start, n, WHOLE(LIST), answer);
+        expect(answer, STARAN_LIST_NUMBERS, expected);
+        open_rooms();
+    }
+}
+
+int unwritten(void)
+{
+    instructions();
+    sums("a width of 0", 0, 0, 0, 0, STARAN_REFUSED_WIDTH);
+    sums("a width of 65", 0, 65, 65, 0, STARAN_REFUSED_WIDTH);
+    sums("a field beyond the word", 0, 193, 64, 0, STARAN_REFUSED_FIELD_BEYOND);
+    sums("fields that cross", 0, 63, 32, 0, STARAN_REFUSED_FIELDS_CROSS);
+    sums("a list too short", 0, 32, 32, 1, STARAN_REFUSED_LIST_TOO_SHORT);
+    searches("a width of 0", 0, 0, 0, 0, 0, STARAN_REFUSED_WIDTH);
+    searches("a width of 65", 0, 65, 0, 0, 0, STARAN_REFUSED_WIDTH);
+    searches("a field beyond the word", 193, 64, 0, 0, 0, STARAN_REFUSED_FIELD_BEYOND);
+    searches("a number too large", 0, 32, (uint64_t)1 << 32, 0, 0, STARAN_REFUSED_NUMBER_TOO_LARGE);
+    searches("a list too short", 0, 32, 7, 1, 0, STARAN_REFUSED_LIST_TOO_SHORT);
+    searches("items too short", 0, 32, 7, 0, 1, STARAN_REFUSED_LIST_TOO_SHORT);
+    greatest("a width of 0", 0, 0, 0, STARAN_REFUSED_WIDTH);
+    greatest("a width of 65", 0, 65, 0, STARAN_REFUSED_WIDTH);
+    greatest("a field beyond the word", 193, 64, 0, STARAN_REFUSED_FIELD_BEYOND);
+    greatest("a list too short", 0, 32, 1, STARAN_REFUSED_LIST_TOO_SHORT);
+    return counted();
 }

@@ -9,12 +9,19 @@
 #include <string.h>
 
 enum { WIDTH = 32, LIST = 8192, MANY = 4096, LONGEST = STARAN_INSTRUCTION_BYTES * MANY };
+static const uint64_t NUMBER = 0x5A3C96E1;
 
 static uint8_t memory[STARAN_MEMORY_BYTES], registers[STARAN_REGISTERS_BYTES], out[STARAN_ITEM_BYTES];
 static uint8_t list[STARAN_SUM_LIST_BYTES(WIDTH)], many[LONGEST], content[LIST], target[LIST], file[STARAN_FILE_BYTES(LIST)], picture[STARAN_PICTURE_FILE_BYTES];
+static uint8_t equal[STARAN_SEARCH_LIST_BYTES(WIDTH)], less[STARAN_SEARCH_LIST_BYTES(WIDTH)], greatest[STARAN_GREATEST_LIST_BYTES(WIDTH)];
+static uint8_t searched[STARAN_SEARCH_ITEMS_BYTES(WIDTH)]; /* the items of equal and of less: the same number */
 static staran_registers record;
 static uint8_t item[32], passed[32];
 static uint32_t answer[5];
+
+static void equal_list(void) { staran_equal_list(0, WIDTH, NUMBER, equal, sizeof equal, searched, sizeof searched, answer); }
+static void less_list(void) { staran_less_list(0, WIDTH, NUMBER, less, sizeof less, searched, sizeof searched, answer); }
+static void greatest_list(void) { staran_greatest_list(0, WIDTH, greatest, sizeof greatest, answer); }
 
 /* What the calls start from: no two neighbouring bytes are alike, and the files are whole. */
 static void prepare(void)
@@ -26,6 +33,9 @@ static void prepare(void)
     memcpy(registers, content, sizeof registers);
     memcpy(item, content + 7, sizeof item);
     staran_sum_list(0, 32, 64, WIDTH, list, sizeof list, answer);
+    equal_list();
+    less_list();
+    greatest_list();
     for (size_t i = 0; i < sizeof many; i++)
         many[i] = list[i % sizeof list];
     many[sizeof many - 1] = 0x50; /* a choice over 4, or byte 7 of a store: 11 in any kind */
@@ -47,6 +57,29 @@ static void run(const uint8_t *instructions, size_t length)
     staran_run(memory, sizeof memory, registers, sizeof registers, instructions, length, item, 0, out, sizeof out, answer);
 }
 
+static void run_search(const uint8_t *instructions, size_t length)
+{
+    staran_run(memory, sizeof memory, registers, sizeof registers, instructions, length, searched, sizeof searched, out, sizeof out, answer);
+}
+
+static void run_equal(void) { run_search(equal, sizeof equal); }
+static void run_less(void) { run_search(less, sizeof less); }
+static void run_greatest(void) { run(greatest, sizeof greatest); }
+
+/* A search's call by its name, NULL where there is none: it is looked up once, before the calls that are counted. */
+static void (*search_named(const char *name))(void)
+{
+    static const struct {
+        const char *name;
+        void (*call)(void);
+    } searches[] = {{"equal-list", equal_list}, {"run-equal", run_equal}, {"less-list", less_list}, {"run-less", run_less},
+                    {"greatest-list", greatest_list}, {"run-greatest", run_greatest}};
+    for (size_t i = 0; i < sizeof searches / sizeof *searches; i++)
+        if (strcmp(name, searches[i].name) == 0)
+            return searches[i].call;
+    return NULL;
+}
+
 static void pass(uint8_t flip, uint8_t code) { staran_pass(item, flip, code, passed, answer); }
 
 static void read_list(size_t length)
@@ -54,6 +87,7 @@ static void read_list(size_t length)
     staran_read_content(STARAN_CONTENT_LIST, file, length, target, sizeof target, answer);
 }
 
+/* Every other call, by its name at each: some 25 instructions for each name before it, which the figures of these calls have always had. */
 static int call(const char *name, size_t length)
 {
     if (strcmp(name, "pass-both") == 0)
@@ -103,8 +137,11 @@ int main(int count, char **words)
     prepare();
     if (count == 5)
         length = prepare_list(words[3], (size_t)atoi(words[4]));
+    void (*search)(void) = search_named(words[2]);
     for (int times = atoi(words[1]); times > 0; times--)
-        if (!call(words[2], length)) {
+        if (search != NULL)
+            search();
+        else if (!call(words[2], length)) {
             fputs("no such call\n", stderr);
             return 2;
         }

@@ -12,6 +12,7 @@ enum { STACK = 65536, WIDTH = 32 };
 static uint8_t memory[STARAN_MEMORY_BYTES], registers[STARAN_REGISTERS_BYTES], items[STARAN_ITEM_BYTES], out[STARAN_MEMORY_BYTES];
 static uint8_t list[STARAN_DIFFERENCE_LIST_BYTES(WIDTH)], content[STARAN_MEMORY_BYTES], file[STARAN_FILE_BYTES(STARAN_MEMORY_BYTES)];
 static uint8_t picture[STARAN_PICTURE_FILE_BYTES], item[STARAN_ITEM_BYTES], passed[STARAN_ITEM_BYTES];
+static uint8_t greatest[STARAN_GREATEST_LIST_BYTES(WIDTH)], searched[STARAN_SEARCH_ITEMS_BYTES(WIDTH)];
 static staran_registers record;
 static uint32_t answer[5];
 
@@ -32,6 +33,15 @@ static void pass(size_t k) { staran_pass(item, k == 0 ? 90 : 0, 0x83, passed, an
 static void wired_pass(size_t k) { staran_wired_pass(item, k == 0 ? 90 : 0, 0x83, passed, answer); }
 static void sum_list(size_t k) { staran_sum_list(0, 32, k == 0 ? 64 : 1, WIDTH, list, sizeof list, answer); }
 static void difference_list(size_t k) { staran_difference_list(0, 32, k == 0 ? 64 : 1, WIDTH, list, sizeof list, answer); }
+/* Done, and refused at each of the four numbers and at either buffer. */
+typedef void searcher(uint32_t, uint32_t, uint64_t, uint8_t *, size_t, uint8_t *, size_t, uint32_t *);
+static void search(searcher *build, size_t k)
+{
+    build(k == 1 ? 255 : 0, k == 2 ? 65 : WIDTH, k == 3 ? UINT64_MAX : 0xA5A5A5A5, list, k == 4 ? 1 : sizeof list, searched, k == 5 ? 1 : sizeof searched, answer);
+}
+static void equal_list(size_t k) { search(staran_equal_list, k); }
+static void less_list(size_t k) { search(staran_less_list, k); }
+static void greatest_list(size_t k) { staran_greatest_list(k == 1 ? 255 : 0, k == 2 ? 65 : WIDTH, greatest, k == 3 ? 1 : sizeof greatest, answer); }
 static void read_content(size_t k) { staran_read_content(STARAN_CONTENT_LIST, file, sizeof file, content, k == 0 ? sizeof content : 1, answer); }
 static void write_content(size_t k) { staran_write_content(STARAN_CONTENT_LIST, content, sizeof content, file, k == 0 ? sizeof file : 1, answer); }
 static void read_picture(size_t k)
@@ -99,6 +109,9 @@ int main(void)
     measure("staran_wired_pass", wired_pass, 2);
     measure("staran_sum_list", sum_list, 2);
     measure("staran_difference_list", difference_list, 2);
+    measure("staran_equal_list", equal_list, 6);
+    measure("staran_less_list", less_list, 6);
+    measure("staran_greatest_list", greatest_list, 4);
     measure("staran_read_content", read_content, 2);
     measure("staran_write_content", write_content, 2);
     measure("staran_read_picture", read_picture, 2);

@@ -1,4 +1,5 @@
-/* Holds the header's names to bytes and numbers that stand here as they stand in document 01, from C and from C++: tests/c/run builds and runs it.
+/* Holds the header's names to bytes and numbers that stand here as they stand in document 01 and, of the searches, in docs/LISTS.md, from C and from C++:
+ * tests/c/run builds and runs it.
  * Says each name that does not hold, then every number with its meaning, for tests/c/run to compare with docs/numbers.tsv. */
 #include "staran.h"
 
@@ -60,6 +61,46 @@ static void instructions(void)
     bytes("the item into X", others + 40, 8, "000001000102000A");
 }
 
+/* The searches for the number 1 in a field of one bit, and for the greatest there, by macros and built. */
+static void searches(void)
+{
+    const uint8_t equal[] = {STARAN_LOGIC_FROM(STARAN_SOURCE_X, STARAN_NO_FLIP, STARAN_NO_SHIFT, STARAN_CHOICE_X, STARAN_FUNCTION_SET),
+                             STARAN_LOGIC_FROM(STARAN_SOURCE_OUTSIDE, STARAN_NO_FLIP, STARAN_NO_SHIFT, STARAN_CHOICE_Y, STARAN_FUNCTION_ITEM),
+                             STARAN_LOGIC(STARAN_MODE_SLICE, 9, STARAN_NO_FLIP, STARAN_NO_SHIFT, STARAN_CHOICE_Y, STARAN_FUNCTION_XOR),
+                             STARAN_LOGIC_FROM(STARAN_SOURCE_X, STARAN_NO_FLIP, STARAN_NO_SHIFT, STARAN_CHOICE_X_WHERE_Y, STARAN_FUNCTION_CLEAR),
+                             STARAN_LOGIC_FROM(STARAN_SOURCE_X, STARAN_NO_FLIP, STARAN_NO_SHIFT, STARAN_CHOICE_Y, STARAN_FUNCTION_ITEM)};
+    const uint8_t less[] = {STARAN_LOGIC_FROM(STARAN_SOURCE_X, STARAN_NO_FLIP, STARAN_NO_SHIFT, STARAN_CHOICE_X, STARAN_FUNCTION_CLEAR),
+                            STARAN_LOGIC_FROM(STARAN_SOURCE_OUTSIDE, STARAN_NO_FLIP, STARAN_NO_SHIFT, STARAN_CHOICE_Y, STARAN_FUNCTION_ITEM),
+                            STARAN_LOGIC(STARAN_MODE_SLICE, 9, STARAN_NO_FLIP, STARAN_NO_SHIFT, STARAN_CHOICE_Y, STARAN_FUNCTION_XOR),
+                            STARAN_LOGIC(STARAN_MODE_SLICE, 9, STARAN_NO_FLIP, STARAN_NO_SHIFT, STARAN_CHOICE_X_WHERE_Y, STARAN_FUNCTION_NOT_ITEM),
+                            STARAN_LOGIC_FROM(STARAN_SOURCE_X, STARAN_NO_FLIP, STARAN_NO_SHIFT, STARAN_CHOICE_Y, STARAN_FUNCTION_ITEM)};
+#define OR_FLIPPED(flip) STARAN_LOGIC_FROM(STARAN_SOURCE_X, flip, STARAN_NO_SHIFT, STARAN_CHOICE_X, STARAN_FUNCTION_OR)
+    const uint8_t greatest[] = {STARAN_LOGIC_FROM(STARAN_SOURCE_X, STARAN_NO_FLIP, STARAN_NO_SHIFT, STARAN_CHOICE_X, STARAN_FUNCTION_CLEAR),
+                                STARAN_LOGIC(STARAN_MODE_SLICE, 9, STARAN_NO_FLIP, STARAN_NO_SHIFT, STARAN_CHOICE_X_WHERE_Y, STARAN_FUNCTION_ITEM),
+                                OR_FLIPPED(1), OR_FLIPPED(2), OR_FLIPPED(4), OR_FLIPPED(8), OR_FLIPPED(16), OR_FLIPPED(32), OR_FLIPPED(64), OR_FLIPPED(128),
+                                STARAN_LOGIC(STARAN_MODE_SLICE, 9, STARAN_NO_FLIP, STARAN_NO_SHIFT, STARAN_CHOICE_X, STARAN_FUNCTION_WITHOUT),
+                                STARAN_LOGIC_FROM(STARAN_SOURCE_X, STARAN_NO_FLIP, STARAN_NO_SHIFT, STARAN_CHOICE_BOTH, STARAN_FUNCTION_WITHOUT)};
+#undef OR_FLIPPED
+    uint8_t built[STARAN_GREATEST_LIST_BYTES(1)], items[STARAN_SEARCH_ITEMS_BYTES(1)];
+    uint32_t answer[STARAN_LIST_AND_ITEMS_NUMBERS];
+    staran_equal_list(9, 1, 1, built, STARAN_SEARCH_LIST_BYTES(1), items, sizeof items, answer);
+    hold("an equal list by macros is the one built", answer[1] == sizeof equal && memcmp(equal, built, sizeof equal) == 0);
+    hold("its items' length", answer[2] == sizeof items && sizeof items == 32);
+    bytes("its third instruction", equal + 16, 8, "0000010009000016");
+    staran_less_list(9, 1, 1, built, STARAN_SEARCH_LIST_BYTES(1), items, sizeof items, answer);
+    hold("a less list by macros is the one built", answer[1] == sizeof less && memcmp(less, built, sizeof less) == 0);
+    bytes("its fourth instruction", less + 24, 8, "0000010009000035");
+    staran_greatest_list(9, 1, built, sizeof built, answer);
+    hold("a greatest list by macros is the one built", answer[1] == sizeof greatest && memcmp(greatest, built, sizeof greatest) == 0);
+    bytes("its tenth instruction", greatest + 72, 8, "000200000080000E");
+    bytes("its last instruction", greatest + 88, 8, "0002000000000024");
+    staran_equal_list(9, 1, 2, built, sizeof built, items, sizeof items, answer);
+    hold("number too large", answer[0] == STARAN_REFUSED_NUMBER_TOO_LARGE && STARAN_REFUSED_NUMBER_TOO_LARGE == 34);
+    hold("the longest searches", STARAN_SEARCH_LIST_BYTES(64) == 1552 && STARAN_SEARCH_ITEMS_BYTES(64) == 2048 && STARAN_GREATEST_LIST_BYTES(64) == 5640);
+    hold("the numbers of the answers", STARAN_RUN_NUMBERS == 5 && STARAN_DISK_NUMBERS == 3 && STARAN_LIST_NUMBERS == 2 &&
+                                           STARAN_LIST_AND_ITEMS_NUMBERS == 3 && STARAN_PASS_NUMBERS == 1);
+}
+
 /* A function of two bits by its meaning: what becomes of old 0, 0, 1, 1 by passed 0, 1, 0, 1. */
 static void function(const char *what, uint8_t number, const char *becomes)
 {
@@ -74,6 +115,7 @@ static void functions(void)
 {
     function("clear", STARAN_FUNCTION_CLEAR, "0000");
     function("not old", STARAN_FUNCTION_NOT_OLD, "1100");
+    function("without", STARAN_FUNCTION_WITHOUT, "0010");
     function("not item", STARAN_FUNCTION_NOT_ITEM, "1010");
     function("xor", STARAN_FUNCTION_XOR, "0110");
     function("and", STARAN_FUNCTION_AND, "0001");
@@ -107,10 +149,11 @@ static void refusals(void)
 int main(void)
 {
     instructions();
+    searches();
     functions();
     refusals();
     hold("the contents on disk", STARAN_CONTENT_PICTURE == 1 && STARAN_CONTENT_LIST == 2 && STARAN_CONTENT_ITEMS == 3);
-    hold("the linked version is the header's", staran_version() == STARAN_VERSION && STARAN_VERSION == 65536);
+    hold("the linked version is the header's", staran_version() == STARAN_VERSION && STARAN_VERSION == 65537);
     hold("a number that is never given", strcmp(staran_meaning(14), "no such number is ever given") == 0);
     for (uint32_t number = 0; number <= 100; number++)
         if (strcmp(staran_meaning(number), staran_meaning(14)) != 0)
