@@ -36,7 +36,7 @@ use Rattle.contents.proofs.AnswerLaws.{changed-not, left-parts}
 use Rattle.contents.proofs.Numbers as blocks
 use Rattle.pictures.specs.Picture.{pictureOf, scrambled, pictureFits, pictureRead, pictureWritten}
 use Rattle.pictures.proofs.PictureLaws.{both-parts}
-use Rattle.library.specs.Left.{five, three, runLeft, stepLeft, PassLeft, passLeft, BufferLeft, sumLeft, differenceLeft, TwoLeft, twoLeft, equalLeft, lessLeft, greatestLeft, readLeft, writeLeft, writePictureLeft, TargetsLeft, readPictureLeft}
+use Rattle.library.specs.Left.{five, three, runLeft, stepLeft, PassLeft, passLeft, BufferLeft, sumLeft, differenceLeft, TwoLeft, builtTwoLeft, equalLeft, lessLeft, greatestLeft, readLeft, writeLeft, writePictureLeft, TargetsLeft, readPictureLeft}
 use Rattle.promises.specs.Clauses.{Run, Step, SumList, DifferenceList, GreatestList, ReadContent, WriteContent, ReadPicture, WritePicture, LibraryRun, LibraryStep, LibraryPass, LibraryBuffer, LibraryTwo, LibraryReadPicture}
 use Rattle.promises.specs.DemandOne.{AnswerTable, PassTable, ListTable, TwoTable, FieldsTable, SearchTable, GreatestTable, ReadTable, WriteTable, Kept, AllKept, DemandOne}
 
@@ -286,7 +286,7 @@ module _ (a b s n : ℕ) (list list′ answer′ : List ℕ) where
 
 -- what a search leaves, with the three numbers of its answer
 library-search : (less : Bool) (start n number : ℕ) (list items list′ items′ answer′ : List ℕ)
-    → LibraryTwo (twoLeft (searchBuilt less start n number list items)) list′ items′ answer′
+    → LibraryTwo (builtTwoLeft (searchBuilt less start n number list items)) list′ items′ answer′
     → (r : BuiltTwo) × (answer′ ≡ r .number ∷ r .list ∷ r .items ∷ []) × SearchTable start n number (length list) (length items) r
     × Kept (r .number) list list′ × Kept (r .number) items items′
 library-search less start n number list items list′ items′ answer′ h =
