@@ -254,7 +254,7 @@ static uint32_t search_start(uint32_t n, size_t i)
 }
 enum { STARTS = 10 };
 
-/* Numbers around 2^n, and the largest of 64 bits; where 2^n is none of these, 0 and the largest stand for it. */
+/* Numbers around 2^n and of 64 bits; where 2^n itself has more bits than that, 0 stands for it. */
 static uint64_t search_number(uint32_t n, size_t i)
 {
     const uint64_t power = n < 64 ? (uint64_t)1 << n : 0;

@@ -33,11 +33,12 @@ static void pass(size_t k) { staran_pass(item, k == 0 ? 90 : 0, 0x83, passed, an
 static void wired_pass(size_t k) { staran_wired_pass(item, k == 0 ? 90 : 0, 0x83, passed, answer); }
 static void sum_list(size_t k) { staran_sum_list(0, 32, k == 0 ? 64 : 1, WIDTH, list, sizeof list, answer); }
 static void difference_list(size_t k) { staran_difference_list(0, 32, k == 0 ? 64 : 1, WIDTH, list, sizeof list, answer); }
-/* Done, and refused at each of the four numbers and at either buffer. */
+/* Done, and refused with each number and for either buffer. */
 typedef void searcher(uint32_t, uint32_t, uint64_t, uint8_t *, size_t, uint8_t *, size_t, uint32_t *);
 static void search(searcher *build, size_t k)
 {
-    build(k == 1 ? 255 : 0, k == 2 ? 65 : WIDTH, k == 3 ? UINT64_MAX : 0xA5A5A5A5, list, k == 4 ? 1 : sizeof list, searched, k == 5 ? 1 : sizeof searched, answer);
+    build(k == 1 ? 255 : 0, k == 2 ? 65 : WIDTH, k == 3 ? UINT64_MAX : 0xA5A5A5A5, list, k == 4 ? 1 : sizeof list, searched, k == 5 ? 1 : sizeof searched,
+          answer);
 }
 static void equal_list(size_t k) { search(staran_equal_list, k); }
 static void less_list(size_t k) { search(staran_less_list, k); }
