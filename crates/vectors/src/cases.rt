@@ -2,6 +2,7 @@
 ghost use mathlib.Core.Path.{_≡_};
 ghost use Prim.Native.Nat.{_<_};
 ghost use lib.ListN.{length};
+use super::answers::Numbers;
 use super::buffers::clamp;
 use super::buffers::digest;
 use super::buffers::fill;
@@ -9,7 +10,6 @@ use super::buffers::format;
 use super::buffers::patch;
 use super::buffers::seal;
 use super::buffers::shape;
-use super::calls::Numbers;
 use super::calls::call;
 use super::records::buffers_of;
 use super::records::byte;
