@@ -8,6 +8,7 @@ use super::buffers::digest;
 use super::buffers::fill;
 use super::buffers::format;
 use super::buffers::patch;
+use super::buffers::repeat;
 use super::buffers::seal;
 use super::buffers::shape;
 use super::calls::call;
@@ -22,7 +23,8 @@ use super::records::zeros_in;
 use super::rooms::end_of;
 use super::rooms::start_of;
 
-// The patch at `at` of the record, if it is for the buffer of number `which`: its bytes go into the buffer; target 255 seals a block of the file, number 5. Nothing is a patch from byte 1,000 on.
+// The patch at `at` of the record, if it is for the buffer of number `which`: its bytes go into the buffer; target 255 seals a block of the file, number 5;
+// target 254 repeats the front of the memory, number 0. Nothing is a patch from byte 1,000 on.
 fn one_patch(record: &[u8], at: usize, which: usize, buffer: &mut [u8]) {
     if 1000 <= at {
         return;
@@ -35,6 +37,10 @@ fn one_patch(record: &[u8], at: usize, which: usize, buffer: &mut [u8]) {
     }
     if target == 255 && which == 5 {
         seal(buffer, to);
+        return;
+    }
+    if target == 254 && which == 0 {
+        repeat(buffer, to);
     }
 }
 
