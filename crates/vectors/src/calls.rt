@@ -9,6 +9,7 @@ use super::rooms::front;
 use super::rooms::give;
 use super::rooms::take;
 use super::running::call_module;
+use super::searching::call_search;
 use builders::sums::difference_list;
 use builders::sums::sum_list;
 use contents::read_content;
@@ -183,5 +184,8 @@ pub(crate) fn call(record: &[u8], room: &mut [u8]) -> Numbers {
     if kind < 10 {
         return call_disk(record, room, kind);
     }
-    call_both(record, room, kind == 11)
+    if kind < 12 {
+        return call_both(record, room, kind == 11);
+    }
+    call_search(record, room, kind)
 }

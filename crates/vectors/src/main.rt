@@ -6,6 +6,7 @@ mod cases;
 mod records;
 mod rooms;
 mod running;
+mod searching;
 
 ghost use mathlib.Core.Path.{_≡_};
 ghost use Prim.Native.Nat.{_<_};
