@@ -238,6 +238,15 @@ pub(crate) fn patch(buffer: &mut [u8], to: usize, bytes: &[u8], from: usize, n: 
     }
 }
 
+// The buffer's bytes behind its first `every` made to repeat those, again and again.
+pub(crate) fn repeat(buffer: &mut [u8], every: usize) {
+    let mut i = every;
+    while i < buffer.len() {
+        buffer[i] = buffer[i - every];
+        i += 1;
+    }
+}
+
 // The first remainder after one byte more.
 fn first(d: u32, x: u8) -> u32
     ensures { λ r. ⌜ r < 65521 ⌝ }

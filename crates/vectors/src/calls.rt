@@ -1,156 +1,21 @@
 // The entry that a case names is called on its buffers: each call takes those that it lends out of the room, and gives back those that may be written.
-ghost use Prim.Native.Nat.{_≤_};
-use super::buffers::clamp;
+use super::answers::Numbers;
+use super::answers::five;
+use super::answers::of_builder;
+use super::answers::of_disk;
 use super::records::byte;
-use super::records::length_of;
 use super::records::parameter;
+use super::rooms::front;
 use super::rooms::give;
 use super::rooms::take;
+use super::running::call_module;
+use super::searching::call_search;
 use builders::sums::difference_list;
 use builders::sums::sum_list;
 use contents::read_content;
 use contents::write_content;
-use module::advance;
-use module::run;
 use pictures::read_picture;
 use pictures::write_picture;
-
-// What an entry answered: its first `count` numbers.
-pub struct Numbers {
-    pub count: usize,
-    pub w: [u32; 16],
-}
-
-// A count or a place as a number of the protocol.
-fn narrow(x: usize) -> u32 {
-    (x % 4294967296) as u32
-}
-
-// An answer of five numbers, the fewest of the protocol.
-fn five(a: u32, b: u32, c: u32, d: u32, e: u32) -> Numbers {
-    let mut w = [0u32; 16];
-    w[0] = a;
-    w[1] = b;
-    w[2] = c;
-    w[3] = d;
-    w[4] = e;
-    Numbers { count: 5, w: w }
-}
-
-// How many bytes of buffer `k` stand in a buffer of `most`.
-fn front(record: &[u8], k: usize, most: usize) -> usize
-    ensures { λ r. ⌜ r ≤ most ⌝ }
-{
-    clamp(length_of(record, k), most)
-}
-
-// A run's or a step's answer.
-fn of_run(r: judge::Answer) -> Numbers {
-    five(
-        r.number as u32,
-        narrow(r.place),
-        narrow(r.steps),
-        narrow(r.taken),
-        narrow(r.given),
-    )
-}
-
-// A builder's answer.
-fn of_builder(r: builders::Built) -> Numbers {
-    five(r.number as u32, 0, narrow(r.count), 0, 0)
-}
-
-// The answer of an entry of the disk.
-fn of_disk(r: contents::Moved) -> Numbers {
-    five(r.number as u32, narrow(r.place), narrow(r.bytes), 0, 0)
-}
-
-// One instruction of a list taken; nothing is done where there are no 96 bytes of registers.
-fn step_on(
-    memory: &mut [u8],
-    registers: &mut [u8],
-    instruction: &[u8],
-    items: &[u8],
-    out: &mut [u8],
-) -> Numbers {
-    if registers.len() != 96 {
-        return five(0, 0, 0, 0, 0);
-    }
-    let old = registers::rows::registers_of(registers);
-    let r = advance(memory, old, instruction, items, out);
-    let answer = r.answer;
-    let regs = r.regs;
-    registers::rows::write_registers(registers, regs);
-    of_run(answer)
-}
-
-// A list run, or its one instruction taken as a step.
-fn run_or_step(
-    memory: &mut [u8],
-    registers: &mut [u8],
-    list: &[u8],
-    items: &[u8],
-    out: &mut [u8],
-    step: bool,
-) -> Numbers {
-    if step {
-        return step_on(memory, registers, list, items, out);
-    }
-    of_run(run(memory, registers, list, items, out))
-}
-
-// The module on just the bytes of the case, and on the first `most` of the list's.
-fn run_front(
-    record: &[u8],
-    memory: &mut [u8],
-    registers: &mut [u8],
-    list: &[u8],
-    most: usize,
-    items: &[u8],
-    out: &mut [u8],
-    step: bool,
-) -> Numbers {
-    let n0 = front(record, 0, memory.len());
-    let n1 = front(record, 1, registers.len());
-    let n2 = clamp(most, front(record, 2, list.len()));
-    let n3 = front(record, 3, items.len());
-    let n4 = front(record, 4, out.len());
-    run_or_step(
-        &mut memory[0..n0],
-        &mut registers[0..n1],
-        &list[0..n2],
-        &items[0..n3],
-        &mut out[0..n4],
-        step,
-    )
-}
-
-fn call_module(record: &[u8], room: &mut [u8], most: usize, step: bool) -> Numbers {
-    let mut memory = [0u8; 8200];
-    let mut registers = [0u8; 100];
-    let mut list = [0u8; 33000];
-    let mut items = [0u8; 33000];
-    let mut out = [0u8; 8200];
-    take(record, 0, room, &mut memory);
-    take(record, 1, room, &mut registers);
-    take(record, 2, room, &mut list);
-    take(record, 3, room, &mut items);
-    take(record, 4, room, &mut out);
-    let r = run_front(
-        record,
-        &mut memory,
-        &mut registers,
-        &list,
-        most,
-        &items,
-        &mut out,
-        step,
-    );
-    give(record, 0, room, &memory);
-    give(record, 1, room, &registers);
-    give(record, 4, room, &out);
-    r
-}
 
 // What the network gives for an item.
 fn passed(item: &[u8; 32], flip: u32, code: u32, wires: bool) -> network::Passed {
@@ -319,5 +184,8 @@ pub(crate) fn call(record: &[u8], room: &mut [u8]) -> Numbers {
     if kind < 10 {
         return call_disk(record, room, kind);
     }
-    call_both(record, room, kind == 11)
+    if kind < 12 {
+        return call_both(record, room, kind == 11);
+    }
+    call_search(record, room, kind)
 }

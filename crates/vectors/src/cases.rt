@@ -2,14 +2,15 @@
 ghost use mathlib.Core.Path.{_≡_};
 ghost use Prim.Native.Nat.{_<_};
 ghost use lib.ListN.{length};
+use super::answers::Numbers;
 use super::buffers::clamp;
 use super::buffers::digest;
 use super::buffers::fill;
 use super::buffers::format;
 use super::buffers::patch;
+use super::buffers::repeat;
 use super::buffers::seal;
 use super::buffers::shape;
-use super::calls::Numbers;
 use super::calls::call;
 use super::records::buffers_of;
 use super::records::byte;
@@ -22,7 +23,8 @@ use super::records::zeros_in;
 use super::rooms::end_of;
 use super::rooms::start_of;
 
-// The patch at `at` of the record, if it is for the buffer of number `which`: its bytes go into the buffer; target 255 seals a block of the file, number 5. Nothing is a patch from byte 1,000 on.
+// The patch at `at` of the record, if it is for the buffer of number `which`: its bytes go into the buffer; target 255 seals a block of the file, number 5;
+// target 254 repeats the front of the memory, number 0. Nothing is a patch from byte 1,000 on.
 fn one_patch(record: &[u8], at: usize, which: usize, buffer: &mut [u8]) {
     if 1000 <= at {
         return;
@@ -35,6 +37,10 @@ fn one_patch(record: &[u8], at: usize, which: usize, buffer: &mut [u8]) {
     }
     if target == 255 && which == 5 {
         seal(buffer, to);
+        return;
+    }
+    if target == 254 && which == 0 {
+        repeat(buffer, to);
     }
 }
 
@@ -127,23 +133,29 @@ fn write_numbers(answer: Numbers) {
     }
 }
 
+// How many bytes at the front of a buffer are not digested: of the list, number 2, those that no document fixes.
+fn left_out(which: usize, unfixed: usize) -> usize {
+    if which == 2 { unfixed } else { 0 }
+}
+
 // The digest of one buffer in the room written out.
-fn write_digest(record: &[u8], which: usize, room: &[u8], last: bool)
+fn write_digest(record: &[u8], which: usize, room: &[u8], unfixed: usize, last: bool)
     requires { ⌜ length (now room) ≡ 131072 ⌝ }
 {
     let s = start_of(record, which);
     let e = end_of(record, which, s);
-    write_word(digest(&room[s..e]), last);
+    let from = s + clamp(left_out(which, unfixed), e - s);
+    write_word(digest(&room[from..e]), last);
 }
 
 // The digests of all buffers written out.
-fn write_digests(record: &[u8], room: &[u8])
+fn write_digests(record: &[u8], room: &[u8], unfixed: usize)
     requires { ⌜ length (now room) ≡ 131072 ⌝ }
 {
     let count = buffers_of(record);
     let mut k: usize = 0;
     while k < count {
-        write_digest(record, k, room, k + 1 == count);
+        write_digest(record, k, room, unfixed, k + 1 == count);
         k += 1;
     }
 }
@@ -153,6 +165,8 @@ pub(crate) fn run_case(record: &[u8], room: &mut [u8])
     requires { ⌜ length (now room) ≡ 131072 ⌝ }
 {
     prepare(record, room);
-    write_numbers(call(record, room));
-    write_digests(record, room);
+    let answer = call(record, room);
+    let unfixed = answer.unfixed;
+    write_numbers(answer);
+    write_digests(record, room, unfixed);
 }

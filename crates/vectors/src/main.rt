@@ -1,9 +1,12 @@
 // Runs outside cases: reads them from standard input, calls the entry that each names on the buffers that it describes, and writes the answer's numbers and a digest of every buffer. tests/outside/cases/PROTOCOL.md has the form of both; the stored answers come from an emulator that shares nothing with the crates.
+mod answers;
 mod buffers;
 mod calls;
 mod cases;
 mod records;
 mod rooms;
+mod running;
+mod searching;
 
 ghost use mathlib.Core.Path.{_≡_};
 ghost use Prim.Native.Nat.{_<_};

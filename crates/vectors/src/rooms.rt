@@ -1,5 +1,6 @@
 // The room in which all buffers of a case stand one behind the other, buffer 0 first, however many there are: where each is, and a buffer taken out of it and given back.
 ghost use Prim.Native.Nat.{_<_, _≤_};
+use super::buffers::clamp;
 use super::buffers::patch;
 use super::records::length_of;
 
@@ -43,4 +44,11 @@ pub(crate) fn take(record: &[u8], k: usize, room: &[u8], into: &mut [u8]) {
 // Buffer `k` put back from there.
 pub(crate) fn give(record: &[u8], k: usize, room: &mut [u8], from: &[u8]) {
     patch(room, start_of(record, k), from, 0, length_of(record, k));
+}
+
+// How many bytes of buffer `k` stand in a buffer of `most`.
+pub(crate) fn front(record: &[u8], k: usize, most: usize) -> usize
+    ensures { λ r. ⌜ r ≤ most ⌝ }
+{
+    clamp(length_of(record, k), most)
 }

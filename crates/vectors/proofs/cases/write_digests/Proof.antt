@@ -7,10 +7,10 @@ use Rattle.vectors.proofs.cases.write_digests.Statement.{statement}
 use Rattle.vectors.proofs.cases.write_digests.Tie as tie
 
 abbrev Inv-loop : tie.InvT-loop
-Inv-loop «record» room count k₀ k = (k ≤ count) × (count ≤ 255) × (length room ≡ 131072)
+Inv-loop «record» room unfixed count k₀ k = (k ≤ count) × (count ≤ 255) × (length room ≡ 131072)
 
 abbrev μ-loop : tie.MeasureT-loop
-μ-loop «record» room count k₀ k = count - k
+μ-loop «record» room unfixed count k₀ k = count - k
 
 pub write-digests-spec : {M : Type 1} → statement M
 write-digests-spec =
