@@ -137,11 +137,15 @@ int main(int count, char **words)
     prepare();
     if (count == 5)
         length = prepare_list(words[3], (size_t)atoi(words[4]));
+    int times = atoi(words[1]);
     void (*search)(void) = search_named(words[2]);
-    for (int times = atoi(words[1]); times > 0; times--)
-        if (search != NULL)
+    if (search != NULL) {
+        for (; times > 0; times--)
             search();
-        else if (!call(words[2], length)) {
+        return 0;
+    }
+    for (; times > 0; times--)
+        if (!call(words[2], length)) {
             fputs("no such call\n", stderr);
             return 2;
         }

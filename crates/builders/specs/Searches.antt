@@ -76,8 +76,11 @@ abbrev pub takeMarked : ℕ → Instruction
 takeMarked g = logicAt g (16 * 3 + 10)
 
 -- X or X flipped by 2^e: after e of 0 to 7, X is 1 on every line if it was on any.
+abbrev pub orFlip : ℕ → Instruction
+orFlip e = instruction 0 2 0 0 0 (2 ^ e) 0 (16 * 0 + 14)
+
 abbrev pub orFlipped : ℕ → List Instruction
-orFlipped e = instruction 0 2 0 0 0 (2 ^ e) 0 (16 * 0 + 14) ∷ []
+orFlipped e = orFlip e ∷ []
 
 -- X stays where bit g is not 1: those words lose to one that has it.
 abbrev pub without : ℕ → Instruction

@@ -24,7 +24,7 @@ use Rattle.module.specs.Act.{State, acted}
 use Rattle.module.specs.Run.{Lent, begun}
 use Rattle.builders.specs.Lists.{logicAt, encoded, rounds, Each, none, more}
 use Rattle.builders.specs.Field.{Field}
-use Rattle.builders.specs.Searches.{clearX, takeMarked, orFlipped, without, unmark, greatestRound, greatestList, greatestLength, greatestFault, greatestBuilt}
+use Rattle.builders.specs.Searches.{clearX, takeMarked, orFlip, orFlipped, without, unmark, greatestRound, greatestList, greatestLength, greatestFault, greatestBuilt}
 use Rattle.builders.specs.Word.{Word, sourceBit, afterBit, actedWord, folded}
 use Rattle.builders.proofs.Folds.{folded-append, folded-rounds, each-append, each-rounds}
 use Rattle.builders.proofs.ListLaws.{length-greatest-rounds, greatest-length}
@@ -37,15 +37,15 @@ use Rattle.fields.proofs.LineLaws.{acted-at, ran-at, at-self}
 use Rattle.fields.proofs.Whole.{zero-item}
 use Rattle.fields.proofs.Runs.{Quiet, plain-quiet, taken-none}
 use Rattle.fields.proofs.Kept.{end-good, marks-logic, marks-map}
-use Rattle.fields.proofs.Sums.{plain-from, plain-at, list-built}
-use Rattle.fields.proofs.SumRuns.{answer-built}
-use Rattle.fields.proofs.Spreading.{flip, withX, spread-all}
+use Rattle.fields.proofs.Spreading.{withX, spread-all}
 use Rattle.fields.proofs.Topmost.{Top, Some, top-more, top-there}
+use Rattle.fields.proofs.Plain.{plain-from, plain-at}
+use Rattle.fields.proofs.Built.{answer-built, list-built}
 
 -- ---- the list's instructions
 
 each-greatest : {P : Instruction → Type 0} (a n : ℕ) → P clearX → ((g : ℕ) → g < a + n → P (takeMarked g) × P (without g))
-    → ((e : ℕ) → e < 8 → P (flip e)) → P unmark → Each P (greatestList a n)
+    → ((e : ℕ) → e < 8 → P (orFlip e)) → P unmark → Each P (greatestList a n)
 each-greatest a n clear at flips last =
     more clear
     (each-rounds (λ k. greatestRound (a + (n - suc k))) n
@@ -59,7 +59,7 @@ greatest-logic a n = each-greatest a n refl (λ g h. (refl, refl)) (λ e h. refl
 greatest-idle : (a n : ℕ) → Each (λ i. takes i ≡ false) (greatestList a n)
 greatest-idle a n = each-greatest a n refl (λ g h. (refl, refl)) (λ e h. refl) refl
 
-quiet-flip : (e : ℕ) → Quiet (flip e)
+quiet-flip : (e : ℕ) → Quiet (orFlip e)
 unfolding fits wrongKind wrongSource lacksTag wrongTag idleAccess wrongPass wrongLogic
 quiet-flip e = record { gives-none = refl; formed = formed-by _ (ap (λ (p : Bool). not p || false || false) none-permitted) refl refl }
 

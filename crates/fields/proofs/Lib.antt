@@ -3,6 +3,8 @@ pub mod LineLaws
 pub mod Whole
 pub mod ItemLaws
 pub mod Runs
+pub mod Plain
+pub mod Built
 pub mod Kept
 pub mod Spreading
 pub mod Topmost

@@ -1,5 +1,5 @@
 -- Runs of the lists that mark the words equal to a number, and those less than it: their lists are quiet logic, and what a run leaves. Assumes nothing.
-use mathlib.Core.Path.{_≡_, refl, sym, ap, ap₂, subst, subst₂, _∙_}
+use mathlib.Core.Path.{_≡_, refl, sym, ap, subst, subst₂, _∙_}
 use mathlib.Core.Bool.{Bool, true, false, cond, not, _||_}
 use mathlib.Core.List.{List, [], _∷_, _++_}
 use mathlib.Core.Logic.{_↔_}
@@ -7,8 +7,7 @@ use Prim.Native.Nat.{ℕ, _+_, _*_, _/_, _^_, _<_, _≤_}
 use native.Mathlib.Nat.{zero-add}
 use native.Mathlib.Omega.{arith}
 use lib.Dec.{ltb}
-use lib.ListN.{length, drop, length-append}
-use lib.Seq.{take-at}
+use lib.ListN.{length, length-append}
 use Rattle.bits.specs.Bits.{digit, bitOf}
 use Rattle.bits.proofs.Binary.{digit-bit}
 use Rattle.bits.proofs.Items.{bitOf-bit, bitOf-pack}
@@ -20,9 +19,7 @@ use Rattle.judge.specs.Steps.{fits}
 use Rattle.judge.proofs.FormLaws.{formed-by}
 use Rattle.module.specs.Act.{State, acted}
 use Rattle.module.specs.Run.{Lent, begun}
-use Rattle.builders.specs.declared.BuiltTwo.{BuiltTwo}
 use Rattle.builders.specs.Lists.{logicFrom, logicAt, encoded, Each, none, more}
-use Rattle.builders.specs.Building.{BuiltTwoLeft, builtTwo}
 use Rattle.builders.specs.Field.{Field}
 use Rattle.builders.specs.Searches.{takeBit, started, changed, moveX, searchRound, searchRounds, searchList, equalList, lessList, numberItems}
 use Rattle.builders.specs.Searches.{searchLength, itemsLength, searchFault, searchBuilt, equalBuilt, lessBuilt}
@@ -39,8 +36,9 @@ use Rattle.fields.specs.Search.{withItems, runOfTwo, equalRun, lessRun, 
 use Rattle.fields.proofs.LineLaws.{ran-at, at-self}
 use Rattle.fields.proofs.Whole.{bytes-ext, Good}
 use Rattle.fields.proofs.Runs.{Quiet, Plain, plain-quiet}
-use Rattle.fields.proofs.Sums.{local, plain-from, plain-at}
 use Rattle.fields.proofs.Kept.{end-good, marks-logic}
+use Rattle.fields.proofs.Plain.{local, plain-from, plain-at}
+use Rattle.fields.proofs.Built.{two-written, two-run}
 
 -- ---- the lists
 
@@ -98,26 +96,6 @@ unfolding takenBy
 search-taken less a n =
     ap (λ (t : Bool). cond t 1 0 + takenBy (searchRounds less a n ++ (moveX ∷ []))) (started-taken less)
     ∙ omega (arith, taken-append (searchRounds less a n) (moveX ∷ []), taken-rounds (λ k. searchRound less (a + k)) 1 n (λ k. round-taken less (a + k)))
-
--- ---- the list and the items that a builder wrote
-
-module _ (bytes itemBytes list items : List ℕ) where
-  abbrev built : ℕ → BuiltTwoLeft
-  built fault = builtTwo fault bytes itemBytes list items
-
-  two-written : (fault n k : ℕ) → fault ≡ 0 → length bytes ≡ n → length itemBytes ≡ k → built fault .answer ≡ record { number = 0; list = n; items = k }
-  unfolding builtTwo
-  two-written fault n k e l i = ap (λ (x : ℕ). built x .answer) e ∙ ap₂ answered l i
-    where
-      answered : ℕ → ℕ → BuiltTwo
-      answered x y = record { number = 0; list = x; items = y }
-
-  two-run : (fault : ℕ) → fault ≡ 0 → (lent : Lent (List ℕ)) → runOfTwo (built fault) lent ≡ runOf bytes (withItems (itemBytes ++ lent .items) lent)
-  unfolding builtTwo
-  two-run fault e lent =
-      ap (λ (x : ℕ). runOfTwo (built x) lent) e
-      ∙ ap₂ (λ (l i : List ℕ). runOf l (withItems (i ++ lent .items) lent))
-      (take-at bytes (drop (length bytes) list) (length bytes) refl) (take-at itemBytes (drop (length itemBytes) items) (length itemBytes) refl)
 
 -- ---- the run
 

@@ -13,10 +13,9 @@ use Rattle.bits.proofs.Items.{bitOf-bit}
 use Rattle.bits.proofs.Xor.{xor-assoc, xor-twice}
 use Rattle.network.proofs.TableRules.{none-permitted}
 use Rattle.registers.specs.Logic.{functionBit, newX, newY}
-use Rattle.judge.specs.declared.Instruction.{Instruction}
 use Rattle.module.specs.Act.{State, acted}
-use Rattle.builders.specs.Lists.{instruction, rounds}
-use Rattle.builders.specs.Searches.{orFlipped}
+use Rattle.builders.specs.Lists.{rounds}
+use Rattle.builders.specs.Searches.{orFlip, orFlipped}
 use Rattle.builders.specs.Word.{Word, sourceBit, afterBit, folded}
 use Rattle.builders.proofs.Folds.{folded-rounds}
 use Rattle.builders.proofs.Marks.{Mark, bit-mark, mark-map, mark-or}
@@ -79,19 +78,15 @@ pub record Spread (P : ℕ → Type 0) (s t : State) : Type 0 where
   pub same : (p : ℕ) (v : Word) → p < 256 → At p s v → At p t (withX (bitOf (t .regs .x) p) v)
   pub marks : (p : ℕ) → p < 256 → Mark (P p) (bitOf (t .regs .x) p)
 
--- X or X flipped by 2^k.
-abbrev pub flip : ℕ → Instruction
-flip k = instruction 0 2 0 0 0 (2 ^ k) 0 (16 * 0 + 14)
-
-sliced : (k : ℕ) → k < 8 → Sliced (flip k)
+sliced : (k : ℕ) → k < 8 → Sliced (orFlip k)
 sliced k h = record { mode0 = refl; inside = omega arith; flips = pow-lt h; byte6 = omega arith; shifts = none-permitted }
 
 flip-at : (k : ℕ) → k < 8 → (items : List ℕ) (s : State) (p : ℕ) (v : Word) → p < 256 → At p s v
-    → At p (acted (flip k) items s) (withX (functionBit 14 (v .x) (bitOf (s .regs .x) (bitXor p (2 ^ k)))) v)
+    → At p (acted (orFlip k) items s) (withX (functionBit 14 (v .x) (bitOf (s .regs .x) (bitXor p (2 ^ k)))) v)
 unfolding afterBit sourceBit newX newY
 flip-at k h items s p v hp a =
-    subst (λ (q : ℕ). At p (acted (flip k) items s) (withX (functionBit 14 (v .x) (bitOf (s .regs .x) q)) v)) (came-flipped (flip k) p refl)
-    (acted-from p hp (flip k) items s v (wordOf (cameFrom (flip k) p) s) (sliced k h) a (at-self (cameFrom (flip k) p) s))
+    subst (λ (q : ℕ). At p (acted (orFlip k) items s) (withX (functionBit 14 (v .x) (bitOf (s .regs .x) q)) v)) (came-flipped (orFlip k) p refl)
+    (acted-from p hp (orFlip k) items s v (wordOf (cameFrom (orFlip k) p) s) (sliced k h) a (at-self (cameFrom (orFlip k) p) s))
 
 module _ (items : List ℕ) (s : State) where
   spread-more : (k : ℕ) (t : State) → k < 8 → Spread (λ p. Near (bitOf (s .regs .x)) p k) s t

@@ -1,5 +1,5 @@
 -- Runs of the lists that the builders write: what a sum and a difference leave, A and B exchanged, and B taken off again. Assumes nothing.
-use mathlib.Core.Path.{_≡_, refl, sym, ap, ap₂, subst₂, _∙_}
+use mathlib.Core.Path.{_≡_, refl, sym, ap₂, subst₂, _∙_}
 use mathlib.Core.Bool.{false}
 use mathlib.Core.Logic.{inl, inr}
 use mathlib.Core.List.{List}
@@ -11,26 +11,18 @@ use Rattle.bits.proofs.Digits.{digitsOf-lt, digitsOf-ext}
 use Rattle.bits.proofs.Items.{bitOf-bit}
 use Rattle.judge.specs.Judge.{unfit}
 use Rattle.module.specs.Run.{Lent}
-use Rattle.builders.specs.declared.Built.{Built}
 use Rattle.builders.specs.Lists.{encoded}
 use Rattle.builders.specs.Sums.{sumByte, differenceByte, sumList, differenceList, Fields, Apart, listLength, fieldsFault, sumBuilt, differenceBuilt}
-use Rattle.builders.specs.Building.{builtWith}
 use Rattle.builders.proofs.ListLaws.{length-bits, sum-length, difference-length}
 use Rattle.builders.proofs.Refusals.{no-fault}
 use Rattle.fields.specs.Line.{outsideAt}
 use Rattle.fields.specs.Value.{wordBit, value, listOf, Bytes, Put, runOf, lentOn, sumRun, differenceRun, TakenOff}
 use Rattle.builders.proofs.Carries.{turned, no-borrow, put-back}
 use Rattle.builders.proofs.Adder.{sum-word, difference-word}
-use Rattle.fields.proofs.Sums.{sum-plain, difference-plain, list-built, put-plain, put-unique}
+use Rattle.fields.proofs.Sums.{sum-plain, difference-plain, put-plain, put-unique}
+use Rattle.fields.proofs.Built.{answer-built, list-built}
 
 -- ---- the list is written
-
-pub answer-built : (fault : ℕ) (bytes buffer : List ℕ) (k : ℕ) → fault ≡ 0 → length bytes ≡ k → builtWith fault bytes buffer .answer ≡ record { number = 0; count = k }
-answer-built fault bytes buffer k e l =
-    ap (λ (x : ℕ). builtWith x bytes buffer .answer) e ∙ ap (λ (x : ℕ). answered x) l
-  where
-    answered : ℕ → Built
-    answered x = record { number = 0; count = x }
 
 module _ (a b s n : ℕ) (fields : Fields a b s n) (buffer : List ℕ) where
   module _ (room : listLength 1 n ≤ length buffer) where

@@ -1,75 +1,37 @@
 -- From the one-word machine to the run: the sum and the difference list are plain, what a run of them leaves, and that this fixes every byte. Assumes nothing.
 use mathlib.Core.Path.{_≡_, refl, sym, ap, subst, _∙_}
-use mathlib.Core.Bool.{Bool, false, not, _||_}
-use mathlib.Core.List.{List, _++_}
+use mathlib.Core.Bool.{false}
+use mathlib.Core.List.{List}
 use Prim.Native.Nat.{ℕ, _+_, _-_, _/_, _%_, _^_, _<_, _≤_}
 use native.Mathlib.Decide.{decLe}
 use native.Mathlib.Omega.{arith}
 use lib.Dec.{ltb}
-use lib.ListN.{length, take, drop, take-append-drop, length-drop}
-use lib.Seq.{take-at, take-all, drop-drop}
+use lib.ListN.{length}
 use Rattle.bits.specs.Bits.{digit, bitOf, digitsOf}
 use Rattle.bits.proofs.Digits.{digitsOf-lt, digitsOf-at, digitsOf-ext}
 use Rattle.bits.proofs.Items.{bitOf-bit}
-use Rattle.network.proofs.TableRules.{none-permitted}
 use Rattle.registers.specs.declared.Registers.{Registers}
 use Rattle.registers.specs.Rows.{registersOf, bytesOf}
 use Rattle.registers.proofs.RowLaws.{registers-bytes, bytes-registers}
 use Rattle.judge.specs.declared.Instruction.{Instruction}
 use Rattle.judge.specs.declared.Answer.{Answer}
-use Rattle.judge.specs.Judge.{unfit, wrongKind, wrongSource, lacksTag, wrongTag, idleAccess, wrongPass, wrongLogic}
+use Rattle.judge.specs.Judge.{unfit}
 use Rattle.module.specs.Act.{State, acted}
-use Rattle.judge.specs.Steps.{fits}
-use Rattle.judge.proofs.FormLaws.{formed-by}
 use Rattle.module.specs.Run.{Lent, Left, begun}
-use Rattle.builders.specs.Lists.{logicFrom, logicAt, storeAt, encoded, Each, none, more}
+use Rattle.builders.specs.Lists.{encoded, Each, none, more}
 use Rattle.builders.specs.Sums.{bitRound, bitRounds, sumByte, differenceByte, carryByte, moveByte, sumList, differenceList, Fields}
-use Rattle.builders.specs.Building.{builtWith}
 use Rattle.builders.specs.Word.{Word, folded, ranWord}
-use Rattle.fields.specs.Line.{wordOf, outsideAt, At, Local}
-use Rattle.fields.specs.Value.{wordBit, value, listOf, Bytes, Put, runOf}
+use Rattle.fields.specs.Line.{wordOf, outsideAt, At}
+use Rattle.fields.specs.Value.{wordBit, value, Bytes, Put, runOf}
 use Rattle.builders.proofs.Folds.{each-rounds, each-map}
 use Rattle.fields.proofs.LineLaws.{ran-at, at-self}
 use Rattle.builders.proofs.Carries.{quotient, rest}
 use Rattle.builders.proofs.Adder.{After}
 use Rattle.fields.proofs.Whole.{bytes-ext, zero-item, part-bytes, Good, begun-good, registers-ok, folded-good, memory-ext}
 use Rattle.fields.proofs.Runs.{Plain, ran-plain}
+use Rattle.fields.proofs.Plain.{plain-from, plain-at, plain-store}
 
 -- ---- the lists are plain
-
-pub local : (k s t g l : ℕ) → g < 256 → Local (record { kind = k; source = s; tag = t; mode = 0; addr = g; flip = 0; code = 0; logic = l })
-local k s t g l h = record { mode0 = refl; flip0 = refl; code0 = refl; inside = h }
-
-module _ (t : ℕ) (choice : ltb 4 (t / 16) ≡ false) where
-  pub plain-from : Plain (logicFrom 2 t)
-  unfolding fits wrongKind wrongSource lacksTag wrongTag idleAccess wrongPass wrongLogic
-  plain-from =
-      record {
-        local = local 0 2 0 0 t (omega arith);
-        takes-none = refl;
-        gives-none = refl;
-        formed = formed-by _ (ap (λ (p : Bool). not p || false || false) none-permitted) (ap (λ (c : Bool). c || false) choice) refl;
-      }
-
-  pub plain-at : (g : ℕ) → g < 256 → Plain (logicAt g t)
-  unfolding fits wrongKind wrongSource lacksTag wrongTag idleAccess wrongPass wrongLogic
-  plain-at g h =
-      record {
-        local = local 0 0 1 g t h;
-        takes-none = refl;
-        gives-none = refl;
-        formed = formed-by _ (ap (λ (p : Bool). not p || false || false) none-permitted) (ap (λ (c : Bool). c || false) choice) refl;
-      }
-
-plain-store : (g : ℕ) → g < 256 → Plain (storeAt 3 g)
-unfolding fits wrongKind wrongSource lacksTag wrongTag idleAccess wrongPass wrongLogic
-plain-store g h =
-    record {
-      local = local 2 3 1 g 0 h;
-      takes-none = refl;
-      gives-none = refl;
-      formed = formed-by _ (ap (λ (p : Bool). not p || false || false) none-permitted) refl refl;
-    }
 
 bits-plain : (t a b s n : ℕ) → ltb 4 (t / 16) ≡ false → Fields a b s n → Each Plain (bitRounds t a b s n)
 bits-plain t a b s n choice f =
@@ -84,11 +46,6 @@ sum-plain a b s n f = more (plain-from 32 refl) (bits-plain sumByte a b s n refl
 
 pub difference-plain : (a b s n : ℕ) → Fields a b s n → Each Plain (differenceList a b s n)
 difference-plain a b s n f = more (plain-from 32 refl) (more (plain-from 31 refl) (bits-plain differenceByte a b s n refl f))
-
--- ---- the list that a builder wrote
-
-pub list-built : (fault : ℕ) (bytes buffer : List ℕ) → fault ≡ 0 → listOf (builtWith fault bytes buffer) ≡ bytes
-list-built fault bytes buffer e = ap (λ (x : ℕ). listOf (builtWith x bytes buffer)) e ∙ take-at bytes (drop (length bytes) buffer) (length bytes) refl
 
 -- ---- what a plain list leaves that has the adder's invariant at each word
 
