@@ -9,27 +9,28 @@ use Rattle.fields.specs.Search.{lessRun}
 use Rattle.fields.proofs.Runs.{fits-behind}
 use Rattle.fields.proofs.SearchRuns.{equal-logic, less-logic, equal-written, less-written, equal-marks, less-marks}
 use Rattle.fields.proofs.GreatestRuns.{greatest-logic, greatest-written, greatest-marks, greatest-of, greatest-none, greatest-some}
-use Rattle.promises.specs.DemandSearch.{Given, DemandSearch}
+use Rattle.promises.specs.DemandSearch.{Given, Asked, DemandSearch}
 
-pub demand-search : (a n number : ℕ) (list items list′ : List ℕ) (lent : Lent (List ℕ)) → Given a n number list items list′ lent
-    → DemandSearch a n number list items list′ lent
-demand-search a n number list items list′ lent l =
-    let supplied = fits-behind n (length (lent .items)) (l .supplied) in
-    let less = less-marks a n (l .field) number (l .small) list items (l .room) (l .roomItems) lent (l .memory) (l .registers) (l .supplied) in
-    let after = lessRun a n number list items lent in
-    let memory : Bytes (after .memory) 8192 = subst (λ (z : List ℕ). Bytes z 8192) (sym (less .keeps)) (l .memory) in
+pub demand-search : (a n : ℕ) (lent : Lent (List ℕ)) → Given a n lent → DemandSearch a n lent
+demand-search a n lent l =
     record {
-      equalWritten = equal-written a n (l .field) number (l .small) list items (l .room) (l .roomItems);
-      lessWritten = less-written a n (l .field) number (l .small) list items (l .room) (l .roomItems);
-      greatestWritten = greatest-written a n (l .field) list′ (l .room′);
       equalLogic = equal-logic a n (l .field);
       lessLogic = less-logic a n (l .field);
       greatestLogic = greatest-logic a n;
-      equal = equal-marks a n (l .field) number (l .small) list items (l .room) (l .roomItems) lent (l .memory) (l .registers) (l .supplied);
-      less = less;
-      greatest = greatest-marks a n (l .field) list′ (l .room′) lent (l .memory) (l .registers) supplied;
-      noneMarked = greatest-none a n (l .field) list′ (l .room′) lent (l .memory) (l .registers) supplied;
-      someMarked = greatest-some a n (l .field) list′ (l .room′) lent (l .memory) (l .registers) supplied;
-      greatestLess = greatest-of a n (l .field) list′ (l .room′) (lentOn lent after) memory (less .registers) supplied
+      equalWritten = λ number list items q. equal-written a n (l .field) number (q .small) list items (q .room) (q .roomItems);
+      equal = λ number list items q.
+          equal-marks a n (l .field) number (q .small) list items (q .room) (q .roomItems) lent (l .memory) (l .registers) (q .supplied);
+      lessWritten = λ number list items q. less-written a n (l .field) number (q .small) list items (q .room) (q .roomItems);
+      less = λ number list items q.
+          less-marks a n (l .field) number (q .small) list items (q .room) (q .roomItems) lent (l .memory) (l .registers) (q .supplied);
+      greatestWritten = λ list q. greatest-written a n (l .field) list (q .room);
+      greatest = λ list q. greatest-marks a n (l .field) list (q .room) lent (l .memory) (l .registers) (q .supplied);
+      noneMarked = λ list q. greatest-none a n (l .field) list (q .room) lent (l .memory) (l .registers) (q .supplied);
+      someMarked = λ list q. greatest-some a n (l .field) list (q .room) lent (l .memory) (l .registers) (q .supplied);
+      greatestLess = λ number list items list′ q room.
+          let less = less-marks a n (l .field) number (q .small) list items (q .room) (q .roomItems) lent (l .memory) (l .registers) (q .supplied) in
+          let r = lessRun a n number list items lent in
+          let memory : Bytes (r .memory) 8192 = subst (λ (z : List ℕ). Bytes z 8192) (sym (less .keeps)) (l .memory) in
+          greatest-of a n (l .field) list′ room (lentOn lent r) memory (less .registers) (fits-behind n (length (lent .items)) (q .supplied))
           (λ w. value (lent .memory) w a n < number) (lent .memory) (less .marks) (less .keeps);
     }

@@ -1,8 +1,8 @@
 -- The searches of document 02, One, on a page: "builders of lists that leave in Y a 1 for each word whose field equals a given number; is less than it; or, among the words marked in Y at the start, holds the greatest value, every equal one marked. If none is marked, none is at the end. The lists .. take the number as outside items and write no memory. Each is proved against whole-number comparison."
 -- Stated of the bytes that the builders leave in their buffers and of what `run` promises to do with them; proved in proofs/DemandSearch.antt, and assumes nothing. The numbers 30, 31, 34 and 33 stand in specs/DemandOne.antt.
 use mathlib.Core.Path.{_≡_}
-use mathlib.Core.Bool.{Bool, false}
-use mathlib.Core.List.{List, _++_}
+use mathlib.Core.Bool.{false}
+use mathlib.Core.List.{List}
 use Prim.Native.Nat.{ℕ, _+_, _*_, _^_, _<_, _≤_}
 use lib.ListN.{length, replicate}
 use Rattle.judge.specs.declared.Instruction.{Instruction}
@@ -14,16 +14,23 @@ use Rattle.builders.specs.Searches.{equalList, lessList, greatestList, searchLe
 use Rattle.fields.specs.Value.{value, Bytes, lentOn}
 use Rattle.fields.specs.Search.{equalRun, lessRun, greatestRun, Marked, Greatest, Marks}
 
--- Any field of 1 to 64 bits inside the word; any number that is not too large for it; buffers that are not too short; any memory, any registers, whatever M, X and Y hold; and any items behind those that the list takes.
-pub record Given (a n number : ℕ) (list items list′ : List ℕ) (lent : Lent (List ℕ)) : Type 0 where
+-- Any field of 1 to 64 bits inside the word, any memory, and any registers, whatever M, X and Y hold.
+pub record Given (a n : ℕ) (lent : Lent (List ℕ)) : Type 0 where
   pub field : Field a n
+  pub memory : Bytes (lent .memory) 8192
+  pub registers : Bytes (lent .registers) 96
+
+-- For equal and less: any number that is not too large, buffers that are not too short, and any items behind those that the list takes.
+pub record Asked (n number : ℕ) (list items : List ℕ) (lent : Lent (List ℕ)) : Type 0 where
   pub small : number < 2 ^ n
   pub room : searchLength n ≤ length list
   pub roomItems : itemsLength n ≤ length items
-  pub room′ : greatestLength n ≤ length list′
-  pub memory : Bytes (lent .memory) 8192
-  pub registers : Bytes (lent .registers) 96
   pub supplied : unfit 32 (itemsLength n + length (lent .items)) ≡ false
+
+-- For greatest: a buffer that is not too short, and any items, of which it takes none.
+pub record AskedGreatest (n : ℕ) (list : List ℕ) (lent : Lent (List ℕ)) : Type 0 where
+  pub room : greatestLength n ≤ length list
+  pub supplied : unfit 32 (length (lent .items)) ≡ false
 
 -- X afterwards: the same marks as Y; or 0.
 abbrev same : List ℕ → List ℕ
@@ -36,25 +43,32 @@ zero y = replicate 32 0
 abbrev Logic : Instruction → Type 0
 Logic i = i .kind ≡ 0
 
-pub record DemandSearch (a n number : ℕ) (list items list′ : List ℕ) (lent : Lent (List ℕ)) : Type 0 where
-  -- each list is written, with its count of bytes and of its items', 8(2+3n) and 32n, or 8(1+11n)
-  pub equalWritten : equalBuilt a n number list items .answer ≡ record { number = 0; list = searchLength n; items = itemsLength n }
-  pub lessWritten : lessBuilt a n number list items .answer ≡ record { number = 0; list = searchLength n; items = itemsLength n }
-  pub greatestWritten : greatestBuilt a n list′ .answer ≡ record { number = 0; count = greatestLength n }
-  -- and has logic instructions alone
+pub record DemandSearch (a n : ℕ) (lent : Lent (List ℕ)) : Type 0 where
+  -- the lists have logic instructions alone
   pub equalLogic : Each Logic (equalList a n)
   pub lessLogic : Each Logic (lessList a n)
   pub greatestLogic : Each Logic (greatestList a n)
-  -- Y marks exactly the words whose field is the number, or less; X too
-  pub equal : Marks (2 + 3 * n) n (λ w. value (lent .memory) w a n ≡ number) same lent (equalRun a n number list items lent)
-  pub less : Marks (2 + 3 * n) n (λ w. value (lent .memory) w a n < number) same lent (lessRun a n number list items lent)
-  -- Y marks exactly those of the words marked before that hold the greatest value; X is 0
-  pub greatest : Marks (1 + 11 * n) 0 (Greatest a n lent) zero lent (greatestRun a n list′ lent)
+  -- equal: the list and its items are written, and counted; Y marks exactly the words whose field is the number, and X too
+  pub equalWritten : (number : ℕ) (list items : List ℕ) → Asked n number list items lent
+      → equalBuilt a n number list items .answer ≡ record { number = 0; list = searchLength n; items = itemsLength n }
+  pub equal : (number : ℕ) (list items : List ℕ) → Asked n number list items lent
+      → Marks (2 + 3 * n) n (λ w. value (lent .memory) w a n ≡ number) same lent (equalRun a n number list items lent)
+  -- less: the same, and Y marks exactly the words whose field is less
+  pub lessWritten : (number : ℕ) (list items : List ℕ) → Asked n number list items lent
+      → lessBuilt a n number list items .answer ≡ record { number = 0; list = searchLength n; items = itemsLength n }
+  pub less : (number : ℕ) (list items : List ℕ) → Asked n number list items lent
+      → Marks (2 + 3 * n) n (λ w. value (lent .memory) w a n < number) same lent (lessRun a n number list items lent)
+  -- greatest: Y marks exactly those of the words marked before that hold the greatest value, and X is 0
+  pub greatestWritten : (list : List ℕ) → AskedGreatest n list lent → greatestBuilt a n list .answer ≡ record { number = 0; count = greatestLength n }
+  pub greatest : (list : List ℕ) → AskedGreatest n list lent → Marks (1 + 11 * n) 0 (Greatest a n lent) zero lent (greatestRun a n list lent)
   -- "If none is marked, none is at the end"
-  pub noneMarked : ((w : ℕ) → w < 256 → Marked (lent .registers) w → ⊥) → (w : ℕ) → w < 256 → Marked (greatestRun a n list′ lent .registers) w → ⊥
+  pub noneMarked : (list : List ℕ) → AskedGreatest n list lent
+      → ((w : ℕ) → w < 256 → Marked (lent .registers) w → ⊥) → (w : ℕ) → w < 256 → Marked (greatestRun a n list lent .registers) w → ⊥
   -- and if one is marked, one is
-  pub someMarked : (w : ℕ) → w < 256 → Marked (lent .registers) w → (v : ℕ) × (v < 256) × Marked (greatestRun a n list′ lent .registers) v
-  -- one behind the other: the highest of the stations below a number
-  pub greatestLess : (let r = lentOn lent (lessRun a n number list items lent) in
+  pub someMarked : (list : List ℕ) → AskedGreatest n list lent
+      → (w : ℕ) → w < 256 → Marked (lent .registers) w → (v : ℕ) × (v < 256) × Marked (greatestRun a n list lent .registers) v
+  -- greatest behind less, on what less leaves: the highest of the stations below a number
+  pub greatestLess : (number : ℕ) (list items list′ : List ℕ) → Asked n number list items lent → greatestLength n ≤ length list′
+      → (let r = lentOn lent (lessRun a n number list items lent) in
       Marks (1 + 11 * n) 0 (λ w. (value (lent .memory) w a n < number)
       × ((v : ℕ) → v < 256 → value (lent .memory) v a n < number → value (lent .memory) v a n ≤ value (lent .memory) w a n)) zero r (greatestRun a n list′ r))
