@@ -291,8 +291,9 @@ void staran_difference_list(uint32_t a, uint32_t b, uint32_t s, uint32_t n, uint
  * 8 * (2 + 3n), or items_length under 32n).
  * Done: the first bytes of list are the list and the first bytes of items its items, the counts are their lengths, and the bytes past
  * them stay. Refused: both counts are 0, and list and items are as they were.
- * To run it, lend staran_run both: the list takes the first n items, in their order. Items behind those are no fault. The list depends
- * on the field alone and the items on the number and the width alone, so one list serves every number.
+ * To run it, lend staran_run the list with the length answer[1] and the items with the length answer[2]: the list takes the first n
+ * items, in their order. Whole items behind those are no fault. The list depends on the field alone and the items on the number and
+ * the width alone, so one list serves every number.
  * Stack: at most 256 bytes. */
 void staran_equal_list(uint32_t start, uint32_t n, uint64_t number, uint8_t *list, size_t list_length, uint8_t *items,
                        size_t items_length, uint32_t answer[STARAN_LIST_AND_ITEMS_NUMBERS]);
@@ -303,8 +304,8 @@ void staran_less_list(uint32_t start, uint32_t n, uint64_t number, uint8_t *list
                       size_t items_length, uint32_t answer[STARAN_LIST_AND_ITEMS_NUMBERS]);
 
 /* Builds the list of instructions that, run, leaves marked in Y, of the words that are marked there before, exactly those whose field
- * holds the greatest value: all of them where several do, and none where none is marked. X is then 0; M, the memory and the out buffer
- * are as they were. It takes no items.
+ * holds the greatest value, as a whole number with no sign: all of them where several do, and none where none is marked. X is then 0;
+ * M, the memory and the out buffer are as they were. It takes no items.
  *
  * start     the start of the field: any number of 32 bits
  * n         its width: any number of 32 bits
@@ -314,6 +315,7 @@ void staran_less_list(uint32_t start, uint32_t n, uint64_t number, uint8_t *list
  * Judged: 30 (n is not 1 to 64); 31 (start + n is over 256, as whole numbers); 33 (list_length is under 8 * (1 + 11n)).
  * Done: the first bytes of list are the list, the count is its length, and the bytes past it stay. Refused: the count is 0 and list is
  * as it was.
+ * To run it, lend staran_run the list with the length answer[1].
  * Stack: at most 256 bytes. */
 void staran_greatest_list(uint32_t start, uint32_t n, uint8_t *list, size_t list_length, uint32_t answer[STARAN_LIST_NUMBERS]);
 

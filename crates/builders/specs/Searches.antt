@@ -117,7 +117,7 @@ itemsLength n = 32 * n
 abbrev pub greatestLength : ℕ → ℕ
 greatestLength n = 8 * (1 + 11 * n)
 
--- "30 and 31 as in document 01; 34 ..; 33, either buffer too short": in this order.
+-- "30 and 31 as in document 01; 34 ..; 33, either buffer too short": in this order. `list` and `items` are the lengths of the buffers.
 abbrev pub searchRows : ℕ → ℕ → ℕ → ℕ → ℕ → List Row
 searchRows a n number list items =
     row 30 (wrongWidth n)
@@ -126,7 +126,7 @@ searchRows a n number list items =
     ∷ row 33 (ltb list (searchLength n) || ltb items (itemsLength n))
     ∷ []
 
--- Greatest has no number, and its list buffer alone.
+-- Greatest has no number, and a list buffer alone.
 abbrev pub greatestRows : ℕ → ℕ → ℕ → List Row
 greatestRows a n list =
     row 30 (wrongWidth n)

@@ -9,9 +9,9 @@ use Rattle.fields.specs.Search.{lessRun}
 use Rattle.fields.proofs.Runs.{fits-behind}
 use Rattle.fields.proofs.SearchRuns.{equal-logic, less-logic, equal-written, less-written, equal-marks, less-marks}
 use Rattle.fields.proofs.GreatestRuns.{greatest-logic, greatest-written, greatest-marks, greatest-of, greatest-none, greatest-some}
-use Rattle.promises.specs.DemandSearch.{Given, Asked, DemandSearch}
+use Rattle.promises.specs.DemandSearch.{Searched, DemandSearch}
 
-pub demand-search : (a n : ℕ) (lent : Lent (List ℕ)) → Given a n lent → DemandSearch a n lent
+pub demand-search : (a n : ℕ) (lent : Lent (List ℕ)) → Searched a n lent → DemandSearch a n lent
 demand-search a n lent l =
     record {
       equalLogic = equal-logic a n (l .field);

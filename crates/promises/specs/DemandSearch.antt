@@ -14,30 +14,30 @@ use Rattle.builders.specs.Searches.{equalList, lessList, greatestList, searchLe
 use Rattle.fields.specs.Value.{value, Bytes, lentOn}
 use Rattle.fields.specs.Search.{equalRun, lessRun, greatestRun, Marked, Greatest, Marks}
 
--- Any field of 1 to 64 bits inside the word, any memory, and any registers, whatever M, X and Y hold.
-pub record Given (a n : ℕ) (lent : Lent (List ℕ)) : Type 0 where
+-- Any field of 1 to 64 bits inside the word, any memory of 8,192 bytes, and any registers of 96, whatever M, X and Y hold.
+pub record Searched (a n : ℕ) (lent : Lent (List ℕ)) : Type 0 where
   pub field : Field a n
   pub memory : Bytes (lent .memory) 8192
   pub registers : Bytes (lent .registers) 96
 
--- For equal and less: any number that is not too large, buffers that are not too short, and any items behind those that the list takes.
+-- For equal and less: any number that is not too large, buffers that are not too short, and behind the items that the list takes any with which the judge does not refuse the whole.
 pub record Asked (n number : ℕ) (list items : List ℕ) (lent : Lent (List ℕ)) : Type 0 where
   pub small : number < 2 ^ n
   pub room : searchLength n ≤ length list
   pub roomItems : itemsLength n ≤ length items
   pub supplied : unfit 32 (itemsLength n + length (lent .items)) ≡ false
 
--- For greatest: a buffer that is not too short, and any items, of which it takes none.
+-- For greatest: a buffer that is not too short, and any items that the judge does not refuse, of which it takes none.
 pub record AskedGreatest (n : ℕ) (list : List ℕ) (lent : Lent (List ℕ)) : Type 0 where
   pub room : greatestLength n ≤ length list
   pub supplied : unfit 32 (length (lent .items)) ≡ false
 
 -- X afterwards: the same marks as Y; or 0.
-abbrev same : List ℕ → List ℕ
-same y = y
+abbrev asY : List ℕ → List ℕ
+asY y = y
 
-abbrev zero : List ℕ → List ℕ
-zero y = replicate 32 0
+abbrev allZero : List ℕ → List ℕ
+allZero y = replicate 32 0
 
 -- The instruction is logic: kind 0.
 abbrev Logic : Instruction → Type 0
@@ -52,15 +52,15 @@ pub record DemandSearch (a n : ℕ) (lent : Lent (List ℕ)) : Type 0 where
   pub equalWritten : (number : ℕ) (list items : List ℕ) → Asked n number list items lent
       → equalBuilt a n number list items .answer ≡ record { number = 0; list = searchLength n; items = itemsLength n }
   pub equal : (number : ℕ) (list items : List ℕ) → Asked n number list items lent
-      → Marks (2 + 3 * n) n (λ w. value (lent .memory) w a n ≡ number) same lent (equalRun a n number list items lent)
+      → Marks (2 + 3 * n) n (λ w. value (lent .memory) w a n ≡ number) asY lent (equalRun a n number list items lent)
   -- less: the same, and Y marks exactly the words whose field is less
   pub lessWritten : (number : ℕ) (list items : List ℕ) → Asked n number list items lent
       → lessBuilt a n number list items .answer ≡ record { number = 0; list = searchLength n; items = itemsLength n }
   pub less : (number : ℕ) (list items : List ℕ) → Asked n number list items lent
-      → Marks (2 + 3 * n) n (λ w. value (lent .memory) w a n < number) same lent (lessRun a n number list items lent)
+      → Marks (2 + 3 * n) n (λ w. value (lent .memory) w a n < number) asY lent (lessRun a n number list items lent)
   -- greatest: Y marks exactly those of the words marked before that hold the greatest value, and X is 0
   pub greatestWritten : (list : List ℕ) → AskedGreatest n list lent → greatestBuilt a n list .answer ≡ record { number = 0; count = greatestLength n }
-  pub greatest : (list : List ℕ) → AskedGreatest n list lent → Marks (1 + 11 * n) 0 (Greatest a n lent) zero lent (greatestRun a n list lent)
+  pub greatest : (list : List ℕ) → AskedGreatest n list lent → Marks (1 + 11 * n) 0 (Greatest a n lent) allZero lent (greatestRun a n list lent)
   -- "If none is marked, none is at the end"
   pub noneMarked : (list : List ℕ) → AskedGreatest n list lent
       → ((w : ℕ) → w < 256 → Marked (lent .registers) w → ⊥) → (w : ℕ) → w < 256 → Marked (greatestRun a n list lent .registers) w → ⊥
@@ -71,4 +71,4 @@ pub record DemandSearch (a n : ℕ) (lent : Lent (List ℕ)) : Type 0 where
   pub greatestLess : (number : ℕ) (list items list′ : List ℕ) → Asked n number list items lent → greatestLength n ≤ length list′
       → (let r = lentOn lent (lessRun a n number list items lent) in
       Marks (1 + 11 * n) 0 (λ w. (value (lent .memory) w a n < number)
-      × ((v : ℕ) → v < 256 → value (lent .memory) v a n < number → value (lent .memory) v a n ≤ value (lent .memory) w a n)) zero r (greatestRun a n list′ r))
+      × ((v : ℕ) → v < 256 → value (lent .memory) v a n < number → value (lent .memory) v a n ≤ value (lent .memory) w a n)) allZero r (greatestRun a n list′ r))

@@ -69,6 +69,7 @@ fn run_front(
     )
 }
 
+// A run of the first `most` bytes of the case's list, or a step.
 pub(crate) fn call_module(record: &[u8], room: &mut [u8], most: usize, step: bool) -> Numbers {
     let mut memory = [0u8; 8200];
     let mut registers = [0u8; 100];
