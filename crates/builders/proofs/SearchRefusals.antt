@@ -1,6 +1,6 @@
 -- The table of refusals of the searches, both ways, and of greatest: the number of the first row that holds, and what is not refused. Assumes nothing.
 use mathlib.Core.Path.{_≡_, refl, sym, ap, subst, _∙_}
-use mathlib.Core.Bool.{Bool, true, false, not, _||_}
+use mathlib.Core.Bool.{Bool, true, false, not}
 use mathlib.Core.Logic.{_↔_}
 use Prim.Native.Nat.{ℕ, _+_, _/_, _^_, _<_, _≤_}
 use native.Mathlib.Nat.{lt-of-lt-of-le, div-eq-of-lt, le-div-iff-mul-le, one-mul}

@@ -45,12 +45,12 @@ abbrev pub started : Bool → Instruction
 started true = clearX
 started false = setX
 
-abbrev pub changed : Bool → ℕ → Instruction
-changed true g = below g
-changed false g = unequal
+abbrev pub decided : Bool → ℕ → Instruction
+decided true g = below g
+decided false g = unequal
 
 abbrev pub searchRound : Bool → ℕ → List Instruction
-searchRound less g = takeBit ∷ differs g ∷ changed less g ∷ []
+searchRound less g = takeBit ∷ differs g ∷ decided less g ∷ []
 
 -- The field starts at a and has n bits.
 abbrev pub searchRounds : Bool → ℕ → ℕ → List Instruction

@@ -9,7 +9,7 @@ ghost use Rattle.bits.specs.Bits.{digit, item};
 ghost use Rattle.bits.specs.Steps.{putAt};
 ghost use Rattle.builders.specs.Lists.{encoded, rounds};
 ghost use Rattle.builders.specs.Field.{Field};
-ghost use Rattle.builders.specs.Searches.{started, changed, searchRound, searchRounds, searchList, searchLength, numberItems, itemsLength};
+ghost use Rattle.builders.specs.Searches.{started, decided, searchRound, searchRounds, searchList, searchLength, numberItems, itemsLength};
 ghost use Rattle.builders.specs.Searches.{orFlipped, greatestRound, greatestRounds, greatestList, greatestLength};
 
 // Sources.
@@ -82,9 +82,9 @@ fn put_started(list: &mut [u8], less: bool)
 }
 
 // What X becomes where bit `g` differs, as instruction number `at`.
-fn put_changed(list: &mut [u8], at: usize, less: bool, g: u8)
+fn put_decided(list: &mut [u8], at: usize, less: bool, g: u8)
     requires { ⌜ 8 * at + 8 ≤ length (now list) ⌝ }
-    ensures { λ r. ⌜ now (list .exit) ≡ putAt (8 * at) (encoded (changed less g ∷ [])) (now (list .entry)) ⌝ }
+    ensures { λ r. ⌜ now (list .exit) ≡ putAt (8 * at) (encoded (decided less g ∷ [])) (now (list .entry)) ⌝ }
 {
     if less {
         writing::put_logic_at(list, at, g, BELOW);
@@ -100,7 +100,7 @@ fn put_search_round(list: &mut [u8], at: usize, less: bool, g: u8)
 {
     writing::put_logic_from(list, at, OUTSIDE, TAKE);
     writing::put_logic_at(list, at + 1, g, DIFFERS);
-    put_changed(list, at + 2, less, g);
+    put_decided(list, at + 2, less, g);
 }
 
 // Those of all bits, lowest first, behind the list's first instruction.

@@ -9,7 +9,7 @@ use Rattle.builders.specs.declared.Built.{Built}
 use Rattle.builders.specs.declared.BuiltTwo.{BuiltTwo}
 use Rattle.builders.specs.Building.{builtWith, BuiltTwoLeft, builtTwo}
 use Rattle.fields.specs.Value.{listOf, runOf}
-use Rattle.fields.specs.Search.{withItems, runOfTwo}
+use Rattle.fields.specs.Marks.{lentWith, runOfTwo}
 
 -- ---- a list
 
@@ -36,9 +36,9 @@ module _ (bytes itemBytes list items : List ℕ) where
       answered : ℕ → ℕ → BuiltTwo
       answered x y = record { number = 0; list = x; items = y }
 
-  pub two-run : (fault : ℕ) → fault ≡ 0 → (lent : Lent (List ℕ)) → runOfTwo (built fault) lent ≡ runOf bytes (withItems (itemBytes ++ lent .items) lent)
+  pub two-run : (fault : ℕ) → fault ≡ 0 → (lent : Lent (List ℕ)) → runOfTwo (built fault) lent ≡ runOf bytes (lentWith (itemBytes ++ lent .items) lent)
   unfolding builtTwo
   two-run fault e lent =
       ap (λ (x : ℕ). runOfTwo (built x) lent) e
-      ∙ ap₂ (λ (l i : List ℕ). runOf l (withItems (i ++ lent .items) lent))
+      ∙ ap₂ (λ (l i : List ℕ). runOf l (lentWith (i ++ lent .items) lent))
       (take-at bytes (drop (length bytes) list) (length bytes) refl) (take-at itemBytes (drop (length itemBytes) items) (length itemBytes) refl)

@@ -32,7 +32,7 @@ use Rattle.builders.proofs.SearchRefusals.{greatest-no-fault}
 use Rattle.builders.proofs.Marks.{Mark, on, off, bit-mark, mark-iff, mark-map}
 use Rattle.fields.specs.Line.{At, wordOf, outsideAt}
 use Rattle.fields.specs.Value.{wordBit, value, listOf, Bytes, runOf}
-use Rattle.fields.specs.Search.{greatestRun, Marked, Greatest, Marks}
+use Rattle.fields.specs.Marks.{greatestRun, Marked, Greatest, Marks}
 use Rattle.fields.proofs.LineLaws.{acted-at, ran-at, at-self}
 use Rattle.fields.proofs.Whole.{zero-item}
 use Rattle.fields.proofs.Runs.{Quiet, plain-quiet, taken-none}

@@ -20,7 +20,7 @@ use Rattle.module.specs.Run.{Lent, Left, begun}
 use Rattle.builders.specs.Lists.{encoded, Each, none, more}
 use Rattle.builders.specs.Word.{folded, takenBy}
 use Rattle.fields.specs.Value.{Bytes, runOf}
-use Rattle.fields.specs.Search.{withItems, Marks}
+use Rattle.fields.specs.Marks.{lentWith, Marks}
 use Rattle.fields.proofs.Whole.{Good, begun-good, registers-ok, folded-good}
 use Rattle.fields.proofs.Runs.{Quiet, ran-quiet}
 
@@ -70,9 +70,9 @@ module _ (l : List Instruction) (lent : Lent (List ℕ)) (memory : Bytes (lent .
   pub marks-logic : Each Quiet l → Each (λ i. i .kind ≡ 0) l → length l ≤ 4096 → unfit 32 (length items) ≡ false → 32 * takenBy l ≤ length items
       → (P : ℕ → Type 0) (x : List ℕ → List ℕ)
       → ((w : ℕ) → w < 256 → (bitOf (end .regs .y) w ≡ 1) ↔ P w) → end .regs .x ≡ x (end .regs .y)
-      → Marks (length l) (takenBy l) P x lent (runOf (encoded l) (withItems items lent))
+      → Marks (length l) (takenBy l) P x lent (runOf (encoded l) (lentWith items lent))
   marks-logic quiet logic few supplied enough P x marks afterX =
-      subst (Marks (length l) (takenBy l) P x lent) (sym (ran-quiet l quiet few (withItems items lent) (memory .size) (registers .size) supplied enough))
+      subst (Marks (length l) (takenBy l) P x lent) (sym (ran-quiet l quiet few (lentWith items lent) (memory .size) (registers .size) supplied enough))
       (record {
         done = refl;
         marks = λ w h. subst (λ (r : Registers). (bitOf (r .y) w ≡ 1) ↔ P w) (sym rows) (marks w h);

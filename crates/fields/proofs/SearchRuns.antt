@@ -21,7 +21,7 @@ use Rattle.module.specs.Act.{State, acted}
 use Rattle.module.specs.Run.{Lent, begun}
 use Rattle.builders.specs.Lists.{logicFrom, logicAt, encoded, Each, none, more}
 use Rattle.builders.specs.Field.{Field}
-use Rattle.builders.specs.Searches.{takeBit, started, changed, moveX, searchRound, searchRounds, searchList, equalList, lessList, numberItems}
+use Rattle.builders.specs.Searches.{takeBit, started, decided, moveX, searchRound, searchRounds, searchList, equalList, lessList, numberItems}
 use Rattle.builders.specs.Searches.{searchLength, itemsLength, searchFault, searchBuilt, equalBuilt, lessBuilt}
 use Rattle.builders.specs.Word.{Word, folded, ranWord, takenBy}
 use Rattle.builders.proofs.Folds.{each-append, each-rounds, each-map}
@@ -32,7 +32,7 @@ use Rattle.builders.proofs.Marks.{mark-iff}
 use Rattle.builders.proofs.Comparing.{Compares, Found, search-word}
 use Rattle.fields.specs.Line.{At, Local, wordOf, outsideAt}
 use Rattle.fields.specs.Value.{value, Bytes, runOf}
-use Rattle.fields.specs.Search.{withItems, runOfTwo, equalRun, lessRun, Marks}
+use Rattle.fields.specs.Marks.{lentWith, runOfTwo, equalRun, lessRun, Marks}
 use Rattle.fields.proofs.LineLaws.{ran-at, at-self}
 use Rattle.fields.proofs.Whole.{bytes-ext, Good}
 use Rattle.fields.proofs.Runs.{Quiet, Plain, plain-quiet}
@@ -70,15 +70,15 @@ fit-started : (less : Bool) → Fit (started less)
 fit-started true = fit-from 0 refl
 fit-started false = fit-from 15 refl
 
-fit-changed : (less : Bool) (g : ℕ) → g < 256 → Fit (changed less g)
-fit-changed true g h = fit-at 53 refl g h
-fit-changed false g h = fit-from 48 refl
+fit-decided : (less : Bool) (g : ℕ) → g < 256 → Fit (decided less g)
+fit-decided true g h = fit-at 53 refl g h
+fit-decided false g h = fit-from 48 refl
 
 search-fit : (less : Bool) (a n : ℕ) → a + n ≤ 256 → Each Fit (searchList less a n)
 search-fit less a n h =
     more (fit-started less)
     (each-append (each-rounds (λ k. searchRound less (a + k)) n
-    (λ k l. more fit-take (more (fit-at 22 refl (a + k) (omega arith)) (more (fit-changed less (a + k) (omega arith)) none))))
+    (λ k l. more fit-take (more (fit-at 22 refl (a + k) (omega arith)) (more (fit-decided less (a + k) (omega arith)) none))))
     (more (fit-from 26 refl) none))
 
 -- each round takes one item
@@ -157,7 +157,7 @@ module _ (less : Bool) (a n number : ℕ) (field : Field a n) (small : number < 
     Compared w = Compares less (value (lent .memory) w a n) number
 
     ran : Marks (length (searchList less a n)) (takenBy (searchList less a n)) Compared (λ y. y) lent
-        (runOf (encoded (searchList less a n)) (withItems given lent))
+        (runOf (encoded (searchList less a n)) (lentWith given lent))
     ran =
         marks-logic (searchList less a n) lent memory registers given
         (each-map (λ i f. f .quiet) fit) (each-map (λ i f. f .logic) fit) (omega (arith, steps, field .width))
@@ -170,7 +170,7 @@ module _ (less : Bool) (a n number : ℕ) (field : Field a n) (small : number < 
     search-marks =
         subst (Marks (2 + 3 * n) n Compared (λ y. y) lent)
         (sym (two-run (encoded (searchList less a n)) (numberItems number n) list items (searchFault a n number (length list) (length items)) sound lent))
-        (subst₂ (λ (s t : ℕ). Marks s t Compared (λ y. y) lent (runOf (encoded (searchList less a n)) (withItems given lent)))
+        (subst₂ (λ (s t : ℕ). Marks s t Compared (λ y. y) lent (runOf (encoded (searchList less a n)) (lentWith given lent)))
         steps (search-taken less a n) ran)
 
 -- ---- equal, and less

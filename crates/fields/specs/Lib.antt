@@ -2,4 +2,4 @@
 pub mod Line
 pub mod Items
 pub mod Value
-pub mod Search
+pub mod Marks

@@ -5,7 +5,7 @@ use Prim.Native.Nat.{ℕ, _<_}
 use lib.ListN.{length}
 use Rattle.module.specs.Run.{Lent}
 use Rattle.fields.specs.Value.{value, Bytes, lentOn}
-use Rattle.fields.specs.Search.{lessRun}
+use Rattle.fields.specs.Marks.{lessRun}
 use Rattle.fields.proofs.Runs.{fits-behind}
 use Rattle.fields.proofs.SearchRuns.{equal-logic, less-logic, equal-written, less-written, equal-marks, less-marks}
 use Rattle.fields.proofs.GreatestRuns.{greatest-logic, greatest-written, greatest-marks, greatest-of, greatest-none, greatest-some}

@@ -5,7 +5,7 @@ use mathlib.Core.Path.{_≡_}
 use mathlib.Core.Bool.{Bool, true, false}
 use mathlib.Core.List.{List, [], _∷_}
 use mathlib.Core.Logic.{_↔_, _≢_}
-use Prim.Native.Nat.{ℕ, _*_, _/_, _^_, _<_, _≤_}
+use Prim.Native.Nat.{ℕ, _*_, _^_, _<_, _≤_}
 use lib.ListN.{length, replicate}
 use Rattle.bits.specs.Rows.{Row, FirstRow}
 use Rattle.network.specs.declared.Passed.{Passed}
@@ -24,7 +24,7 @@ use Rattle.builders.specs.Sums.{Fields, listLength, fieldRows}
 use Rattle.builders.specs.Searches.{searchLength, itemsLength, greatestLength, searchRows, greatestRows}
 use Rattle.blocks.specs.Block.{blockBytes}
 use Rattle.contents.specs.declared.Moved.{Moved}
-use Rattle.contents.specs.File.{pictureBytes, contentOf, kindRight, lengthRight, sizeFits, blockCount}
+use Rattle.contents.specs.File.{pictureBytes, contentOf, kindRight, sizeFits, blockCount}
 use Rattle.contents.specs.Content.{targetFits, contentFits}
 use Rattle.contents.specs.Numbers.{Answers, Sound, ReadRefused, writeRows}
 use Rattle.pictures.specs.Picture.{pictureFits}

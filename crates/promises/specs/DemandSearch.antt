@@ -12,7 +12,7 @@ use Rattle.builders.specs.Lists.{Each}
 use Rattle.builders.specs.Field.{Field}
 use Rattle.builders.specs.Searches.{equalList, lessList, greatestList, searchLength, itemsLength, greatestLength, equalBuilt, lessBuilt, greatestBuilt}
 use Rattle.fields.specs.Value.{value, Bytes, lentOn}
-use Rattle.fields.specs.Search.{equalRun, lessRun, greatestRun, Marked, Greatest, Marks}
+use Rattle.fields.specs.Marks.{equalRun, lessRun, greatestRun, Marked, Greatest, Marks}
 
 -- Any field of 1 to 64 bits inside the word, any memory of 8,192 bytes, and any registers of 96, whatever M, X and Y hold.
 pub record Searched (a n : ℕ) (lent : Lent (List ℕ)) : Type 0 where
@@ -21,14 +21,14 @@ pub record Searched (a n : ℕ) (lent : Lent (List ℕ)) : Type 0 where
   pub registers : Bytes (lent .registers) 96
 
 -- For equal and less: any number that is not too large, buffers that are not too short, and behind the items that the list takes any with which the judge does not refuse the whole.
-pub record Asked (n number : ℕ) (list items : List ℕ) (lent : Lent (List ℕ)) : Type 0 where
+pub record Sought (n number : ℕ) (list items : List ℕ) (lent : Lent (List ℕ)) : Type 0 where
   pub small : number < 2 ^ n
   pub room : searchLength n ≤ length list
   pub roomItems : itemsLength n ≤ length items
   pub supplied : unfit 32 (itemsLength n + length (lent .items)) ≡ false
 
 -- For greatest: a buffer that is not too short, and any items that the judge does not refuse, of which it takes none.
-pub record AskedGreatest (n : ℕ) (list : List ℕ) (lent : Lent (List ℕ)) : Type 0 where
+pub record SoughtGreatest (n : ℕ) (list : List ℕ) (lent : Lent (List ℕ)) : Type 0 where
   pub room : greatestLength n ≤ length list
   pub supplied : unfit 32 (length (lent .items)) ≡ false
 
@@ -36,39 +36,39 @@ pub record AskedGreatest (n : ℕ) (list : List ℕ) (lent : Lent (List ℕ)) : 
 abbrev asY : List ℕ → List ℕ
 asY y = y
 
-abbrev allZero : List ℕ → List ℕ
-allZero y = replicate 32 0
+abbrev cleared : List ℕ → List ℕ
+cleared y = replicate 32 0
 
 -- The instruction is logic: kind 0.
-abbrev Logic : Instruction → Type 0
-Logic i = i .kind ≡ 0
+abbrev IsLogic : Instruction → Type 0
+IsLogic i = i .kind ≡ 0
 
 pub record DemandSearch (a n : ℕ) (lent : Lent (List ℕ)) : Type 0 where
   -- the lists have logic instructions alone
-  pub equalLogic : Each Logic (equalList a n)
-  pub lessLogic : Each Logic (lessList a n)
-  pub greatestLogic : Each Logic (greatestList a n)
+  pub equalLogic : Each IsLogic (equalList a n)
+  pub lessLogic : Each IsLogic (lessList a n)
+  pub greatestLogic : Each IsLogic (greatestList a n)
   -- equal: the list and its items are written, and counted; Y marks exactly the words whose field is the number, and X too
-  pub equalWritten : (number : ℕ) (list items : List ℕ) → Asked n number list items lent
+  pub equalWritten : (number : ℕ) (list items : List ℕ) → Sought n number list items lent
       → equalBuilt a n number list items .answer ≡ record { number = 0; list = searchLength n; items = itemsLength n }
-  pub equal : (number : ℕ) (list items : List ℕ) → Asked n number list items lent
+  pub equal : (number : ℕ) (list items : List ℕ) → Sought n number list items lent
       → Marks (2 + 3 * n) n (λ w. value (lent .memory) w a n ≡ number) asY lent (equalRun a n number list items lent)
   -- less: the same, and Y marks exactly the words whose field is less
-  pub lessWritten : (number : ℕ) (list items : List ℕ) → Asked n number list items lent
+  pub lessWritten : (number : ℕ) (list items : List ℕ) → Sought n number list items lent
       → lessBuilt a n number list items .answer ≡ record { number = 0; list = searchLength n; items = itemsLength n }
-  pub less : (number : ℕ) (list items : List ℕ) → Asked n number list items lent
+  pub less : (number : ℕ) (list items : List ℕ) → Sought n number list items lent
       → Marks (2 + 3 * n) n (λ w. value (lent .memory) w a n < number) asY lent (lessRun a n number list items lent)
   -- greatest: Y marks exactly those of the words marked before that hold the greatest value, and X is 0
-  pub greatestWritten : (list : List ℕ) → AskedGreatest n list lent → greatestBuilt a n list .answer ≡ record { number = 0; count = greatestLength n }
-  pub greatest : (list : List ℕ) → AskedGreatest n list lent → Marks (1 + 11 * n) 0 (Greatest a n lent) allZero lent (greatestRun a n list lent)
+  pub greatestWritten : (list : List ℕ) → SoughtGreatest n list lent → greatestBuilt a n list .answer ≡ record { number = 0; count = greatestLength n }
+  pub greatest : (list : List ℕ) → SoughtGreatest n list lent → Marks (1 + 11 * n) 0 (Greatest a n lent) cleared lent (greatestRun a n list lent)
   -- "If none is marked, none is at the end"
-  pub noneMarked : (list : List ℕ) → AskedGreatest n list lent
+  pub noneMarked : (list : List ℕ) → SoughtGreatest n list lent
       → ((w : ℕ) → w < 256 → Marked (lent .registers) w → ⊥) → (w : ℕ) → w < 256 → Marked (greatestRun a n list lent .registers) w → ⊥
   -- and if one is marked, one is
-  pub someMarked : (list : List ℕ) → AskedGreatest n list lent
+  pub someMarked : (list : List ℕ) → SoughtGreatest n list lent
       → (w : ℕ) → w < 256 → Marked (lent .registers) w → (v : ℕ) × (v < 256) × Marked (greatestRun a n list lent .registers) v
   -- greatest behind less, on what less leaves: the highest of the stations below a number
-  pub greatestLess : (number : ℕ) (list items list′ : List ℕ) → Asked n number list items lent → greatestLength n ≤ length list′
+  pub greatestLess : (number : ℕ) (list items list′ : List ℕ) → Sought n number list items lent → greatestLength n ≤ length list′
       → (let r = lentOn lent (lessRun a n number list items lent) in
       Marks (1 + 11 * n) 0 (λ w. (value (lent .memory) w a n < number)
-      × ((v : ℕ) → v < 256 → value (lent .memory) v a n < number → value (lent .memory) v a n ≤ value (lent .memory) w a n)) allZero r (greatestRun a n list′ r))
+      × ((v : ℕ) → v < 256 → value (lent .memory) v a n < number → value (lent .memory) v a n ≤ value (lent .memory) w a n)) cleared r (greatestRun a n list′ r))

@@ -6,7 +6,7 @@ use native.Mathlib.Omega.{arith}
 use denote.Ref.{now}
 use lib.ListN.{length}
 use borrow.Author.Needs.{needs}
-use Rattle.builders.specs.Searches.{takeBit, differs, changed}
+use Rattle.builders.specs.Searches.{takeBit, differs, decided}
 use Rattle.builders.proofs.PutLaws.{put-more}
 use Rattle.builders.proofs.search_rounds.put_search_round.Statement.{statement}
 use Rattle.builders.proofs.search_rounds.put_search_round.Tie as tie
@@ -18,10 +18,10 @@ returns c =
     let xs = now (a .list) in
     let h : 8 * at ≤ length xs = omega arith in
     let i₁ = differs (a .g) in
-    let i₂ = changed (a .less) (a .g) in
+    let i₂ = decided (a .less) (a .g) in
     let p₀ = c .before .before .before .before .before .before .before .before .before .before .put-logic-from in
     let p₁ = c .before .before .before .before .before .before .put-logic-at in
-    let p₂ = c .before .before .put-changed in
+    let p₂ = c .before .before .put-decided in
     put-more at (at + 2) (takeBit ∷ i₁ ∷ []) (i₂ ∷ []) xs (p₁ .last .0) (p₂ .last .0) h refl
     (put-more at (at + 1) (takeBit ∷ []) (i₁ ∷ []) xs (p₀ .last .0) (p₁ .last .0) h refl (p₀ .ensures) (p₁ .ensures))
     (p₂ .ensures)

@@ -5,7 +5,6 @@ use mathlib.Core.Logic.{_↔_}
 use Prim.Native.Nat.{ℕ, _<_, _≤_}
 use lib.ListN.{take}
 use Rattle.bits.specs.Bits.{bitOf}
-use Rattle.registers.specs.declared.Registers.{Registers}
 use Rattle.registers.specs.Rows.{registersOf}
 use Rattle.judge.specs.declared.Answer.{Answer}
 use Rattle.module.specs.Run.{Lent, Left}
@@ -16,12 +15,12 @@ use Rattle.fields.specs.Value.{value, listOf, Bytes, runOf}
 -- ---- the runs
 
 -- What is lent, with other items.
-abbrev pub withItems : List ℕ → Lent (List ℕ) → Lent (List ℕ)
-withItems items l = record { memory = l .memory; registers = l .registers; list = l .list; items = items; out = l .out }
+abbrev pub lentWith : List ℕ → Lent (List ℕ) → Lent (List ℕ)
+lentWith items l = record { memory = l .memory; registers = l .registers; list = l .list; items = items; out = l .out }
 
 -- A run of the list that a builder wrote, on the items that it wrote and, behind them, those of the lender, which the list does not take.
 abbrev pub runOfTwo : BuiltTwoLeft → Lent (List ℕ) → Left (List ℕ) Answer
-runOfTwo b l = runOf (take (b .answer .list) (b .list)) (withItems (take (b .answer .items) (b .items) ++ l .items) l)
+runOfTwo b l = runOf (take (b .answer .list) (b .list)) (lentWith (take (b .answer .items) (b .items) ++ l .items) l)
 
 -- A run of the list that marks the words equal to a number; less than it; the greatest of the marked. The buffers that the builder was lent stand before what the run is.
 abbrev pub equalRun : ℕ → ℕ → ℕ → List ℕ → List ℕ → Lent (List ℕ) → Left (List ℕ) Answer
