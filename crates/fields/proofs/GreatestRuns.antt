@@ -222,6 +222,11 @@ module _ (a n : ℕ) (fit : a + n ≤ 256) (items : List ℕ) (s₀ : State) whe
 
 -- ---- the run of the list that the builder wrote
 
+-- what the rounds mark is what the page says of a word: it was marked, and no marked word has more
+top-greatest : (a n : ℕ) (lent : Lent (List ℕ)) (w : ℕ)
+    → Top (bitOf (registersOf (lent .registers) .y)) (λ q. value (lent .memory) q a n) w ↔ Greatest a n lent w
+top-greatest a n lent w = (λ t. (t .0, λ v h m. t .1 v h m), λ g. (g .0, λ v h m. g .1 v h m))
+
 module _ (a n : ℕ) (field : Field a n) (list : List ℕ) (room : greatestLength n ≤ length list) where
   greatest-fault : greatestFault a n (length list) ≡ 0
   greatest-fault = greatest-no-fault a n (length list) field room
@@ -246,7 +251,7 @@ module _ (a n : ℕ) (field : Field a n) (list : List ℕ) (room : greatestLengt
         (subst₂ (λ (k t : ℕ). Marks k t (Greatest a n lent) (λ y. replicate 32 0) lent (runOf (encoded (greatestList a n)) lent)) steps idle
         (marks-logic (greatestList a n) lent memory registers (lent .items)
         (greatest-quiet a n (field .fits)) (greatest-logic a n) (omega arith) supplied (omega arith) (Greatest a n lent) (λ y. replicate 32 0)
-        (λ p hp. mark-iff (greatest-tops a n (field .fits) (lent .items) s₀ p hp))
+        (λ p hp. mark-iff (mark-map (top-greatest a n lent p) (greatest-tops a n (field .fits) (lent .items) s₀ p hp)))
         (zero-item _ (end-good (greatestList a n) lent memory registers (lent .items) .x-ok)
         (λ p hp. greatest-after a n (field .fits) (lent .items) s₀ .line p hp .bitX))))
 
