@@ -1,14 +1,14 @@
 -- Laws of digits: numbers made of digits, and numbers known by them. Assumes nothing.
 use mathlib.Core.Path.{_≡_, refl, sym, ap, ap₂, _∙_}
 use mathlib.Core.Bool.{Bool, true, false, cond}
-use Prim.Native.Nat.{ℕ, zero, suc, _+_, _-_, _*_, _/_, _%_, _^_, _<_, min}
-use native.Mathlib.Nat.{pow-suc, mod-eq-of-lt, mod-one, div-eq-of-lt, one-mul}
+use Prim.Native.Nat.{ℕ, zero, suc, _+_, _-_, _*_, _/_, _%_, _^_, _<_, _≤_, min}
+use native.Mathlib.Nat.{pow-suc, mod-eq-of-lt, mod-one, mul-mod-left, div-eq-of-lt, one-mul}
 use native.Mathlib.Numerals.{add-one, one-add}
 use native.Mathlib.Decide.{decLt, ℕ-discrete}
 use native.Mathlib.Omega.{arith}
 use lib.Bits.{bitOr, bitAnd, bitXor, differ, or-shifted-r}
 use lib.Dec.{eqb}
-use lib.Pow.{pow-pos, pow-add, pow-lt, high, low, field, mod-mod-pow, mod-pow-add, shl-exact, shl-shr}
+use lib.Pow.{pow-pos, pow-add, pow-lt, high, low, field, mod-mod-pow, mod-pow-add, shl-exact, shl-shr, shr-shr}
 use borrow.Author.Tests.{eq-eqb, ne-eqb}
 use Rattle.bits.specs.Bits.{digit, digitsOf}
 use Rattle.bits.specs.Steps.{mixed}
@@ -92,6 +92,23 @@ digits-are f n x hx h = sym (mod-eq-of-lt hx) ∙ sym (digitsOf-digit x n) ∙ d
 
 pub same-digits : (n x y : ℕ) → x < 2 ^ n → y < 2 ^ n → ((j : ℕ) → j < n → digit x j ≡ digit y j) → x ≡ y
 same-digits n x y hx hy h = digits-are (digit y) n x hx h ∙ digitsOf-digit y n ∙ mod-eq-of-lt hy
+
+-- ---- the digits of a number moved down, and moved up
+
+pub digit-down : (b r j : ℕ) → digit (b / 2 ^ r) j ≡ digit b (j + r)
+digit-down b r j = ap (λ (y : ℕ). y % 2) (shr-shr b r j ∙ ap (λ (k : ℕ). b / 2 ^ k) (let e : r + j ≡ j + r = omega arith in e))
+
+pub digit-up : (a s j : ℕ) → s ≤ j → digit (a * 2 ^ s) j ≡ digit a (j - s)
+digit-up a s j h =
+    let e : s + (j - s) ≡ j = omega arith in
+    ap (λ (k : ℕ). a * 2 ^ s / 2 ^ k % 2) (sym e)
+    ∙ ap (λ (y : ℕ). y % 2) (sym (shr-shr (a * 2 ^ s) s (j - s)) ∙ ap (λ (y : ℕ). y / 2 ^ (j - s)) (shl-shr a s))
+
+pub digit-below : (a s j : ℕ) → j < s → digit (a * 2 ^ s) j ≡ 0
+digit-below a s j h =
+    sym (digit-mod (a * 2 ^ s) s j h)
+    ∙ ap (λ (x : ℕ). digit x j) (mul-mod-left a (2 ^ s))
+    ∙ ap (λ (y : ℕ). y % 2) (div-eq-of-lt (pow-pos j))
 
 -- ---- one digit by itself
 

@@ -1,86 +1,177 @@
--- The exchange of digits within a byte is the flip of its places. Assumes nothing.
-use mathlib.Core.Path.{_≡_, sym, ap, ap₂, _∙_}
+-- Exchanges of digits within the quarters, and another order of them, are flips; and the flips by the digits of a number are the flip by it. Assumes nothing.
+use mathlib.Core.Path.{_≡_, refl, sym, ap, ap₂, _∙_}
 use mathlib.Core.Bool.{Bool, cond}
 use mathlib.Core.List.{List}
-use Prim.Native.Nat.{ℕ, _+_, _*_, _/_, _%_, _^_, _<_}
-use native.Mathlib.Nat.{mul-comm}
+use Prim.Native.Nat.{ℕ, _+_, _-_, _*_, _/_, _%_, _^_, _<_, _≤_, min, max}
+use native.Mathlib.Nat.{zero-mul, mul-comm}
+use native.Mathlib.Decide.{decLt}
 use native.Mathlib.Omega.{arith}
-use lib.Bits.{bitXor, xor-comm, xor-lt, xor-zero-r}
-use lib.Dec.{T, eqb, eqb→eq}
-use lib.ListN.{getD}
-use Rattle.bits.specs.Bits.{digit, bitOf, flipped}
-use Rattle.bits.specs.Steps.{swapped}
-use Rattle.bits.proofs.Binary.{Bit, off, on}
-use Rattle.bits.proofs.Items.{bitOf-at}
+use lib.Bits.{bitAnd, bitXor, xor-comm, xor-lt, xor-zero-r}
+use lib.Dec.{T, eqb, eqb→eq, ltb}
+use lib.ListN.{length, getD}
+use borrow.Author.Tests.{lt-ltb, le-ltb}
+use Rattle.bits.specs.Bits.{digit, bitOf, item, flipped}
+use Rattle.bits.specs.Quarters.{quarterOf, quarters, lineOf, flippedQuarters, exchanged, Flips}
+use Rattle.bits.proofs.Binary.{Bit, off, on, digit-bit}
+use Rattle.bits.proofs.Digits.{digit-mod, digit-down, digit-up, digit-below}
+use Rattle.bits.proofs.Items.{bitOf-bit, pack-ext}
+use Rattle.bits.proofs.QuarterLaws.{lineOf-bit, lineOf-at, quarterOf-is, lineOf-quarters, quarters-ext, quarters-lineOf}
 use Rattle.bits.proofs.Tests.{all, all-at}
-use Rattle.bits.proofs.Xor.{xor-split}
+use Rattle.bits.proofs.Xor.{digit-and, digit-or, xor-assoc, xor-split}
 
--- ---- one exchange, tested at every byte and digit
+-- ---- one exchange, by a test at every place of a quarter
 
-swaps : ℕ → ℕ → ℕ → ℕ → Bool
-swaps m k x j = eqb (digit (swapped m k x) j) (digit x (bitXor j k))
+-- whether place j gets a digit from k below it
+abbrev from-below : ℕ → ℕ → ℕ → ℕ
+from-below m k j = cond (ltb j k) 0 (digit m (j - k))
 
-tested : ℕ → ℕ → Bool
-tested m k = all 256 (λ x. all 8 (λ j. swaps m k x j))
+-- it gets one digit, from below or from above
+abbrev one-digit : ℕ → ℕ → ℕ → Bool
+one-digit m k j = eqb (from-below m k j + digit m j) 1
 
-digit-swapped : (m k : ℕ) → T (tested m k) → (x j : ℕ) → x < 256 → j < 8 → digit (swapped m k x) j ≡ digit x (bitXor j k)
-unfolding tested swaps
-digit-swapped m k t x j hx hj =
-    eqb→eq (digit (swapped m k x) j) (digit x (bitXor j k)) (all-at 8 (swaps m k x) (all-at 256 (λ x. all 8 (λ j. swaps m k x j)) t x hx) j hj)
+-- and that one is its partner's
+abbrev partner : ℕ → ℕ → ℕ → Bool
+partner m k j = eqb (cond (eqb (digit m j) 1) (j + k) (j - k)) (bitXor j k)
 
--- an exchange that is made where d is 1
-by-digit : (m k : ℕ) → T (tested m k) → (d x j : ℕ) → Bit d → x < 256 → j < 8
-    → digit (cond (eqb d 1) (swapped m k x) x) j ≡ digit x (bitXor j (d * k))
-by-digit m k t d x j off hx hj = ap (digit x) (sym (xor-zero-r j) ∙ ap (bitXor j) none)
+above : {x y : ℕ} → Bit x → Bit y → max (min x 0) (min y 1) ≡ y
+above off off = refl
+above off on = refl
+above on off = refl
+above on on = refl
+
+below : {x y : ℕ} → Bit x → Bit y → max (min x 1) (min y 0) ≡ x
+below off off = refl
+below off on = refl
+below on off = refl
+below on on = refl
+
+exchange-flips : (m k : ℕ) → T (all 64 (one-digit m k)) → T (all 64 (partner m k)) → Flips m k
+exchange-flips m k once paired x j h =
+    digit-or (bitAnd x m * 2 ^ k % 2 ^ 64) (bitAnd (x / 2 ^ k) m) j
+    ∙ ap₂ max (digit-mod (bitAnd x m * 2 ^ k) 64 j h) (digit-and (x / 2 ^ k) m j ∙ ap (λ (y : ℕ). min y (digit m j)) (digit-down x k j))
+    ∙ go (decLt j k)
   where
-    none : 0 ≡ 0 * k
-    none = omega arith
-by-digit m k t d x j on hx hj = digit-swapped m k t x j hx hj ∙ ap (λ (y : ℕ). digit x (bitXor j y)) once
-  where
-    once : k ≡ 1 * k
-    once = omega arith
+    sum : from-below m k j + digit m j ≡ 1
+    sum = eqb→eq _ _ (all-at 64 (one-digit m k) once j h)
 
--- and r, what came of it
-step : (m k : ℕ) → T (tested m k) → (d x r j : ℕ) → r ≡ cond (eqb d 1) (swapped m k x) x → Bit d → x < 256 → j < 8
-    → digit r j ≡ digit x (bitXor j (d * k))
-step m k t d x r j e b hx hj = ap (λ (y : ℕ). digit y j) e ∙ by-digit m k t d x j b hx hj
+    place : cond (eqb (digit m j) 1) (j + k) (j - k) ≡ bitXor j k
+    place = eqb→eq _ _ (all-at 64 (partner m k) paired j h)
 
-pub swap-ones : (d x r j : ℕ) → r ≡ cond (eqb d 1) (swapped 85 1 x) x → Bit d → x < 256 → j < 8
-    → digit r j ≡ digit x (bitXor j (d * 1))
-unfolding tested swaps
-swap-ones = step 85 1 tt
+    by : (a d e : ℕ) → a ≡ min (digit x (j - k)) d → Bit e → digit m j ≡ e → d + e ≡ 1 → max a (min (digit x (j + k)) (digit m j)) ≡ digit x (bitXor j k)
+    by a d e ea off em s =
+        let one : d ≡ 1 = omega arith in
+        ap₂ (λ (y z : ℕ). max y (min (digit x (j + k)) z)) (ea ∙ ap (min (digit x (j - k))) one) em
+        ∙ below (digit-bit x (j - k)) (digit-bit x (j + k))
+        ∙ ap (digit x) (sym (ap (λ (y : ℕ). cond (eqb y 1) (j + k) (j - k)) em) ∙ place)
+    by a d e ea on em s =
+        let none : d ≡ 0 = omega arith in
+        ap₂ (λ (y z : ℕ). max y (min (digit x (j + k)) z)) (ea ∙ ap (min (digit x (j - k))) none) em
+        ∙ above (digit-bit x (j - k)) (digit-bit x (j + k))
+        ∙ ap (digit x) (sym (ap (λ (y : ℕ). cond (eqb y 1) (j + k) (j - k)) em) ∙ place)
 
-pub swap-twos : (d x r j : ℕ) → r ≡ cond (eqb d 1) (swapped 51 2 x) x → Bit d → x < 256 → j < 8
-    → digit r j ≡ digit x (bitXor j (d * 2))
-unfolding tested swaps
-swap-twos = step 51 2 tt
+    zero-min : {y : ℕ} → Bit y → 0 ≡ min y 0
+    zero-min off = refl
+    zero-min on = refl
 
-pub swap-fours : (d x r j : ℕ) → r ≡ cond (eqb d 1) (swapped 15 4 x) x → Bit d → x < 256 → j < 8
-    → digit r j ≡ digit x (bitXor j (d * 4))
-unfolding tested swaps
-swap-fours = step 15 4 tt
+    go : Dec (j < k) → max (digit (bitAnd x m * 2 ^ k) j) (min (digit x (j + k)) (digit m j)) ≡ digit x (bitXor j k)
+    go (yes l) =
+        by (digit (bitAnd x m * 2 ^ k) j) 0 (digit m j) (digit-below (bitAnd x m) k j l ∙ zero-min (digit-bit x (j - k))) (digit-bit m j) refl
+        (sym (ap (λ (b : Bool). cond b 0 (digit m (j - k)) + digit m j) (lt-ltb j k l)) ∙ sum)
+    go (no u) =
+        let l : k ≤ j = omega arith in
+        by (digit (bitAnd x m * 2 ^ k) j) (digit m (j - k)) (digit m j) (digit-up (bitAnd x m) k j l ∙ digit-and x m (j - k)) (digit-bit m j) refl
+        (sym (ap (λ (b : Bool). cond b 0 (digit m (j - k)) + digit m j) (le-ltb j k l)) ∙ sum)
 
--- ---- the three together
+pub flips-1 : Flips 6148914691236517205 1
+flips-1 = exchange-flips 6148914691236517205 1 tt tt
 
-joins : ℕ → ℕ → Bool
-joins f j = eqb (bitXor (bitXor (bitXor j (f / 4 * 4)) (f / 2 % 2 * 2)) (f % 2 * 1)) (bitXor j f)
+pub flips-2 : Flips 3689348814741910323 2
+flips-2 = exchange-flips 3689348814741910323 2 tt tt
 
-joined : T (all 8 (λ f. all 8 (λ j. joins f j)))
-unfolding joins
-joined = tt
+pub flips-4 : Flips 1085102592571150095 4
+flips-4 = exchange-flips 1085102592571150095 4 tt tt
 
-pub three-swaps : (f j : ℕ) → f < 8 → j < 8 → bitXor (bitXor (bitXor j (f / 4 * 4)) (f / 2 % 2 * 2)) (f % 2 * 1) ≡ bitXor j f
-unfolding joins
-three-swaps f j hf hj = eqb→eq _ _ (all-at 8 (joins f) (all-at 8 (λ f. all 8 (λ j. joins f j)) joined f hf) j hj)
+pub flips-8 : Flips 71777214294589695 8
+flips-8 = exchange-flips 71777214294589695 8 tt tt
 
--- ---- byte i of the flipped list
+pub flips-16 : Flips 281470681808895 16
+flips-16 = exchange-flips 281470681808895 16 tt tt
 
-pub flipped-at : (l : List ℕ) (f i j : ℕ) → j < 8 → digit (getD l (bitXor (f / 8) i) 0) (bitXor j (f % 8)) ≡ flipped l f (8 * i + j)
-flipped-at l f i j h =
-    let s : 8 * i + j ≡ i * 2 ^ 3 + j = omega arith in
-    sym (ap (bitOf l)
-    (xor-comm (8 * i + j) f
-    ∙ ap (bitXor f) s
-    ∙ xor-split 3 f i j h
-    ∙ ap₂ (λ (x y : ℕ). x + y) (mul-comm (bitXor (f / 8) i) 8) (xor-comm (f % 8) j))
-    ∙ bitOf-at l (bitXor (f / 8) i) (bitXor j (f % 8)) (xor-lt 3 j (f % 8) h (omega arith)))
+pub flips-32 : Flips 4294967295 32
+flips-32 = exchange-flips 4294967295 32 tt tt
+
+-- ---- quarter i of the flipped quarters
+
+flipped-line : (q : List ℕ) (f i j : ℕ) → j < 64 → digit (getD q (bitXor (f / 64) i) 0) (bitXor (f % 64) j) ≡ lineOf q (bitXor (64 * i + j) f)
+flipped-line q f i j h =
+    let s : 64 * i + j ≡ i * 2 ^ 6 + j = omega arith in
+    sym (ap (lineOf q) (xor-comm (64 * i + j) f ∙ ap (bitXor f) s ∙ xor-split 6 f i j h ∙ ap (λ (x : ℕ). x + bitXor (f % 64) j) (mul-comm (bitXor (f / 64) i) 64))
+    ∙ lineOf-at q (bitXor (f / 64) i) (bitXor (f % 64) j) (xor-lt 6 (f % 64) j (omega arith) h))
+
+-- exchanged within
+pub exchanged-is : (q : List ℕ) (m k i r : ℕ) → k < 64 → Flips m k → r < 2 ^ 64 → r ≡ exchanged m k (getD q i 0) → r ≡ quarterOf (λ l. lineOf q (bitXor l k)) i
+exchanged-is q m k i r h flips b e =
+    quarterOf-is (λ l. lineOf q (bitXor l k)) i r b
+    (λ j l.
+    let hi : 0 ≡ k / 64 = omega arith in
+    let lo : k ≡ k % 64 = omega arith in
+    ap (λ (x : ℕ). digit x j) e
+    ∙ flips (getD q i 0) j l
+    ∙ ap (digit (getD q i 0)) (xor-comm j k)
+    ∙ ap₂ (λ (x y : ℕ). digit (getD q (bitXor x i) 0) (bitXor y j)) hi lo
+    ∙ flipped-line q k i j l)
+
+-- taken from another place
+pub ordered-is : (q : List ℕ) (g i r : ℕ) → r < 2 ^ 64 → r ≡ getD q (bitXor g i) 0 → r ≡ quarterOf (λ l. lineOf q (bitXor l (64 * g))) i
+ordered-is q g i r b e =
+    quarterOf-is (λ l. lineOf q (bitXor l (64 * g))) i r b
+    (λ j l.
+    let hi : g ≡ 64 * g / 64 = omega arith in
+    let lo : 0 ≡ 64 * g % 64 = omega arith in
+    ap (λ (x : ℕ). digit x j) e
+    ∙ ap₂ (λ (x y : ℕ). digit (getD q (bitXor x i) 0) (bitXor y j)) hi lo
+    ∙ flipped-line q (64 * g) i j l)
+
+-- ---- flips one after the other
+
+pub flipped-none : (q : List ℕ) (n k : ℕ) → n ≡ 0 → length q ≡ 4 → ((i : ℕ) → getD q i 0 < 2 ^ 64) → q ≡ flippedQuarters q (n * k)
+flipped-none q n k e l b =
+    let none : 0 ≡ n * k = sym (zero-mul k) ∙ ap (λ (x : ℕ). x * k) (sym e) in
+    quarters-lineOf q l b
+    ∙ quarters-ext (lineOf q) (λ i. lineOf q (bitXor i 0)) (λ i h. ap (lineOf q) (sym (xor-zero-r i)))
+    ∙ ap (flippedQuarters q) none
+
+pub flipped-more : (q r : List ℕ) (f g : ℕ) → g < 256 → r ≡ flippedQuarters q f → flippedQuarters r g ≡ flippedQuarters q (bitXor g f)
+flipped-more q r f g b e =
+    ap (λ (x : List ℕ). flippedQuarters x g) e
+    ∙ quarters-ext (λ k. lineOf (flippedQuarters q f) (bitXor k g)) (λ k. lineOf q (bitXor k (bitXor g f)))
+    (λ k h. lineOf-quarters (λ i. lineOf q (bitXor i f)) (λ i. lineOf-bit q (bitXor i f)) (bitXor k g) (xor-lt 8 k g h b) ∙ ap (lineOf q) (xor-assoc k g f))
+
+-- the flips by a number's digits, the lowest first
+byDigits : ℕ → ℕ
+byDigits f =
+    bitXor (64 * (f / 64))
+    (bitXor (f / 32 % 2 * 32) (bitXor (f / 16 % 2 * 16) (bitXor (f / 8 % 2 * 8) (bitXor (f / 4 % 2 * 4) (bitXor (f / 2 % 2 * 2) (f % 2 * 1))))))
+
+digits-flip : T (all 256 (λ f. eqb (byDigits f) f))
+unfolding byDigits
+digits-flip = tt
+
+pub by-digits : (f : ℕ) → f < 256
+    → bitXor (64 * (f / 64))
+    (bitXor (f / 32 % 2 * 32) (bitXor (f / 16 % 2 * 16) (bitXor (f / 8 % 2 * 8) (bitXor (f / 4 % 2 * 4) (bitXor (f / 2 % 2 * 2) (f % 2 * 1))))))
+    ≡ f
+unfolding byDigits
+by-digits f h = eqb→eq (byDigits f) f (all-at 256 (λ f. eqb (byDigits f) f) digits-flip f h)
+
+-- ---- an item by its quarters
+
+-- line k of the flipped quarters of an item
+pub line-flipped : (l q r : List ℕ) (f : ℕ) → f < 256 → q ≡ quarters (bitOf l) → r ≡ flippedQuarters q f → (k : ℕ) → k < 256 → lineOf r k ≡ flipped l f k
+line-flipped l q r f b eq er k h =
+    ap (λ (x : List ℕ). lineOf x k) (er ∙ ap (λ (x : List ℕ). flippedQuarters x f) eq)
+    ∙ lineOf-quarters (λ i. lineOf (quarters (bitOf l)) (bitXor i f)) (λ i. lineOf-bit (quarters (bitOf l)) (bitXor i f)) k h
+    ∙ lineOf-quarters (bitOf l) (bitOf-bit l) (bitXor k f) (xor-lt 8 k f h b)
+
+pub item-flipped : (l q r : List ℕ) (f : ℕ) → f < 256 → q ≡ quarters (bitOf l) → r ≡ flippedQuarters q f → item (lineOf r) ≡ item (flipped l f)
+item-flipped l q r f b eq er = pack-ext (lineOf r) (flipped l f) 32 (line-flipped l q r f b eq er)

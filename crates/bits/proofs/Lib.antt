@@ -6,6 +6,7 @@ pub mod Items
 pub mod Writes
 pub mod Puts
 pub mod Tests
+pub mod QuarterLaws
 pub mod FlipLaws
 pub mod Search
 pub mod Rows

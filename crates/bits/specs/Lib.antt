@@ -3,3 +3,4 @@ pub mod Bits
 pub mod Search
 pub mod Rows
 pub mod Steps
+pub mod Quarters

@@ -1,7 +1,7 @@
 -- What loops do on the way. Only contracts of inner functions cite this file: no promise to a user rests on it.
 use mathlib.Core.List.{List, _++_}
-use Prim.Native.Nat.{ℕ, zero, suc, _+_, _*_, _/_, _%_, _^_}
-use lib.Bits.{bitAnd, bitOr, bitXor}
+use Prim.Native.Nat.{ℕ, zero, suc, _+_}
+use lib.Bits.{bitAnd, bitXor}
 use lib.ListN.{length, getD, take, drop, set}
 
 -- The list l after n writes: write k puts v k of what stands at x k there.
@@ -16,7 +16,3 @@ putAt k ys xs = take k xs ++ (ys ++ drop (k + length ys) xs)
 -- The number a with b's digits where those of m are 1.
 abbrev pub mixed : ℕ → ℕ → ℕ → ℕ
 mixed a b m = bitXor a (bitAnd (bitXor a b) m)
-
--- The byte x with its digits at the places of m and those k above them exchanged.
-abbrev pub swapped : ℕ → ℕ → ℕ → ℕ
-swapped m k x = bitOr (bitAnd x m * 2 ^ k % 256) (bitAnd (x / 2 ^ k) m)

@@ -3,6 +3,7 @@ pub mod choices;
 pub mod copies;
 pub mod flips;
 pub mod lanes;
+pub mod quarters;
 
 ghost use mathlib.Core.Path.{_≡_};
 ghost use Rattle.bits.specs.Steps.{mixed};

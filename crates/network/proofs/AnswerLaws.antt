@@ -9,8 +9,11 @@ use lib.Bits.{bitOr, bitXor, xor-zero-r, xor-lt, or-add-and, and-le-l, and-le-r}
 use lib.ListN.{length, getD, replicate}
 use borrow.Author.Tests.{lt-ltb, le-ltb}
 use Rattle.bits.specs.Bits.{bitOf, byteOf, item, flipped}
+use Rattle.bits.specs.Quarters.{quarters, lineOf, flippedQuarters}
 use Rattle.bits.proofs.Xor.{xor-cancel}
 use Rattle.bits.proofs.Items.{length-listed, bitOf-bit, bitOf-pack, pack-ext, pack-bitOf}
+use Rattle.bits.proofs.QuarterLaws.{lineOf-bit, lineOf-quarters}
+use Rattle.bits.proofs.FlipLaws.{line-flipped}
 use Rattle.network.specs.Shifts.{codes, shiftOf, permitted, pOf, mOf}
 use Rattle.network.specs.Pass.{moved, unshifted, source, passed}
 use Rattle.network.specs.Wired.{wiredItem}
@@ -64,14 +67,17 @@ pub passedItem-is : (l : List ℕ) (f c : ℕ) → permitted c ≡ true → pass
 unfolding passedItem
 passedItem-is l f c t = ap (λ (k : ℕ). item (passed l f (k / 16) (k % 16))) (entry-of c t)
 
--- a flip and then a shift
-pub flip-shift : (l r : List ℕ) (f c : ℕ) → c < 256 → permitted c ≡ true → r ≡ item (flipped l f) → item (λ k. bitOf r (unshifted (c / 16) (c % 16) k)) ≡ passedItem l f c
+-- a flip and then a shift, of its quarters
+pub flip-shift : (l q r t : List ℕ) (f c : ℕ) → c < 256 → f < 256 → permitted c ≡ true → q ≡ quarters (bitOf l) → r ≡ flippedQuarters q f
+    → t ≡ quarters (λ k. lineOf r (unshifted (c / 16) (c % 16) k)) → item (lineOf t) ≡ passedItem l f c
 unfolding passed source
-flip-shift l r f c b t e =
-    ap (λ (x : List ℕ). item λ k. bitOf x (unshifted (c / 16) (c % 16) k)) e
-    ∙ pack-ext (λ k. bitOf (item (flipped l f)) (unshifted (c / 16) (c % 16) k)) (λ k. flipped l f (unshifted (c / 16) (c % 16) k)) 32
-    (λ k h. bitOf-pack (flipped l f) (λ i. bitOf-bit l _) 32 (unshifted (c / 16) (c % 16) k) (unshifted-lt 8 (c / 16) (c % 16) k (shift c b t .within) h))
-    ∙ sym (passedItem-is l f c t)
+flip-shift l q r t f c b d y eq er et =
+    let from : ℕ → ℕ = unshifted (c / 16) (c % 16) in
+    ap (λ (x : List ℕ). item (lineOf x)) et
+    ∙ pack-ext (lineOf (quarters (λ k. lineOf r (from k)))) (λ k. flipped l f (from k)) 32
+    (λ k h. lineOf-quarters (λ i. lineOf r (from i)) (λ i. lineOf-bit r (from i)) k h
+    ∙ line-flipped l q r f d eq er (from k) (unshifted-lt 8 (c / 16) (c % 16) k (shift c b y .within) h))
+    ∙ sym (passedItem-is l f c y)
 
 -- no shift, and no flip either
 pub flip-none : (l : List ℕ) (f c : ℕ) → c ≡ 0 → item (flipped l f) ≡ passedItem l f c

@@ -36,7 +36,7 @@ shifted-unshifted p m k h =
 -- ---- lines stay lines
 
 -- another rest in the same block stays below a higher power
-pub block-lt : (n p x z : ℕ) → p ≤ n → x < 2 ^ n → z < 2 ^ p → x / 2 ^ p * 2 ^ p + z < 2 ^ n
+block-lt : (n p x z : ℕ) → p ≤ n → x < 2 ^ n → z < 2 ^ p → x / 2 ^ p * 2 ^ p + z < 2 ^ n
 block-lt n p x z h l k =
     let e : p + (n - p) ≡ n = omega arith in
     let same : (x / 2 ^ p * 2 ^ p + z) / 2 ^ n ≡ 0 =

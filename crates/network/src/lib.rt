@@ -5,6 +5,9 @@ mod shift;
 mod tables;
 mod wires;
 
+use bits::flips::flip_quarters;
+use bits::quarters::lines_of;
+use bits::quarters::quarters_of;
 ghost use mathlib.Core.Path.{_≡_};
 ghost use mathlib.Core.Bool.{true};
 ghost use lib.ListN.{length};
@@ -17,16 +20,19 @@ pub struct Passed {
     pub item: [u8; 32],
 }
 
-// The item passed, for a caller that has judged `code`. Where nothing is flipped or shifted, it is a copy.
+// The item passed, for a caller that has judged `code`: its quarters, flipped and then shifted. Where nothing is flipped or shifted, it is a copy.
 pub fn pass_item(lines: &[u8; 32], flip: u8, code: u8) -> [u8; 32]
     requires { ⌜ permitted code ≡ true ⌝ }
     ensures { λ r. ⌜ r ≡ passedItem (now (lines .entry)) flip code ⌝ }
 {
-    let flipped = items::flipped(lines, flip);
-    if code == 0 {
-        return flipped;
+    if flip | code == 0 {
+        return items::copied(lines);
     }
-    shift::shift(&flipped, code / 16, code % 16)
+    let flipped = flip_quarters(quarters_of(lines), flip);
+    if code == 0 {
+        return lines_of(flipped);
+    }
+    lines_of(shift::shift(flipped, code / 16, code % 16))
 }
 
 // The same pass of a part of a buffer.

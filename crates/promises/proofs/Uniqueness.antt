@@ -122,9 +122,13 @@ module _ {M : Type 1} (𝓤 : URA M) (H : Heap 𝓤) (A : Atoms 𝓤) (memory : 
         copy = equation 𝓤 _ (λ κs a g r e. refl);
         itemOf = equation 𝓤 _ (λ κs a g r e. refl);
         flip = equation 𝓤 _ (λ κs a g r e. refl);
+        flipQuarters = equation 𝓤 _ (λ κs a g r e. refl);
         spreadLane = equation 𝓤 _ (λ κs a g r e. refl);
         gatherLane = equation 𝓤 _ (λ κs a g r e. refl);
         keepLane = equation 𝓤 _ (λ κs a g r e. refl);
+        quartersOf = equation 𝓤 _ (λ κs a g r e. refl);
+        linesOf = equation 𝓤 _ (λ κs a g r e. refl);
+        mixQuarter = equation 𝓤 _ (λ κs a g r e. refl);
       }
 
   of-memory : OfMemory 𝓤 H A memory runs
@@ -153,7 +157,6 @@ module _ {M : Type 1} (𝓤 : URA M) (H : Heap 𝓤) (A : Atoms 𝓤) (memory : 
         find = equation 𝓤 _ (λ κs a g r e. refl);
         isCode = equation 𝓤 _ (λ κs a g r e. refl);
         copied = equation 𝓤 _ (λ κs a g r e. refl);
-        flipped = equation 𝓤 _ (λ κs a g r e. refl);
       }
 
   of-registers : OfRegisters 𝓤 H A memory runs

@@ -20,9 +20,13 @@ use Rattle.bits.proofs.choices.number_or as number_or
 use Rattle.bits.proofs.copies.copy as copy
 use Rattle.bits.proofs.copies.item_of as item_of
 use Rattle.bits.proofs.flips.flip as flip
+use Rattle.bits.proofs.flips.flip_quarters as flip_quarters
 use Rattle.bits.proofs.lanes.spread_lane as spread_lane
 use Rattle.bits.proofs.lanes.gather_lane as gather_lane
 use Rattle.bits.proofs.lanes.keep_lane as keep_lane
+use Rattle.bits.proofs.quarters.quarters_of as quarters_of
+use Rattle.bits.proofs.quarters.lines_of as lines_of
+use Rattle.bits.proofs.quarters.mix as mix_quarter
 use Rattle.memory.proofs.load as load
 use Rattle.memory.proofs.store as store
 use Rattle.memory.proofs.store_masked as store_masked
@@ -38,7 +42,6 @@ use Rattle.network.proofs.pass_part as pass_part
 use Rattle.network.proofs.codes.find as find
 use Rattle.network.proofs.codes.is_code as is_code
 use Rattle.network.proofs.items.copied as copied
-use Rattle.network.proofs.items.flipped as flipped
 use Rattle.registers.proofs.set_m as set_m
 use Rattle.registers.proofs.logic as logic
 use Rattle.registers.proofs.resolver.resolve as resolve
@@ -182,9 +185,13 @@ module _ {M : Type 1} (𝓤 : URA M) (H : Heap 𝓤) (A : Atoms 𝓤) (memory : 
     pub copy : OneOutcome 𝓤 copy.ended (copy.clauses 𝓤 H A memory runs) (λ κs r e. now (e .1 .0))
     pub itemOf : OneOutcome 𝓤 item_of.ended (item_of.clauses 𝓤 H A memory runs) (λ κs r e. r)
     pub flip : OneOutcome 𝓤 flip.ended (flip.clauses 𝓤 H A memory runs) (λ κs r e. r)
+    pub flipQuarters : OneOutcome 𝓤 flip_quarters.ended (flip_quarters.clauses 𝓤 H A memory runs) (λ κs r e. r)
     pub spreadLane : OneOutcome 𝓤 spread_lane.ended (spread_lane.clauses 𝓤 H A memory runs) (λ κs r e. now (e .1 .1 .1 .0))
     pub gatherLane : OneOutcome 𝓤 gather_lane.ended (gather_lane.clauses 𝓤 H A memory runs) (λ κs r e. r)
     pub keepLane : OneOutcome 𝓤 keep_lane.ended (keep_lane.clauses 𝓤 H A memory runs) (λ κs r e. r)
+    pub quartersOf : OneOutcome 𝓤 quarters_of.ended (quarters_of.clauses 𝓤 H A memory runs) (λ κs r e. r)
+    pub linesOf : OneOutcome 𝓤 lines_of.ended (lines_of.clauses 𝓤 H A memory runs) (λ κs r e. r)
+    pub mixQuarter : OneOutcome 𝓤 mix_quarter.ended (mix_quarter.clauses 𝓤 H A memory runs) (λ κs r e. r)
 
   -- `memory`
   pub record OfMemory : Type 2 where
@@ -207,7 +214,6 @@ module _ {M : Type 1} (𝓤 : URA M) (H : Heap 𝓤) (A : Atoms 𝓤) (memory : 
     pub find : OneOutcome 𝓤 find.ended (find.clauses 𝓤 H A memory runs) (λ κs r e. r)
     pub isCode : OneOutcome 𝓤 is_code.ended (is_code.clauses 𝓤 H A memory runs) (λ κs r e. r)
     pub copied : OneOutcome 𝓤 copied.ended (copied.clauses 𝓤 H A memory runs) (λ κs r e. r)
-    pub flipped : OneOutcome 𝓤 flipped.ended (flipped.clauses 𝓤 H A memory runs) (λ κs r e. r)
 
   -- `registers`
   pub record OfRegisters : Type 2 where

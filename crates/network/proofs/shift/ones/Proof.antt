@@ -1,26 +1,11 @@
--- `shift::ones`: the cases of `reach`.
-use mathlib.Core.Path.{_≡_, sym, ap}
-use Prim.Native.Nat.{ℕ, _-_, _^_, _≤_}
-use native.Mathlib.Omega.{arith}
-use Rattle.network.specs.Turn.{reach}
-use Rattle.network.proofs.TurnLaws.{reach-top}
+-- `shift::ones`: all ones, moved down, by the computed test.
+use borrow.Author.Needs.{needs}
+use Rattle.network.proofs.TurnLaws.{ones-shr}
 use Rattle.network.proofs.shift.ones.Statement.{statement}
 use Rattle.network.proofs.shift.ones.Tie as tie
 
 returns : tie.Need-returns
-unfolding reach
-returns c = let h : c .before .args .e ≡ 0 = omega arith in sym (ap (λ (x : ℕ). 2 ^ reach x - 1) h)
-
-returns-2 : tie.Need-returns-2
-unfolding reach
-returns-2 c = let h : c .before .args .e ≡ 1 = omega arith in sym (ap (λ (x : ℕ). 2 ^ reach x - 1) h)
-
-returns-3 : tie.Need-returns-3
-unfolding reach
-returns-3 c = let h : c .before .args .e ≡ 2 = omega arith in sym (ap (λ (x : ℕ). 2 ^ reach x - 1) h)
-
-returns-4 : tie.Need-returns-4
-returns-4 c = let h : 3 ≤ c .before .args .e = omega arith in sym (ap (λ (x : ℕ). 2 ^ x - 1) (reach-top (c .before .args .e) h))
+returns c = ones-shr (c .args .n) (c .pre .1)
 
 pub ones-spec : {M : Type 1} → statement M
-ones-spec = tie.close (tie.spec returns returns-2 returns-3 returns-4)
+ones-spec = tie.close (tie.spec (λ c. search needs) (λ c. search needs) (λ c. search needs) returns)
