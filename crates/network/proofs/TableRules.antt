@@ -13,7 +13,7 @@ use lib.Seq.{drop-cons}
 use borrow.Author.Tests.{eq-eqb, ne-eqb, eqb-true, lt-ltb, le-leb, ltb-true, leb-true}
 use Rattle.bits.specs.Bits.{listed}
 use Rattle.bits.proofs.Tests.{all, all-at}
-use Rattle.network.specs.Shifts.{codesTo, codes, pOf, mOf, indexOf, shiftOf, permitted, signal, row, rows, signals, place}
+use Rattle.network.specs.Shifts.{codesTo, codes, pOf, mOf, indexOf, shiftOf, permitted, signal, row, rows, signals, SignalsOf, place}
 
 -- ---- the signals
 
@@ -29,6 +29,10 @@ pub signal-rule : (s j k : ℕ) → s < 37 → j < 8 → k ≤ j → getD (getD 
 unfolding signal-right
 signal-rule s j k hs hj hk =
     eqb→eq _ _ (all-at (suc j) (λ k. signal-right s j k) (all-at 8 (λ j. all (suc j) λ k. signal-right s j k) (all-at 37 (λ s. all 8 λ j. all (suc j) λ k. signal-right s j k) signals-tested s hs) j hj) k (suc-le-suc hk))
+
+-- and so it is in a list that has the signals of one shift
+pub signal-of : (s : ℕ) (l : List ℕ) (j k : ℕ) → SignalsOf s l → j < 8 → k ≤ j → getD l (place j k) 0 ≡ signal (pOf s) (mOf s) j k
+signal-of s l j k w hj hk = ap (λ (x : List ℕ). getD x (place j k) 0) (w .are) ∙ signal-rule s j k (w .within) hj hk
 
 -- ---- the codes
 

@@ -62,14 +62,16 @@ pub fn pass(lines: &[u8; 32], flip: u8, code: u8) -> Passed
     }
 }
 
-// A pass in wired form, called by itself: the same contract. The table of signals is taken out once.
+// A pass in wired form, called by itself: the same contract. The shift's signals are taken out once, and the levels work
+// on the item that is given back.
 pub fn wired_pass(lines: &[u8; 32], flip: u8, code: u8) -> Passed
     ensures { λ r. ⌜ r ≡ answer (now (lines .entry)) flip code ⌝ }
 {
     let s = codes::find(code);
     if s < 37 {
-        let table = tables::signal_table();
-        let out = wires::wired_item(8, &table, s, flip, *lines);
+        let signals = tables::signals_of(s);
+        let mut out = *lines;
+        wires::wired_item(8, &signals, flip, &mut out);
         Passed {
             number: 0,
             item: out,

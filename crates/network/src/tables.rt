@@ -1,6 +1,7 @@
 // The tables of the network. Their rules are proved once, by computed tests (proofs/TableRules.antt).
 ghost use mathlib.Core.Path.{_≡_};
-ghost use Rattle.network.specs.Shifts.{codes, signals};
+ghost use Prim.Native.Nat.{_<_};
+ghost use Rattle.network.specs.Shifts.{codes, signals, SignalsOf};
 
 // The 37 permitted values of byte 6: 0 for none, else 16p + m.
 const CODES: [u8; 37] = [
@@ -1490,15 +1491,34 @@ const SIGNALS: [[u8; 36]; 37] = [
     ],
 ];
 
-// Whoever reads a table more than once takes it out here, and hands a reference on.
+// Whoever reads the codes more than once takes them out here, and hands a reference on.
 pub fn code_table() -> [u8; 37]
     ensures { λ r. ⌜ r ≡ codes ⌝ }
 {
     CODES
 }
 
-pub fn signal_table() -> [[u8; 36]; 37]
+// The whole table, apart from `signals_of`: that it is what the definition computes is one conversion.
+fn signal_table() -> [[u8; 36]; 37]
     ensures { λ r. ⌜ r ≡ signals ⌝ }
 {
     SIGNALS
+}
+
+// The 36 signals of shift `s`. Each turn of the loop takes a row that the compiler knows, so that it keeps no table on
+// the stack; for `table[s]` it would.
+pub fn signals_of(s: usize) -> [u8; 36]
+    requires { ⌜ s < 37 ⌝ }
+    ensures { λ r. ⌜ SignalsOf s r ⌝ }
+{
+    let table = signal_table();
+    let mut out = [0u8; 36];
+    let mut i: usize = 0;
+    while i < 37 {
+        if i == s {
+            out = table[i];
+        }
+        i += 1;
+    }
+    out
 }

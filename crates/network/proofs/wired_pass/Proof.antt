@@ -6,11 +6,13 @@ use Rattle.network.proofs.wired_pass.Tie as tie
 
 returns : tie.Need-returns
 returns c =
-    let t = c .before .before .before .before in
-    let s = t .before .before in
-    given _ _ _ _ (found-permitted (s .args .code) (t .before .find .result) (t .before .find .ensures) (t .if1 .taken))
-    (wired-passed _ _ (s .args .flip) (s .args .code) (t .before .find .result) (s .fits .code .fits) (s .fits .flip .fits) (t .before .find .ensures) (t .if1 .taken)
-    (c .wired-item .ensures))
+    let o = c .before .before .before .before in
+    let h = o .before .if1 .taken in
+    let f = o .before .before .find in
+    let s = o .before .before .before in
+    given _ _ _ _ (found-permitted (s .args .code) (f .result) (f .ensures) h)
+    (wired-passed _ _ (s .args .flip) (s .args .code) (f .result) (s .fits .code .fits) (s .fits .flip .fits) (f .ensures)
+    h (c .wired-item .ensures (f .result) (o .signals-of .ensures)))
 
 returns-2 : tie.Need-returns-2
 returns-2 c = refused _ _ _ (lost-refused (c .before .before .args .code) (c .before .find .result) (c .before .find .ensures) (c .if1 .left))

@@ -11,16 +11,16 @@ use Rattle.network.proofs.wires.level_item.Reads as level-item-reads
 use Rattle.network.proofs.wires.+wired_item.{statement}
 use Rattle.network.proofs.wires.+wired_item.Tie.{close}
 
-abbrev μ-wired-item : Measures 1 wired-item-kinds.ps ℕ
+abbrev μ-wired-item : Measures 2 wired-item-kinds.ps ℕ
 μ-wired-item κs a = a .0
 
-abbrev wired-item-at : ℕ → In 1 wired-item-kinds.ps
+abbrev wired-item-at : ℕ → In 2 wired-item-kinds.ps
 wired-item-at t =
-    and 1 wired-item-kinds.ps (is 1 wired-item-kinds.ps μ-wired-item t) wired-item.Pre
+    and 2 wired-item-kinds.ps (is 2 wired-item-kinds.ps μ-wired-item t) wired-item.Pre
 
-abbrev wired-item-below : ℕ → In 1 wired-item-kinds.ps
+abbrev wired-item-below : ℕ → In 2 wired-item-kinds.ps
 wired-item-below t =
-    and 1 wired-item-kinds.ps (falls 1 wired-item-kinds.ps _<_ μ-wired-item t) wired-item.Pre
+    and 2 wired-item-kinds.ps (falls 2 wired-item-kinds.ps _<_ μ-wired-item t) wired-item.Pre
 
 wired-item-sub-wired-item : (t : ℕ) → wired-item-lts.Need-sub-wired-item (
   wired-item-below t,
@@ -36,9 +36,7 @@ wired-item-wired-item-requires : (t : ℕ) → wired-item-lts.Need-wired-item-re
   level-item-reads.Asked,
   level-item-reads.Learnt,
 ) (wired-item-at t) wired-item.Post
-wired-item-wired-item-requires t c κs =
-    let q = c .before .pre .1 in
-    (omega arith, (omega arith, q .1, q .2))
+wired-item-wired-item-requires t c κs = (omega arith, omega arith)
 
 wired-item-sub-level-item : (t : ℕ) → wired-item-lts.Need-sub-level-item (
   wired-item-below t,
@@ -54,9 +52,7 @@ wired-item-level-item-requires : (t : ℕ) → wired-item-lts.Need-level-item-re
   level-item-reads.Asked,
   level-item-reads.Learnt,
 ) (wired-item-at t) wired-item.Post
-wired-item-level-item-requires t c κs =
-    let q = c .before .before .before .pre .1 in
-    (q .1, q .2, omega arith)
+wired-item-level-item-requires t c κs = omega arith
 
 wired-item-returns : (t : ℕ) → wired-item-lts.Need-returns (
   wired-item-below t,
@@ -64,7 +60,9 @@ wired-item-returns : (t : ℕ) → wired-item-lts.Need-returns (
   level-item-reads.Asked,
   level-item-reads.Learnt,
 ) (wired-item-at t) wired-item.Post
-wired-item-returns t c = wired-none _ _ _ _ _ (c .if1 .taken)
+wired-item-returns t c =
+    let b = c .before .before in
+    λ s w. wired-more _ _ _ _ _ _ _ (b .before .before .if1 .taken) (b .wired-item .ensures s w) (c .level-item .ensures s w)
 
 wired-item-returns-2 : (t : ℕ) → wired-item-lts.Need-returns-2 (
   wired-item-below t,
@@ -72,7 +70,7 @@ wired-item-returns-2 : (t : ℕ) → wired-item-lts.Need-returns-2 (
   level-item-reads.Asked,
   level-item-reads.Learnt,
 ) (wired-item-at t) wired-item.Post
-wired-item-returns-2 t c = wired-more _ _ _ _ _ _ _ (c .before .before .before .if1 .left) (c .before .before .wired-item .ensures) (c .level-item .ensures)
+wired-item-returns-2 t c = λ s w. wired-none _ _ _ _ _ (c .if1 .left)
 
 pub +wired-item-spec : {M : Type 1} → statement M
 +wired-item-spec = close μ-wired-item λ t. wired-item-lts.spec (

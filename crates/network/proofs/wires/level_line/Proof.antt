@@ -8,14 +8,16 @@ returns : tie.Need-returns
 returns c =
     let a = c .before .before .before .args in
     let g = c .before .before .group in
-    level-off (a .f) _ _ (a .j) (a .line) (g .result) (c .before .signal-at .result) (g .ensures .0) (c .before .signal-at .ensures) (c .if1 .taken)
+    let r = c .before .signal-at in
+    λ s w. level-off (a .f) _ _ (a .j) (a .line) (g .result) (r .result) (g .ensures .0) (r .ensures s w) (c .if1 .taken)
 
 returns-2 : tie.Need-returns-2
 returns-2 c =
-    let a = c .before .before .before .args in
+    let b = c .before .before .before in
+    let a = b .args in
     let g = c .before .before .group in
-    level-on (a .f) _ _ (a .j) (a .line) (g .result) (c .before .signal-at .result) (g .ensures .0) (c .before .signal-at .ensures) (c .before .before .before .pre .2)
-    (c .if1 .left)
+    let r = c .before .signal-at in
+    λ s w. level-on (a .f) _ _ (a .j) (a .line) (g .result) (r .result) (g .ensures .0) (r .ensures s w) (b .pre) (c .if1 .left)
 
 pub level-line-spec : {M : Type 1} → statement M
 level-line-spec =
