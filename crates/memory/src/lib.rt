@@ -8,10 +8,12 @@ mod spreading;
 mod writing;
 
 ghost use mathlib.Core.Path.{_≡_};
+ghost use Prim.Native.Nat.{_/_, _%_};
 ghost use lib.ListN.{length};
-ghost use Rattle.bits.specs.Bits.{bitOf, item};
+ghost use Rattle.bits.specs.Bits.{bitOf, listed, item};
 ghost use Rattle.memory.specs.Access.{readBit};
 ghost use Rattle.memory.specs.Memory.{cell, stored, every, maskOf};
+ghost use Rattle.memory.specs.Groups.{keepByte};
 
 // The item that is read under a mode and an address: line P has the bit that it meets.
 pub fn load(mem: &[u8], mode: u8, addr: u8) -> [u8; 32]
@@ -27,9 +29,24 @@ pub fn store_masked<'a>(mem: &mut [u8], mode: u8, addr: u8, item: &'a [u8; 32], 
     requires { ⌜ length (now mem) ≡ 8192 ⌝ }
     ensures { λ r. ⌜ now (mem .exit) ≡ stored (now (mem .entry)) mode addr (bitOf (now (mask .entry))) (bitOf (now (item .entry))) ⌝ }
 {
-    let put = spreading::spread(&spreading::masked(item, mask), mode, addr);
     let keep = spreading::kept(mask, mode, addr);
-    writing::write_all(mem, mode, addr, 32, &keep, &put);
+    put_masked(mem, mode, addr, item, mask, &keep);
+}
+
+// The same where what the chips keep is made already. A function of its own: results of one type that one function calls for take their turns in one place of the stack, so with both here each would be copied out of it, 256 bytes more.
+fn put_masked<'a>(
+    mem: &mut [u8],
+    mode: u8,
+    addr: u8,
+    item: &'a [u8; 32],
+    mask: &'a [u8; 32],
+    keep: &'a [u8],
+)
+    requires { ⌜ (length (now mem) ≡ 8192) × (now keep ≡ listed (λ n. keepByte (bitOf (now mask)) mode addr (n % 32) (n / 32)) 256) ⌝ }
+    ensures { λ r. ⌜ now (mem .exit) ≡ stored (now (mem .entry)) mode addr (bitOf (now (mask .entry))) (bitOf (now (item .entry))) ⌝ }
+{
+    let put = spreading::spread(&spreading::masked(item, mask), mode, addr);
+    writing::write_all(mem, mode, addr, 32, keep, &put);
 }
 
 // The item goes where its lines point: the same at all lines, where what is kept is one byte for a lane.
