@@ -13,7 +13,8 @@ use lib.Seq.{drop-cons}
 use borrow.Author.Tests.{eq-eqb, ne-eqb, eqb-true, lt-ltb, le-leb, ltb-true, leb-true}
 use Rattle.bits.specs.Bits.{listed}
 use Rattle.bits.proofs.Tests.{all, all-at}
-use Rattle.network.specs.Shifts.{codesTo, codes, pOf, mOf, indexOf, shiftOf, permitted, signal, row, rows, signals, SignalsOf, place}
+use Rattle.network.specs.Shifts.{codesTo, codes, pOf, mOf, indexOf, shiftOf, permitted, signal, row, rows, signals, place}
+use Rattle.network.specs.Steps.{SignalsOf}
 
 -- ---- the signals
 

@@ -4,3 +4,4 @@ pub mod Pass
 pub mod Wired
 pub mod Answer
 pub mod Turn
+pub mod Steps

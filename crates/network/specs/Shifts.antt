@@ -1,8 +1,7 @@
 -- The 37 shifts and their signals. Document 01, Network; readings A4 and A5 on their order.
-use mathlib.Core.Path.{_≡_}
 use mathlib.Core.Bool.{Bool, cond, _&&_}
 use mathlib.Core.List.{List, [], _∷_, _++_}
-use Prim.Native.Nat.{ℕ, zero, suc, _+_, _*_, _/_, _%_, _<_}
+use Prim.Native.Nat.{ℕ, zero, suc, _+_, _*_, _/_, _%_}
 use lib.Dec.{eqb, leb, ltb}
 use lib.ListN.{getD}
 use Rattle.bits.specs.Bits.{listed}
@@ -57,11 +56,6 @@ rows (c ∷ cs) = row 8 (c / 16) (c % 16) ∷ rows cs
 unfoldable pub signals : List (List ℕ)
 signals = rows codes
 
--- l has the 36 signals of shift s.
-pub record SignalsOf (s : ℕ) (l : List ℕ) : Type 0 where
-  pub within : s < 37
-  pub are : l ≡ getD signals s []
-
--- Where signal k of level j stands among them.
+-- Where signal k of level j stands among the 36 of a shift.
 abbrev pub place : ℕ → ℕ → ℕ
 place j k = j * (j + 1) / 2 + k

@@ -1,7 +1,8 @@
 // The tables of the network. Their rules are proved once, by computed tests (proofs/TableRules.antt).
 ghost use mathlib.Core.Path.{_≡_};
 ghost use Prim.Native.Nat.{_<_};
-ghost use Rattle.network.specs.Shifts.{codes, signals, SignalsOf};
+ghost use Rattle.network.specs.Shifts.{codes, signals};
+ghost use Rattle.network.specs.Steps.{SignalsOf};
 
 // The 37 permitted values of byte 6: 0 for none, else 16p + m.
 const CODES: [u8; 37] = [

@@ -3,7 +3,8 @@
 ghost use mathlib.Core.Path.{_≡_};
 ghost use Prim.Native.Nat.{ℕ, _%_, _^_, _<_, _≤_};
 ghost use Rattle.bits.specs.Bits.{bitOf, byteOf};
-ghost use Rattle.network.specs.Shifts.{signal, SignalsOf, pOf, mOf};
+ghost use Rattle.network.specs.Shifts.{signal, pOf, mOf};
+ghost use Rattle.network.specs.Steps.{SignalsOf};
 ghost use Rattle.network.specs.Wired.{significant, level, levelled, wiredItem};
 
 // The number of the signal that `line` obeys in level `j`: how many significant bits it has modulo 2^`j`.

@@ -109,4 +109,4 @@ LibraryReadPicture kind bytes memory registers memory′ registers′ answer′ 
 
 -- `staran_version`: 1.1
 abbrev pub LibraryVersion : ℕ → Type 0
-LibraryVersion r = r ≡ version 1 1
+LibraryVersion r = r ≡ version 1 2

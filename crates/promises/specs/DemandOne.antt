@@ -195,4 +195,4 @@ pub record DemandOne : Type 0 where
       → (r : Moved) × (answer′ ≡ three r) × WriteTable kind (pictureFits kind (length memory) (length registers)) pictureBytes (length out) r
       × Kept (r .number) out out′
   -- `staran_version` has no number of the tables: 1.1, and nothing else
-  pub libraryVersion : (r : ℕ) → LibraryVersion r → r ≡ 65537
+  pub libraryVersion : (r : ℕ) → LibraryVersion r → r ≡ 65538

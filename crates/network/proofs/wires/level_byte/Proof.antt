@@ -8,7 +8,8 @@ use borrow.Author.Needs.{needs}
 use Rattle.bits.specs.Bits.{bitOf, digitsOf, byteOf}
 use Rattle.bits.proofs.Digits.{or-digit}
 use Rattle.bits.proofs.Items.{bitOf-bit}
-use Rattle.network.specs.Shifts.{SignalsOf, pOf, mOf}
+use Rattle.network.specs.Shifts.{pOf, mOf}
+use Rattle.network.specs.Steps.{SignalsOf}
 use Rattle.network.specs.Wired.{level}
 use Rattle.network.proofs.wires.level_byte.Statement.{statement}
 use Rattle.network.proofs.wires.level_byte.Tie as tie

@@ -6,7 +6,8 @@ use lib.ListN.{length, take, length-set}
 use borrow.Author.Needs.{needs}
 use Rattle.bits.specs.Bits.{bitOf, listed, byteOf}
 use Rattle.bits.proofs.Items.{fill-more, fill-done}
-use Rattle.network.specs.Shifts.{SignalsOf, pOf, mOf}
+use Rattle.network.specs.Shifts.{pOf, mOf}
+use Rattle.network.specs.Steps.{SignalsOf}
 use Rattle.network.specs.Wired.{level, levelled}
 use Rattle.network.proofs.wires.level_item.Statement.{statement}
 use Rattle.network.proofs.wires.level_item.Tie as tie
