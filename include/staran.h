@@ -19,7 +19,14 @@
  * - Whether pointers keep these two rules is not looked at and cannot be: a call that breaks them may do anything.
  * - Nothing is kept between calls, nothing is allocated, no file is opened and no system call is made. Calls on different buffers may
  *   run at once. Nothing throws, and nothing is called back.
- * - "Stack" is how many bytes of stack a call needs at most below its caller. tests/c/run measures it; docs/PERFORMANCE.md has counts.
+ * - "Stack" is how many bytes of stack a call needs at most below its caller, whatever is lent, done or refused: the arguments passed
+ *   there, the return address, and everything below it to the last byte written. It does not grow with a list or a file. The figures
+ *   are of the archive that `make library` makes: tests/c/run follows every path of its machine code, and measures calls as well; a
+ *   program that compiles the crates itself measures anew. memcpy and memset are counted with 64 bytes below their return address
+ *   (glibc's use none). On top comes what a signal handler or an interrupt puts on the same stack, and the 128 bytes below the stack
+ *   pointer that it must leave alone, the red zone, of which the figures have what is written; and, unless the program is linked with
+ *   -static or -Wl,-z,now, what the loader needs to find memcpy when it is first called: thousands of bytes. docs/PERFORMANCE.md has
+ *   counts.
  * - The calling convention is C's own on x86-64 Linux (System V): a compiler that reads this header follows it. From another language,
  *   each parameter below is one of size_t, uint8_t, uint32_t, uint64_t or a pointer, in the order in which it stands, in the registers rdi,
  *   rsi, rdx, rcx, r8 and r9, then on the stack; staran_version gives its number in eax.

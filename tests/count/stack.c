@@ -1,122 +1,194 @@
-/* Prints how many bytes of stack each function of the library uses, its callees with it: a stack is painted, the call made on it, and how far the paint is gone is
- * read back. What an empty call of the same shape uses is taken off. tests/count-stack runs it. */
-#define _XOPEN_SOURCE 700
+/* Prints how many bytes of stack each function of the library needs below its caller, measured: the deepest of the calls that the tables below make, of every
+ * kind that a caller can make, done and refused. Fails where a function does not give every number that it can give. tests/count-stack runs it.
+ *
+ * A length in a table is how many bytes fewer are lent than the buffer has. */
+#include "paint.h"
 #include "staran.h"
 
 #include <stdio.h>
 #include <string.h>
-#include <ucontext.h>
 
-enum { STACK = 65536, WIDTH = 32 };
+#define COUNT(table) (sizeof(table) / sizeof *(table))
+enum { WIDEST = 64, BLOCK = STARAN_BLOCK_BYTES };
 
-static uint8_t memory[STARAN_MEMORY_BYTES], registers[STARAN_REGISTERS_BYTES], items[STARAN_ITEM_BYTES], out[STARAN_MEMORY_BYTES];
-static uint8_t list[STARAN_DIFFERENCE_LIST_BYTES(WIDTH)], content[STARAN_MEMORY_BYTES], file[STARAN_FILE_BYTES(STARAN_MEMORY_BYTES)];
-static uint8_t picture[STARAN_PICTURE_FILE_BYTES], item[STARAN_ITEM_BYTES], passed[STARAN_ITEM_BYTES];
-static uint8_t greatest[STARAN_GREATEST_LIST_BYTES(WIDTH)], searched[STARAN_SEARCH_ITEMS_BYTES(WIDTH)];
+static uint8_t memory[STARAN_MEMORY_BYTES], content[STARAN_MEMORY_BYTES], registers[STARAN_REGISTERS_BYTES], item[STARAN_ITEM_BYTES], passed[STARAN_ITEM_BYTES];
+static uint8_t list[STARAN_GREATEST_LIST_BYTES(WIDEST)], items[STARAN_SEARCH_ITEMS_BYTES(WIDEST)], blocks[STARAN_PICTURE_FILE_BYTES];
 static staran_registers record;
 static uint32_t answer[5];
 
-/* Each kind of instruction, with a flip and a shift where it may have them: what a run or a step can come to. */
-static const uint8_t kinds[][STARAN_INSTRUCTION_BYTES] = {
-    {0, 0, 1, 7, 5, 90, 0x83, 0x46}, {0, 4, 0, 0, 0, 90, 0x83, 0x46}, {1, 2, 0, 0, 0, 90, 0x83, 0}, {2, 3, 1, 7, 5, 90, 0, 0},
-    {3, 3, 1, 7, 5, 90, 0, 0},       {4, 0, 1, 7, 5, 90, 0x83, 0},    {5, 0, 0, 0, 0, 0, 0, 0},
-};
-enum { KINDS = sizeof kinds / sizeof *kinds };
+/* ---- a run and a step: of an instruction that takes and gives, at several lengths; then of every kind with every source, mode, pass and choice, of which the
+ * judge takes some and refuses the others */
 
-static void none(size_t k) { (void)k; }
-static void run(size_t k)
+static const struct {
+    size_t memory, registers, list, items, out;
+} less[] = {{0, 0, 0, 0, 0}, {1, 0, 0, 0, 0}, {0, 1, 0, 0, 0}, {0, 0, 8, 0, 0}, {0, 0, 1, 0, 0}, {0, 0, 0, 1, 0}, {0, 0, 0, 32, 0}, {0, 0, 0, 0, 1}};
+static const uint8_t deliver[] = {STARAN_DELIVER_FROM(STARAN_SOURCE_OUTSIDE, 90, STARAN_SHIFT(8, 3))};
+enum { KINDS = 7, SOURCES = 6 };                                                             /* the last of each is none */
+static const uint8_t modes[][3] = {{0, 0, 0}, {1, 0, 5}, {1, 7, 5}, {1, 255, 5}, {2, 0, 0}}; /* tag, mode, address */
+static const uint8_t passes[][2] = {{0, 0}, {90, 0}, {0, 0x83}, {90, 0x83}, {0, 0x88}};      /* flip, shift */
+static const uint8_t choices[] = {0x00, 0x16, 0x26, 0x36, 0x46, 0x50};                       /* with a function */
+enum { INSTRUCTIONS = KINDS * SOURCES * COUNT(modes) * COUNT(passes) * COUNT(choices), RUNS = COUNT(less) + INSTRUCTIONS };
+static uint8_t instructions[INSTRUCTIONS][STARAN_INSTRUCTION_BYTES];
+
+static void make_instructions(void)
 {
-    staran_run(memory, sizeof memory, registers, sizeof registers, kinds[k], sizeof kinds[k], items, sizeof items, out, sizeof out, answer);
+    for (size_t i = 0; i < INSTRUCTIONS; i++) {
+        size_t rest = i;
+        instructions[i][7] = choices[rest % COUNT(choices)], rest /= COUNT(choices);
+        memcpy(instructions[i] + 5, passes[rest % COUNT(passes)], 2), rest /= COUNT(passes);
+        memcpy(instructions[i] + 2, modes[rest % COUNT(modes)], 3), rest /= COUNT(modes);
+        instructions[i][1] = (uint8_t)(rest % SOURCES), instructions[i][0] = (uint8_t)(rest / SOURCES);
+    }
 }
-static void step(size_t k) { staran_step(memory, sizeof memory, &record, kinds[k], sizeof kinds[k], items, sizeof items, out, sizeof out, answer); }
-static void pass(size_t k) { staran_pass(item, k == 0 ? 90 : 0, 0x83, passed, answer); }
-static void wired_pass(size_t k) { staran_wired_pass(item, k == 0 ? 90 : 0, 0x83, passed, answer); }
-static void sum_list(size_t k) { staran_sum_list(0, 32, k == 0 ? 64 : 1, WIDTH, list, sizeof list, answer); }
-static void difference_list(size_t k) { staran_difference_list(0, 32, k == 0 ? 64 : 1, WIDTH, list, sizeof list, answer); }
-/* Done, and refused with each number and for either buffer. */
-typedef void searcher(uint32_t, uint32_t, uint64_t, uint8_t *, size_t, uint8_t *, size_t, uint32_t *);
-static void search(searcher *build, size_t k)
+
+#define LENT(buffer, k) sizeof buffer - less[(k) < COUNT(less) ? (k) : 0]
+#define MEMORY(k) memory, LENT(memory, k).memory
+#define THE_REST(k) \
+    (k) < COUNT(less) ? deliver : instructions[(k)-COUNT(less)], LENT(deliver, k).list, item, LENT(item, k).items, passed, LENT(passed, k).out, answer
+static void run(size_t k) { CALL(staran_run, MEMORY(k), registers, LENT(registers, k).registers, THE_REST(k)); }
+static void step(size_t k) { CALL(staran_step, MEMORY(k), &record, THE_REST(k)); }
+
+/* ---- a pass in either form: every code with some flips */
+
+static const uint8_t flips[] = {0, 1, 90, 255};
+#define PASS(k) item, flips[(k) % COUNT(flips)], (uint8_t)((k) / COUNT(flips)), passed, answer
+static void pass(size_t k) { CALL(staran_pass, PASS(k)); }
+static void wired_pass(size_t k) { CALL(staran_wired_pass, PASS(k)); }
+
+/* ---- the builders: done at three widths, then refused */
+
+static const struct {
+    uint32_t a, b, s, n;
+    size_t list;
+} sums[] = {{0, 32, 64, 32, 0},  {0, 1, 0, 1, 0},     {0, 64, 128, 64, 0}, {0, 32, 64, 0, 0},  {0, 32, 64, 65, 0},          {225, 0, 64, 32, 0},
+            {0, 225, 64, 32, 0}, {0, 32, 225, 32, 0}, {0, 64, 16, 32, 0},  {0, 64, 80, 32, 0}, {0, 32, 64, 32, sizeof list}};
+static const struct {
+    uint32_t start, n;
+    uint64_t number;
+    size_t list, items;
+} searches[] = {{0, 32, 0xA5A5A5A5, 0, 0}, {255, 1, 1, 0, 0},          {0, 64, UINT64_MAX, 0, 0},
+                {0, 0, 0, 0, 0},           {0, 65, 0, 0, 0},           {225, 32, 0, 0, 0},
+                {0, 32, UINT64_MAX, 0, 0}, {0, 32, 0, sizeof list, 0}, {0, 32, 0, 0, sizeof items}};
+
+#define SUM(k) sums[k].a, sums[k].b, sums[k].s, sums[k].n, list, sizeof list - sums[k].list, answer
+static void sum_list(size_t k) { CALL(staran_sum_list, SUM(k)); }
+static void difference_list(size_t k) { CALL(staran_difference_list, SUM(k)); }
+#define FIELD(k) searches[k].start, searches[k].n
+#define LIST(k) list, sizeof list - searches[k].list
+#define SEARCH(k) FIELD(k), searches[k].number, LIST(k), items, sizeof items - searches[k].items, answer
+static void equal_list(size_t k) { CALL(staran_equal_list, SEARCH(k)); }
+static void less_list(size_t k) { CALL(staran_less_list, SEARCH(k)); }
+static void greatest_list(size_t k) { CALL(staran_greatest_list, FIELD(k), LIST(k), answer); }
+
+/* ---- files: what one of the two readers or writers takes, the other refuses. Kind 1 is a picture, 2 a list, 3 items */
+
+enum { PICTURE, LONG, SHORT, NONE, ITEMS, OTHER_SUMS, OTHER_PLACE, OTHER_FORM, OTHER_KIND, FILES };
+static uint8_t files[FILES][STARAN_PICTURE_FILE_BYTES];
+static size_t lengths[FILES];
+static const struct {
+    size_t kind, file, bytes, memory, registers;
+} reads[] = {{1, PICTURE, 0, 0, 0},    {1, PICTURE, 0, 1, 0},     {1, PICTURE, 0, 0, 1},    {2, LONG, 0, 0, 0},
+             {2, LONG, 0, 1, 0},       {2, SHORT, 0, 0, 0},       {2, NONE, 0, 0, 0},       {3, ITEMS, 0, 0, 0},
+             {0, SHORT, 0, 0, 0},      {2, SHORT, BLOCK, 0, 0},   {2, SHORT, 1, 0, 0},      {3, SHORT, 0, 0, 0},
+             {2, OTHER_SUMS, 0, 0, 0}, {2, OTHER_PLACE, 0, 0, 0}, {2, OTHER_FORM, 0, 0, 0}, {3, OTHER_KIND, 0, 0, 0}};
+static const struct {
+    size_t kind, memory, registers, out;
+} writes[] = {{1, 0, 0, 0}, {1, 1, 0, 0}, {1, 0, 1, 0}, {1, 0, 0, 1}, {2, 0, 0, 0},
+              {2, 0, 0, 1}, {2, 1, 0, 0}, {3, 0, 0, 0}, {0, 0, 0, 0}, {2, sizeof content, 0, 0}};
+
+static void make_file(size_t file, size_t kind, size_t size)
 {
-    build(k == 1 ? 255 : 0, k == 2 ? 65 : WIDTH, k == 3 ? UINT64_MAX : 0xA5A5A5A5, list, k == 4 ? 1 : sizeof list, searched, k == 5 ? 1 : sizeof searched,
-          answer);
+    staran_write_content(kind, content, size, files[file], sizeof files[file], answer);
+    lengths[file] = answer[2];
 }
-static void equal_list(size_t k) { search(staran_equal_list, k); }
-static void less_list(size_t k) { search(staran_less_list, k); }
-static void greatest_list(size_t k) { staran_greatest_list(k == 1 ? 255 : 0, k == 2 ? 65 : WIDTH, greatest, k == 3 ? 1 : sizeof greatest, answer); }
-static void read_content(size_t k) { staran_read_content(STARAN_CONTENT_LIST, file, sizeof file, content, k == 0 ? sizeof content : 1, answer); }
-static void write_content(size_t k) { staran_write_content(STARAN_CONTENT_LIST, content, sizeof content, file, k == 0 ? sizeof file : 1, answer); }
+
+/* The short list with byte `at` of its block one greater, and its payload such that the block's two sums stay: a second difference. */
+static void make_other(size_t file, size_t at)
+{
+    make_file(file, STARAN_CONTENT_LIST, 24);
+    files[file][at] += 1, files[file][12] -= 2, files[file][24 - at] += 1;
+}
+
+static void make_files(void)
+{
+    staran_write_picture(STARAN_CONTENT_PICTURE, memory, sizeof memory, registers, sizeof registers, files[PICTURE], sizeof files[PICTURE], answer);
+    lengths[PICTURE] = answer[2];
+    make_file(LONG, STARAN_CONTENT_LIST, sizeof content);
+    make_file(SHORT, STARAN_CONTENT_LIST, 24);
+    make_file(NONE, STARAN_CONTENT_LIST, 0);
+    make_file(ITEMS, STARAN_CONTENT_ITEMS, 32);
+    make_file(OTHER_SUMS, STARAN_CONTENT_LIST, 24);
+    files[OTHER_SUMS][12] ^= 1;
+    make_other(OTHER_PLACE, 2);
+    make_other(OTHER_FORM, 8);
+    make_other(OTHER_KIND, 0); /* 24 bytes of items, which are no item */
+}
+
+#define READ(k) reads[k].kind, files[reads[k].file], lengths[reads[k].file] - reads[k].bytes
+static void read_content(size_t k) { CALL(staran_read_content, READ(k), content, sizeof content - reads[k].memory, answer); }
 static void read_picture(size_t k)
 {
-    staran_read_picture(STARAN_CONTENT_PICTURE, picture, sizeof picture, memory, sizeof memory, registers, k == 0 ? sizeof registers : 1, answer);
+    CALL(staran_read_picture, READ(k), memory, sizeof memory - reads[k].memory, registers, sizeof registers - reads[k].registers, answer);
 }
+#define OUT(k) blocks, sizeof blocks - writes[k].out, answer
+static void write_content(size_t k) { CALL(staran_write_content, writes[k].kind, content, sizeof content - writes[k].memory, OUT(k)); }
 static void write_picture(size_t k)
 {
-    staran_write_picture(STARAN_CONTENT_PICTURE, memory, sizeof memory, registers, sizeof registers, picture, k == 0 ? sizeof picture : 1, answer);
+    CALL(staran_write_picture, writes[k].kind, memory, sizeof memory - writes[k].memory, registers, sizeof registers - writes[k].registers, OUT(k));
 }
 
-static void version(size_t k) { answer[0] = staran_version() + (uint32_t)k; }
+static void version(size_t k) { (void)k, CALL(staran_version); }
 
-static uint8_t stack[STACK];
-static ucontext_t here, there;
-static void (*called)(size_t);
-static size_t word;
+/* ---- each function with its count of parameters, its calls, and the numbers that it gives */
 
-static void enter(void) { called(word); }
-
-/* The call is made on a stack of its own, which is painted before and read back after. */
-static size_t reached(int paint, void (*call)(size_t), size_t k)
-{
-    size_t whole = 0;
-    called = call;
-    word = k;
-    memset(stack, paint, sizeof stack);
-    getcontext(&there);
-    there.uc_stack.ss_sp = stack;
-    there.uc_stack.ss_size = sizeof stack;
-    there.uc_link = &here;
-    makecontext(&there, enter, 0);
-    swapcontext(&here, &there);
-    while (whole < sizeof stack && stack[whole] == paint)
-        whole++;
-    return sizeof stack - whole;
-}
-
-/* A byte that was written may have the paint's value: two paints. */
-static size_t depth(void (*call)(size_t), size_t k)
-{
-    size_t one = reached(0xA5, call, k), other = reached(0x5A, call, k);
-    return one > other ? one : other;
-}
-
-static void measure(const char *name, void (*call)(size_t), size_t calls)
-{
-    size_t deepest = 0, empty = depth(none, 0);
-    for (size_t k = 0; k < calls; k++) {
-        size_t here = depth(call, k);
-        deepest = here > deepest ? here : deepest;
-    }
-    printf("%-24s %6zu\n", name, deepest - empty);
-}
+#define NUMBERS(first, last) ((UINT64_C(2) << (last)) - (UINT64_C(1) << (first)))
+#define DONE NUMBERS(0, 0)
+static const struct {
+    const char *name;
+    size_t parameters;
+    void (*call)(size_t);
+    size_t calls;
+    uint64_t gives;
+} functions[] = {
+    {"staran_run", 11, run, RUNS, DONE | NUMBERS(1, 13)},
+    {"staran_step", 10, step, RUNS, DONE | NUMBERS(1, 1) | NUMBERS(3, 13)},
+    {"staran_pass", 5, pass, 256 * COUNT(flips), DONE | NUMBERS(10, 10)},
+    {"staran_wired_pass", 5, wired_pass, 256 * COUNT(flips), DONE | NUMBERS(10, 10)},
+    {"staran_sum_list", 7, sum_list, COUNT(sums), DONE | NUMBERS(30, 33)},
+    {"staran_difference_list", 7, difference_list, COUNT(sums), DONE | NUMBERS(30, 33)},
+    {"staran_equal_list", 8, equal_list, COUNT(searches), DONE | NUMBERS(30, 31) | NUMBERS(33, 34)},
+    {"staran_less_list", 8, less_list, COUNT(searches), DONE | NUMBERS(30, 31) | NUMBERS(33, 34)},
+    {"staran_greatest_list", 5, greatest_list, COUNT(searches), DONE | NUMBERS(30, 31) | NUMBERS(33, 33)},
+    {"staran_read_content", 6, read_content, COUNT(reads), DONE | NUMBERS(20, 26)},
+    {"staran_write_content", 6, write_content, COUNT(writes), DONE | NUMBERS(22, 22) | NUMBERS(26, 27)},
+    {"staran_read_picture", 8, read_picture, COUNT(reads), DONE | NUMBERS(20, 26)},
+    {"staran_write_picture", 8, write_picture, COUNT(writes), DONE | NUMBERS(22, 22) | NUMBERS(26, 27)},
+    {"staran_version", 0, version, 1, DONE},
+};
 
 int main(void)
 {
+    int other = 0;
     for (size_t i = 0; i < sizeof memory; i++)
-        memory[i] = (uint8_t)(i * 167 + i / 256);
-    staran_write_content(STARAN_CONTENT_LIST, content, sizeof content, file, sizeof file, answer);
-    staran_write_picture(STARAN_CONTENT_PICTURE, memory, sizeof memory, registers, sizeof registers, picture, sizeof picture, answer);
-    measure("staran_run", run, KINDS);
-    measure("staran_step", step, KINDS);
-    measure("staran_pass", pass, 2);
-    measure("staran_wired_pass", wired_pass, 2);
-    measure("staran_sum_list", sum_list, 2);
-    measure("staran_difference_list", difference_list, 2);
-    measure("staran_equal_list", equal_list, 6);
-    measure("staran_less_list", less_list, 6);
-    measure("staran_greatest_list", greatest_list, 4);
-    measure("staran_read_content", read_content, 2);
-    measure("staran_write_content", write_content, 2);
-    measure("staran_read_picture", read_picture, 2);
-    measure("staran_write_picture", write_picture, 2);
-    measure("staran_version", version, 1);
-    return 0;
+        memory[i] = content[i] = (uint8_t)(i * 167 + i / 256 + 2);
+    memcpy(registers, content, sizeof registers);
+    make_instructions();
+    make_files();
+    for (size_t f = 0; f < COUNT(functions); f++) {
+        size_t deepest = 0;
+        uint64_t given = 0;
+        answer[0] = STARAN_DONE;
+        for (size_t k = 0; k < functions[f].calls; k++) {
+            size_t here = depth(functions[f].call, k, functions[f].parameters);
+            deepest = here > deepest ? here : deepest;
+            given |= NUMBERS(answer[0], answer[0]);
+        }
+        printf("%-24s %6zu\n", functions[f].name, deepest);
+        for (unsigned number = 0; number < 64; number++)
+            if ((given ^ functions[f].gives) >> number & 1) {
+                fprintf(stderr, "%s: %u is%s given\n", functions[f].name, number, given >> number & 1 ? "" : " not");
+                other = 1;
+            }
+    }
+    return other;
 }

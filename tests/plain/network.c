@@ -16,52 +16,86 @@ static unsigned find(uint8_t code)
 
 int plain_is_code(uint8_t code) { return find(code) < 37; }
 
-static uint8_t swap(uint8_t x, uint8_t mask, unsigned by) { return (uint8_t)((x & mask) << by | (x >> by & mask)); }
+/* A pass works on the item's quarters: line 64i + k is bit k of quarter i. The bytes are written out, since of that gcc makes one load or store, and of a loop
+ * it does not. */
+enum { QUARTERS = 4 };
+
+static uint64_t quarter_at(const uint8_t at[8])
+{
+    return (uint64_t)at[0] | (uint64_t)at[1] << 8 | (uint64_t)at[2] << 16 | (uint64_t)at[3] << 24 | (uint64_t)at[4] << 32 | (uint64_t)at[5] << 40 |
+           (uint64_t)at[6] << 48 | (uint64_t)at[7] << 56;
+}
+
+static void put_quarter(uint8_t at[8], uint64_t q)
+{
+    at[0] = (uint8_t)q, at[1] = (uint8_t)(q >> 8), at[2] = (uint8_t)(q >> 16), at[3] = (uint8_t)(q >> 24);
+    at[4] = (uint8_t)(q >> 32), at[5] = (uint8_t)(q >> 40), at[6] = (uint8_t)(q >> 48), at[7] = (uint8_t)(q >> 56);
+}
+
+static void quarters_of(const uint8_t item[32], uint64_t quarters[4])
+{
+    for (unsigned i = 0; i < QUARTERS; i++)
+        quarters[i] = quarter_at(item + 8 * i);
+}
+
+static void lines_of(const uint64_t quarters[4], uint8_t item[32])
+{
+    for (unsigned i = 0; i < QUARTERS; i++)
+        put_quarter(item + 8 * i, quarters[i]);
+}
+
+/* Exchanges the lines of each quarter that differ in one digit, whose weight is `by`. */
+static void exchange(uint64_t quarters[4], uint64_t mask, unsigned by)
+{
+    for (unsigned i = 0; i < QUARTERS; i++)
+        quarters[i] = (quarters[i] & mask) << by | (quarters[i] >> by & mask);
+}
+
+static void flip_quarters(uint64_t quarters[4], uint8_t flip)
+{
+    static const uint64_t masks[6] = {0x5555555555555555, 0x3333333333333333, 0x0F0F0F0F0F0F0F0F, 0x00FF00FF00FF00FF, 0x0000FFFF0000FFFF, 0x00000000FFFFFFFF};
+    uint64_t turned[QUARTERS];
+    for (unsigned j = 0; j < 6; j++)
+        if (flip >> j & 1)
+            exchange(quarters, masks[j], 1u << j);
+    memcpy(turned, quarters, sizeof turned);
+    for (unsigned i = 0; i < QUARTERS; i++)
+        quarters[i] = turned[i ^ flip / 64];
+}
+
+/* 2^e lines as places in a quarter, at most its 64; as quarters, at least one; and the lowest n lines of a quarter. */
+static unsigned places(unsigned e) { return e < 6 ? 1u << e : 64; }
+static unsigned over(unsigned e) { return e < 6 ? 1 : 1u << (e - 6); }
+static uint64_t ones(unsigned n) { return UINT64_MAX >> (64 - n); }
+
+/* Shift by 2^m modulo 2^p: each quarter moves up, and the places that this leaves free are filled from the quarter below, or from the one that wraps round. */
+static void shift(uint64_t quarters[4], unsigned p, unsigned m)
+{
+    unsigned up = places(m), all = places(p), back = over(m), ahead = over(p) - back;
+    uint64_t left = UINT64_MAX / ones(all) * ones(up), from[QUARTERS];
+    memcpy(from, quarters, sizeof from);
+    for (unsigned i = 0; i < QUARTERS; i++) {
+        uint64_t moved = from[i] << up % 64, comes = from[(i & ahead) == 0 ? i + ahead : i - back] >> (all - up);
+        quarters[i] = moved ^ ((moved ^ comes) & left);
+    }
+}
 
 void plain_flip(const uint8_t item[32], uint8_t flip, uint8_t out[32])
 {
-    uint8_t turned[ITEM];
-    for (unsigned i = 0; i < ITEM; i++) {
-        uint8_t x = item[i ^ flip / 8];
-        x = flip & 1 ? swap(x, 85, 1) : x;
-        x = flip & 2 ? swap(x, 51, 2) : x;
-        turned[i] = flip & 4 ? swap(x, 15, 4) : x;
-    }
-    memcpy(out, turned, ITEM);
-}
-
-/* Shift by 2^m modulo 2^p: within a byte where p is at most 3; else bytes move, or each byte takes what leaves the one before it. */
-static void shift(const uint8_t item[32], unsigned p, unsigned m, uint8_t out[32])
-{
-    uint8_t shifted[ITEM];
-    if (p <= 3) {
-        unsigned by = 1u << m, back = (1u << p) - by;
-        uint8_t low = 0;
-        for (unsigned k = 0; k < 8; k++)
-            low |= k % (1u << p) >= by ? 1u << k : 0;
-        for (unsigned i = 0; i < ITEM; i++)
-            shifted[i] = (uint8_t)((item[i] << by & low) | (item[i] >> back & ~low));
-    } else {
-        unsigned bytes = 1u << (p - 3), by = m < 3 ? 1 : 1u << (m - 3), up = m < 3 ? 1u << m : 8;
-        for (unsigned i = 0; i < ITEM; i++) {
-            unsigned before = (i & ~(bytes - 1)) | ((i - by) & (bytes - 1));
-            shifted[i] = up == 8 ? item[before] : (uint8_t)(item[i] << up | item[before] >> (8 - up));
-        }
-    }
-    memcpy(out, shifted, ITEM);
+    uint64_t quarters[QUARTERS];
+    quarters_of(item, quarters);
+    flip_quarters(quarters, flip);
+    lines_of(quarters, out);
 }
 
 void plain_pass(const uint8_t item[32], uint8_t flip, uint8_t code, uint8_t out[32])
 {
-    uint8_t flipped[ITEM];
-    if (flip == 0)
-        memcpy(flipped, item, ITEM);
-    else
-        plain_flip(item, flip, flipped);
-    if (code == 0)
-        memcpy(out, flipped, ITEM);
-    else
-        shift(flipped, code / 16, code % 16, out);
+    uint64_t quarters[QUARTERS];
+    quarters_of(item, quarters);
+    flip_quarters(quarters, flip);
+    if (code != 0)
+        shift(quarters, code / 16, code % 16);
+    lines_of(quarters, out);
 }
 
 void staran_pass(const uint8_t item[32], uint8_t flip, uint8_t code, uint8_t passed[32], uint32_t answer[1])
