@@ -6,6 +6,7 @@ MAJOR := $(shell sed -n 's/^.define STARAN_VERSION_MAJOR //p' include/staran.h)
 MINOR := $(shell sed -n 's/^.define STARAN_VERSION_MINOR //p' include/staran.h)
 VERSION := $(MAJOR).$(MINOR)
 # The name under which a program asks for the shared object has the minor number too: a minor version may lengthen what a function writes.
+# It is bound when it is loaded (-z now): else the loader would look for memcpy on the stack of the first call that needs it.
 SHARED := libstaran.so.$(VERSION)
 COMPILER := $(if $(filter x86_64,$(shell uname -m)),gcc,x86_64-linux-gnu-gcc)
 
@@ -20,7 +21,7 @@ $(MADE)/libstaran.a: $(SOURCES)
 	cp $(MADE)/liblibrary.a $@
 
 $(MADE)/$(SHARED): $(MADE)/libstaran.a
-	$(COMPILER) -shared -Wl,-soname,$(SHARED) -Wl,--whole-archive $< -Wl,--no-whole-archive -o $@
+	$(COMPILER) -shared -Wl,-z,now -Wl,-soname,$(SHARED) -Wl,--whole-archive $< -Wl,--no-whole-archive -o $@
 
 install: library shared
 	install -d '$(DESTDIR)$(PREFIX)/include' '$(DESTDIR)$(PREFIX)/lib/pkgconfig'

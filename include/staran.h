@@ -220,7 +220,7 @@ uint32_t staran_version(void);
  * and 5). Memory and registers are as the instructions leave them; the first 32 * given bytes of out are the items given, and the
  * bytes past them stay.
  * Refused: steps, taken and given are 0, and memory, registers and out are as they were.
- * Stack: at most 2,560 bytes. */
+ * Stack: at most 1,536 bytes. */
 void staran_run(uint8_t *memory, size_t memory_length, uint8_t *registers, size_t registers_length, const uint8_t *list,
                 size_t list_length, const uint8_t *items, size_t items_length, uint8_t *out, size_t out_length,
                 uint32_t answer[STARAN_RUN_NUMBERS]);
@@ -237,7 +237,7 @@ void staran_run(uint8_t *memory, size_t memory_length, uint8_t *registers, size_
  *
  * Judged: 1, 3, 4, then 5 to 11, then 12, then 13. The place is always 0.
  * Done: steps is 1; taken and given are 0 or 1. Refused: all three are 0, and memory, registers and out are as they were.
- * Stack: at most 2,560 bytes. */
+ * Stack: at most 1,664 bytes. */
 void staran_step(uint8_t *memory, size_t memory_length, staran_registers *registers, const uint8_t *instruction,
                  size_t instruction_length, const uint8_t *items, size_t items_length, uint8_t *out, size_t out_length,
                  uint32_t answer[STARAN_RUN_NUMBERS]);
@@ -253,12 +253,12 @@ void staran_step(uint8_t *memory, size_t memory_length, staran_registers *regist
  *
  * Judged: 10 alone.
  * Done: passed is the item passed. Refused: passed is 32 zeros; it is written on every call.
- * Stack: at most 1,024 bytes. */
+ * Stack: at most 320 bytes. */
 void staran_pass(const uint8_t item[32], uint8_t flip, uint8_t code, uint8_t passed[32], uint32_t answer[STARAN_PASS_NUMBERS]);
 
 /* The same in wired form, through eight levels of switches and a table of signals: the same contract, and always the same answer and
  * item.
- * Stack: at most 3,584 bytes. */
+ * Stack: at most 1,200 bytes. */
 void staran_wired_pass(const uint8_t item[32], uint8_t flip, uint8_t code, uint8_t passed[32],
                        uint32_t answer[STARAN_PASS_NUMBERS]);
 
@@ -301,12 +301,12 @@ void staran_difference_list(uint32_t a, uint32_t b, uint32_t s, uint32_t n, uint
  * To run it, lend staran_run the list with the length answer[1] and the items with the length answer[2]: the list takes the first n
  * items, in their order. Whole items behind those are no fault. The list depends on the field alone and the items on the number and
  * the width alone, so one list serves every number.
- * Stack: at most 256 bytes. */
+ * Stack: at most 192 bytes. */
 void staran_equal_list(uint32_t start, uint32_t n, uint64_t number, uint8_t *list, size_t list_length, uint8_t *items,
                        size_t items_length, uint32_t answer[STARAN_LIST_AND_ITEMS_NUMBERS]);
 
 /* The same for the words whose field is less than the number, both as whole numbers with no sign.
- * Stack: at most 256 bytes. */
+ * Stack: at most 192 bytes. */
 void staran_less_list(uint32_t start, uint32_t n, uint64_t number, uint8_t *list, size_t list_length, uint8_t *items,
                       size_t items_length, uint32_t answer[STARAN_LIST_AND_ITEMS_NUMBERS]);
 
@@ -323,7 +323,7 @@ void staran_less_list(uint32_t start, uint32_t n, uint64_t number, uint8_t *list
  * Done: the first bytes of list are the list, the count is its length, and the bytes past it stay. Refused: the count is 0 and list is
  * as it was.
  * To run it, lend staran_run the list with the length answer[1].
- * Stack: at most 256 bytes. */
+ * Stack: at most 64 bytes. */
 void staran_greatest_list(uint32_t start, uint32_t n, uint8_t *list, size_t list_length, uint32_t answer[STARAN_LIST_NUMBERS]);
 
 /* Reads the blocks of a list or of items.
@@ -338,7 +338,7 @@ void staran_greatest_list(uint32_t start, uint32_t n, uint8_t *list, size_t list
  * way, as a picture, and if the file stands the answer is 26: a picture has two targets, see staran_read_picture.
  * Done: place 0; the first bytes of target are the content, the third number is its size, and the bytes past it stay.
  * Refused: 0 bytes, and target is as it was.
- * Stack: at most 256 bytes. */
+ * Stack: at most 192 bytes. */
 void staran_read_content(size_t kind, const uint8_t *bytes, size_t bytes_length, uint8_t *target, size_t target_length,
                          uint32_t answer[STARAN_DISK_NUMBERS]);
 
@@ -353,7 +353,7 @@ void staran_read_content(size_t kind, const uint8_t *bytes, size_t bytes_length,
  * the length of the blocks).
  * Done: the first bytes of out are the blocks, the third number is their length, and the bytes past them stay.
  * Refused: 0 bytes, and out is as it was.
- * Stack: at most 256 bytes. */
+ * Stack: at most 192 bytes. */
 void staran_write_content(size_t kind, const uint8_t *content, size_t content_length, uint8_t *out, size_t out_length,
                           uint32_t answer[STARAN_DISK_NUMBERS]);
 
@@ -369,7 +369,7 @@ void staran_write_content(size_t kind, const uint8_t *content, size_t content_le
  * Kinds 2 and 3 are judged in the same way, as a list or items, and if the file stands the answer is 26.
  * Done: place 0; memory has the words, scrambled as above, registers has M, X and Y, and the third number is 8,288.
  * Refused: 0 bytes, and memory and registers are as they were.
- * Stack: at most 1,280 bytes. */
+ * Stack: at most 1,024 bytes. */
 void staran_read_picture(size_t kind, const uint8_t *bytes, size_t bytes_length, uint8_t *memory, size_t memory_length,
                          uint8_t *registers, size_t registers_length, uint32_t answer[STARAN_DISK_NUMBERS]);
 
