@@ -25,8 +25,8 @@
  *   program that compiles the crates itself measures anew. memcpy and memset are counted with 64 bytes below their return address
  *   (glibc's use none). On top comes what a signal handler or an interrupt puts on the same stack, and the 128 bytes below the stack
  *   pointer that it must leave alone, the red zone, of which the figures have what is written; and, unless the program is linked with
- *   -static or -Wl,-z,now, what the loader needs to find memcpy when it is first called: thousands of bytes. docs/PERFORMANCE.md has
- *   counts.
+ *   -static or -Wl,-z,now, what the loader needs to find memcpy, or a function of the shared object, when it is first called:
+ *   thousands of bytes. docs/PERFORMANCE.md has counts.
  * - The calling convention is C's own on x86-64 Linux (System V): a compiler that reads this header follows it. From another language,
  *   each parameter below is one of size_t, uint8_t, uint32_t, uint64_t or a pointer, in the order in which it stands, in the registers rdi,
  *   rsi, rdx, rcx, r8 and r9, then on the stack; staran_version gives its number in eax.

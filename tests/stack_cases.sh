@@ -12,7 +12,7 @@ trap 'rm -rf "$room"' EXIT
 # shellcheck source=tests/compiler.sh
 . "$here/tests/compiler.sh"
 frames=$here/tests/count/frames.c
-"$compiler" -std=c11 -Wall -Wextra -Werror -O2 -ffunction-sections -fno-stack-protector -c -o "$room/frames.o" "$frames" || die "they do not compile"
+"$compiler" -std=c11 -Wall -Wextra -Werror -O2 -fPIE -ffunction-sections -fno-stack-protector -fcf-protection=none -U_FORTIFY_SOURCE -c -o "$room/frames.o" "$frames" || die "they do not compile"
 "$compiler" -std=c11 -Wall -Wextra -Werror -O2 -static -o "$room/frames" "$room/frames.o" "$here/tests/count/paint.c" || die "they do not link"
 ${emulator:+"$emulator"} "$room/frames" >"$room/needed" || die "they are not measured"
 "$here/tests/stack-bound" "$room/frames.o" "$frames" repeated=5 >"$room/bounds" 2>"$room/reported"

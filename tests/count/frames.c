@@ -170,7 +170,7 @@ static const struct {
 } cases[] = {
     {"in_frame", in_frame, 0, 8 + 1000, 32},
     {"in_red_zone", in_red_zone, 0, 8 + 32, 32},
-    {"at_index", at_index, 15, 8 + 128, 0}, /* all of the red zone: which of it the index means does not show */
+    {"at_index", at_index, 15, 8 + 128, 32}, /* all of the red zone: which of it the index means does not show */
     {"by_call", by_call, 0, 8 + 100 + 8 + 1000, 64},
     {"by_jump", by_jump, 0, 8 + 1000, 32},
     {"on_a_path", on_a_path, 0, 8 + 100 + 8 + 1000, 64}, /* a path that is not taken here */

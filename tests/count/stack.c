@@ -16,8 +16,8 @@ static uint8_t list[STARAN_GREATEST_LIST_BYTES(WIDEST)], items[STARAN_SEARCH_ITE
 static staran_registers record;
 static uint32_t answer[5];
 
-/* ---- a run and a step: of an instruction that takes and gives, at several lengths; then of every kind with every source, mode, pass and choice, of which the
- * judge takes some and refuses the others */
+/* ---- a run and a step: of an instruction that takes and gives, at several lengths; then of every kind with every source and choice, at the modes and passes
+ * below, of which the judge takes some and refuses the others */
 
 static const struct {
     size_t memory, registers, list, items, out;

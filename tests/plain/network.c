@@ -65,13 +65,13 @@ static void flip_quarters(uint64_t quarters[4], uint8_t flip)
 
 /* 2^e lines as places in a quarter, at most its 64; as quarters, at least one; and the lowest n lines of a quarter. */
 static unsigned places(unsigned e) { return e < 6 ? 1u << e : 64; }
-static unsigned over(unsigned e) { return e < 6 ? 1 : 1u << (e - 6); }
+static unsigned span(unsigned e) { return e < 6 ? 1 : 1u << (e - 6); }
 static uint64_t ones(unsigned n) { return UINT64_MAX >> (64 - n); }
 
 /* Shift by 2^m modulo 2^p: each quarter moves up, and the places that this leaves free are filled from the quarter below, or from the one that wraps round. */
 static void shift(uint64_t quarters[4], unsigned p, unsigned m)
 {
-    unsigned up = places(m), all = places(p), back = over(m), ahead = over(p) - back;
+    unsigned up = places(m), all = places(p), back = span(m), ahead = span(p) - back;
     uint64_t left = UINT64_MAX / ones(all) * ones(up), from[QUARTERS];
     memcpy(from, quarters, sizeof from);
     for (unsigned i = 0; i < QUARTERS; i++) {
@@ -91,6 +91,10 @@ void plain_flip(const uint8_t item[32], uint8_t flip, uint8_t out[32])
 void plain_pass(const uint8_t item[32], uint8_t flip, uint8_t code, uint8_t out[32])
 {
     uint64_t quarters[QUARTERS];
+    if ((flip | code) == 0) {
+        memcpy(out, item, ITEM);
+        return;
+    }
     quarters_of(item, quarters);
     flip_quarters(quarters, flip);
     if (code != 0)

@@ -11,11 +11,11 @@ use lib.Dec.{T, eqb, eqb→eq, ltb}
 use lib.ListN.{length, getD}
 use borrow.Author.Tests.{lt-ltb, le-ltb}
 use Rattle.bits.specs.Bits.{digit, bitOf, item, flipped}
-use Rattle.bits.specs.Quarters.{quarterOf, quarters, lineOf, flippedQuarters, exchanged, Flips}
+use Rattle.bits.specs.Quarters.{quarterOf, quarters, lineAt, flippedQuarters, exchanged, Flips}
 use Rattle.bits.proofs.Binary.{Bit, off, on, digit-bit}
 use Rattle.bits.proofs.Digits.{digit-mod, digit-down, digit-up, digit-below}
 use Rattle.bits.proofs.Items.{bitOf-bit, pack-ext}
-use Rattle.bits.proofs.QuarterLaws.{lineOf-bit, lineOf-at, quarterOf-is, lineOf-quarters, quarters-ext, quarters-lineOf}
+use Rattle.bits.proofs.QuarterLaws.{lineAt-bit, lineAt-digit, quarterOf-is, lineAt-quarters, quarters-ext, quarters-lineAt}
 use Rattle.bits.proofs.Tests.{all, all-at}
 use Rattle.bits.proofs.Xor.{digit-and, digit-or, xor-assoc, xor-split}
 
@@ -82,6 +82,7 @@ exchange-flips m k once paired x j h =
         by (digit (bitAnd x m * 2 ^ k) j) (digit m (j - k)) (digit m j) (digit-up (bitAnd x m) k j l ∙ digit-and x m (j - k)) (digit-bit m j) refl
         (sym (ap (λ (b : Bool). cond b 0 (digit m (j - k)) + digit m j) (le-ltb j k l)) ∙ sum)
 
+-- the six masks of a flip: every second group of k places, from the lowest on
 pub flips-1 : Flips 6148914691236517205 1
 flips-1 = exchange-flips 6148914691236517205 1 tt tt
 
@@ -102,16 +103,16 @@ flips-32 = exchange-flips 4294967295 32 tt tt
 
 -- ---- quarter i of the flipped quarters
 
-flipped-line : (q : List ℕ) (f i j : ℕ) → j < 64 → digit (getD q (bitXor (f / 64) i) 0) (bitXor (f % 64) j) ≡ lineOf q (bitXor (64 * i + j) f)
+flipped-line : (q : List ℕ) (f i j : ℕ) → j < 64 → digit (getD q (bitXor (f / 64) i) 0) (bitXor (f % 64) j) ≡ lineAt q (bitXor (64 * i + j) f)
 flipped-line q f i j h =
     let s : 64 * i + j ≡ i * 2 ^ 6 + j = omega arith in
-    sym (ap (lineOf q) (xor-comm (64 * i + j) f ∙ ap (bitXor f) s ∙ xor-split 6 f i j h ∙ ap (λ (x : ℕ). x + bitXor (f % 64) j) (mul-comm (bitXor (f / 64) i) 64))
-    ∙ lineOf-at q (bitXor (f / 64) i) (bitXor (f % 64) j) (xor-lt 6 (f % 64) j (omega arith) h))
+    sym (ap (lineAt q) (xor-comm (64 * i + j) f ∙ ap (bitXor f) s ∙ xor-split 6 f i j h ∙ ap (λ (x : ℕ). x + bitXor (f % 64) j) (mul-comm (bitXor (f / 64) i) 64))
+    ∙ lineAt-digit q (bitXor (f / 64) i) (bitXor (f % 64) j) (xor-lt 6 (f % 64) j (omega arith) h))
 
 -- exchanged within
-pub exchanged-is : (q : List ℕ) (m k i r : ℕ) → k < 64 → Flips m k → r < 2 ^ 64 → r ≡ exchanged m k (getD q i 0) → r ≡ quarterOf (λ l. lineOf q (bitXor l k)) i
+pub exchanged-is : (q : List ℕ) (m k i r : ℕ) → k < 64 → Flips m k → r < 2 ^ 64 → r ≡ exchanged m k (getD q i 0) → r ≡ quarterOf (λ l. lineAt q (bitXor l k)) i
 exchanged-is q m k i r h flips b e =
-    quarterOf-is (λ l. lineOf q (bitXor l k)) i r b
+    quarterOf-is (λ l. lineAt q (bitXor l k)) i r b
     (λ j l.
     let hi : 0 ≡ k / 64 = omega arith in
     let lo : k ≡ k % 64 = omega arith in
@@ -122,9 +123,9 @@ exchanged-is q m k i r h flips b e =
     ∙ flipped-line q k i j l)
 
 -- taken from another place
-pub ordered-is : (q : List ℕ) (g i r : ℕ) → r < 2 ^ 64 → r ≡ getD q (bitXor g i) 0 → r ≡ quarterOf (λ l. lineOf q (bitXor l (64 * g))) i
+pub ordered-is : (q : List ℕ) (g i r : ℕ) → r < 2 ^ 64 → r ≡ getD q (bitXor g i) 0 → r ≡ quarterOf (λ l. lineAt q (bitXor l (64 * g))) i
 ordered-is q g i r b e =
-    quarterOf-is (λ l. lineOf q (bitXor l (64 * g))) i r b
+    quarterOf-is (λ l. lineAt q (bitXor l (64 * g))) i r b
     (λ j l.
     let hi : g ≡ 64 * g / 64 = omega arith in
     let lo : 0 ≡ 64 * g % 64 = omega arith in
@@ -137,15 +138,15 @@ ordered-is q g i r b e =
 pub flipped-none : (q : List ℕ) (n k : ℕ) → n ≡ 0 → length q ≡ 4 → ((i : ℕ) → getD q i 0 < 2 ^ 64) → q ≡ flippedQuarters q (n * k)
 flipped-none q n k e l b =
     let none : 0 ≡ n * k = sym (zero-mul k) ∙ ap (λ (x : ℕ). x * k) (sym e) in
-    quarters-lineOf q l b
-    ∙ quarters-ext (lineOf q) (λ i. lineOf q (bitXor i 0)) (λ i h. ap (lineOf q) (sym (xor-zero-r i)))
+    quarters-lineAt q l b
+    ∙ quarters-ext (lineAt q) (λ i. lineAt q (bitXor i 0)) (λ i h. ap (lineAt q) (sym (xor-zero-r i)))
     ∙ ap (flippedQuarters q) none
 
 pub flipped-more : (q r : List ℕ) (f g : ℕ) → g < 256 → r ≡ flippedQuarters q f → flippedQuarters r g ≡ flippedQuarters q (bitXor g f)
 flipped-more q r f g b e =
     ap (λ (x : List ℕ). flippedQuarters x g) e
-    ∙ quarters-ext (λ k. lineOf (flippedQuarters q f) (bitXor k g)) (λ k. lineOf q (bitXor k (bitXor g f)))
-    (λ k h. lineOf-quarters (λ i. lineOf q (bitXor i f)) (λ i. lineOf-bit q (bitXor i f)) (bitXor k g) (xor-lt 8 k g h b) ∙ ap (lineOf q) (xor-assoc k g f))
+    ∙ quarters-ext (λ k. lineAt (flippedQuarters q f) (bitXor k g)) (λ k. lineAt q (bitXor k (bitXor g f)))
+    (λ k h. lineAt-quarters (λ i. lineAt q (bitXor i f)) (λ i. lineAt-bit q (bitXor i f)) (bitXor k g) (xor-lt 8 k g h b) ∙ ap (lineAt q) (xor-assoc k g f))
 
 -- the flips by a number's digits, the lowest first
 byDigits : ℕ → ℕ
@@ -167,11 +168,11 @@ by-digits f h = eqb→eq (byDigits f) f (all-at 256 (λ f. eqb (byDigits f) f) d
 -- ---- an item by its quarters
 
 -- line k of the flipped quarters of an item
-pub line-flipped : (l q r : List ℕ) (f : ℕ) → f < 256 → q ≡ quarters (bitOf l) → r ≡ flippedQuarters q f → (k : ℕ) → k < 256 → lineOf r k ≡ flipped l f k
+pub line-flipped : (l q r : List ℕ) (f : ℕ) → f < 256 → q ≡ quarters (bitOf l) → r ≡ flippedQuarters q f → (k : ℕ) → k < 256 → lineAt r k ≡ flipped l f k
 line-flipped l q r f b eq er k h =
-    ap (λ (x : List ℕ). lineOf x k) (er ∙ ap (λ (x : List ℕ). flippedQuarters x f) eq)
-    ∙ lineOf-quarters (λ i. lineOf (quarters (bitOf l)) (bitXor i f)) (λ i. lineOf-bit (quarters (bitOf l)) (bitXor i f)) k h
-    ∙ lineOf-quarters (bitOf l) (bitOf-bit l) (bitXor k f) (xor-lt 8 k f h b)
+    ap (λ (x : List ℕ). lineAt x k) (er ∙ ap (λ (x : List ℕ). flippedQuarters x f) eq)
+    ∙ lineAt-quarters (λ i. lineAt (quarters (bitOf l)) (bitXor i f)) (λ i. lineAt-bit (quarters (bitOf l)) (bitXor i f)) k h
+    ∙ lineAt-quarters (bitOf l) (bitOf-bit l) (bitXor k f) (xor-lt 8 k f h b)
 
-pub item-flipped : (l q r : List ℕ) (f : ℕ) → f < 256 → q ≡ quarters (bitOf l) → r ≡ flippedQuarters q f → item (lineOf r) ≡ item (flipped l f)
-item-flipped l q r f b eq er = pack-ext (lineOf r) (flipped l f) 32 (line-flipped l q r f b eq er)
+pub item-flipped : (l q r : List ℕ) (f : ℕ) → f < 256 → q ≡ quarters (bitOf l) → r ≡ flippedQuarters q f → item (lineAt r) ≡ item (flipped l f)
+item-flipped l q r f b eq er = pack-ext (lineAt r) (flipped l f) 32 (line-flipped l q r f b eq er)

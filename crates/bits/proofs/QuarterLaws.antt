@@ -8,21 +8,21 @@ use lib.Bits.{bitOr, or-shifted-r}
 use lib.ListN.{length, getD}
 use lib.Pow.{pow-add, shl-exact}
 use Rattle.bits.specs.Bits.{digit, bitOf, listed, digitsOf, byteOf}
-use Rattle.bits.specs.Quarters.{quarterOf, quarters, lineOf}
+use Rattle.bits.specs.Quarters.{quarterOf, quarters, lineAt}
 use Rattle.bits.proofs.Binary.{Bit, digit-bit}
 use Rattle.bits.proofs.Digits.{digit-mod, digit-down, digitsOf-lt, digitsOf-at, digitsOf-ext, digits-are}
 use Rattle.bits.proofs.Items.{getD-listed, listed-ext, listed-is, bitOf-bit, byteOf-is, bitOf-at}
 
 -- ---- numbers of an item by its quarters
 
-pub lineOf-bit : (q : List ℕ) (k : ℕ) → Bit (lineOf q k)
-unfolding lineOf
-lineOf-bit q k = digit-bit (getD q (k / 64) 0) (k % 64)
+pub lineAt-bit : (q : List ℕ) (k : ℕ) → Bit (lineAt q k)
+unfolding lineAt
+lineAt-bit q k = digit-bit (getD q (k / 64) 0) (k % 64)
 
 -- number 64 i + j is digit j of quarter i
-pub lineOf-at : (q : List ℕ) (i j : ℕ) → j < 64 → lineOf q (64 * i + j) ≡ digit (getD q i 0) j
-unfolding lineOf
-lineOf-at q i j h =
+pub lineAt-digit : (q : List ℕ) (i j : ℕ) → j < 64 → lineAt q (64 * i + j) ≡ digit (getD q i 0) j
+unfolding lineAt
+lineAt-digit q i j h =
     let hi : (64 * i + j) / 64 ≡ i = omega arith in
     let lo : (64 * i + j) % 64 ≡ j = omega arith in
     ap₂ (λ (x y : ℕ). digit (getD q x 0) y) hi lo
@@ -33,9 +33,9 @@ unfolding quarterOf
 quarterOf-is f i x b h = digits-are (λ j. f (64 * i + j)) 64 x b h
 
 -- number k of the quarters of f is f k
-pub lineOf-quarters : (f : ℕ → ℕ) → ((k : ℕ) → Bit (f k)) → (k : ℕ) → k < 256 → lineOf (quarters f) k ≡ f k
-unfolding lineOf quarterOf
-lineOf-quarters f bits k h =
+pub lineAt-quarters : (f : ℕ → ℕ) → ((k : ℕ) → Bit (f k)) → (k : ℕ) → k < 256 → lineAt (quarters f) k ≡ f k
+unfolding lineAt quarterOf
+lineAt-quarters f bits k h =
     let e : 64 * (k / 64) + k % 64 ≡ k = omega arith in
     ap (λ (x : ℕ). digit x (k % 64)) (getD-listed (quarterOf f) 4 (k / 64) (omega arith))
     ∙ digitsOf-at (λ j. f (64 * (k / 64) + j)) (λ j. bits (64 * (k / 64) + j)) 64 (k % 64) (omega arith)
@@ -48,9 +48,9 @@ quarters-ext f g h =
     (λ i l. digitsOf-ext (λ j. f (64 * i + j)) (λ j. g (64 * i + j)) 64 (λ j m. h (64 * i + j) (omega arith)))
 
 -- four numbers of 64 digits are the quarters of their own lines
-pub quarters-lineOf : (q : List ℕ) → length q ≡ 4 → ((i : ℕ) → getD q i 0 < 2 ^ 64) → q ≡ quarters (lineOf q)
-quarters-lineOf q e b =
-    listed-is (quarterOf (lineOf q)) 4 q e (λ i h. quarterOf-is (lineOf q) i (getD q i 0) (b i) (λ j l. sym (lineOf-at q i j l)))
+pub quarters-lineAt : (q : List ℕ) → length q ≡ 4 → ((i : ℕ) → getD q i 0 < 2 ^ 64) → q ≡ quarters (lineAt q)
+quarters-lineAt q e b =
+    listed-is (quarterOf (lineAt q)) 4 q e (λ i h. quarterOf-is (lineAt q) i (getD q i 0) (b i) (λ j l. sym (lineAt-digit q i j l)))
 
 -- four elements, one by one
 pub four : (φ : ℕ → ℕ) (a b c d : ℕ) → a ≡ φ 0 → b ≡ φ 1 → c ≡ φ 2 → d ≡ φ 3 → a ∷ b ∷ c ∷ d ∷ [] ≡ listed φ 4
@@ -92,13 +92,13 @@ or-byte l i n x q h b ex eq =
 
 -- ---- and its bytes from a quarter
 
-pub byte-of : (q : List ℕ) (i r : ℕ) → r < 256 → r ≡ getD q (i / 8) 0 / 2 ^ (8 * (i % 8)) % 256 → r ≡ byteOf (lineOf q) i
-byte-of q i r b e =
-    byteOf-is (lineOf q) i r b
+pub byte-is : (q : List ℕ) (i r : ℕ) → r < 256 → r ≡ getD q (i / 8) 0 / 2 ^ (8 * (i % 8)) % 256 → r ≡ byteOf (lineAt q) i
+byte-is q i r b e =
+    byteOf-is (lineAt q) i r b
     (λ j h.
     let p : 64 * (i / 8) + (j + 8 * (i % 8)) ≡ 8 * i + j = omega arith in
     ap (λ (y : ℕ). digit y j) e
     ∙ digit-mod (getD q (i / 8) 0 / 2 ^ (8 * (i % 8))) 8 j h
     ∙ digit-down (getD q (i / 8) 0) (8 * (i % 8)) j
-    ∙ sym (lineOf-at q (i / 8) (j + 8 * (i % 8)) (omega arith))
-    ∙ ap (lineOf q) p)
+    ∙ sym (lineAt-digit q (i / 8) (j + 8 * (i % 8)) (omega arith))
+    ∙ ap (lineAt q) p)

@@ -15,12 +15,12 @@ abbrev pub quarters : (ℕ → ℕ) → List ℕ
 quarters f = listed (quarterOf f) 4
 
 -- Number k of the item that the quarters q are of.
-unfoldable pub lineOf : List ℕ → ℕ → ℕ
-lineOf q k = digit (getD q (k / 64) 0) (k % 64)
+unfoldable pub lineAt : List ℕ → ℕ → ℕ
+lineAt q k = digit (getD q (k / 64) 0) (k % 64)
 
 -- The quarters q flipped by f.
 abbrev pub flippedQuarters : List ℕ → ℕ → List ℕ
-flippedQuarters q f = quarters (λ k. lineOf q (bitXor k f))
+flippedQuarters q f = quarters (λ k. lineAt q (bitXor k f))
 
 -- The quarter x with its digits at the places of m and those k above them exchanged.
 abbrev pub exchanged : ℕ → ℕ → ℕ → ℕ

@@ -3,9 +3,9 @@ ghost use mathlib.Core.Path.{_≡_};
 ghost use Prim.Native.Nat.{_*_, _/_, _%_, _^_, _<_};
 ghost use Rattle.bits.specs.Bits.{bitOf, item};
 ghost use Rattle.bits.specs.Steps.{mixed};
-ghost use Rattle.bits.specs.Quarters.{quarterOf, quarters, lineOf};
+ghost use Rattle.bits.specs.Quarters.{quarterOf, quarters, lineAt};
 
-// (A byte is below 256, which whoever reads one behind a reference learns here.)
+// A byte as a wider number, with its bound, which reading it behind a reference does not bring.
 fn wide(x: u8) -> u64
     ensures { λ r. ⌜ (r ≡ x) × (r < 256) ⌝ }
 {
@@ -39,7 +39,7 @@ pub fn quarters_of(lines: &[u8; 32]) -> [u64; 4]
 }
 
 // Byte `n` of a quarter.
-fn byte_at(q: u64, n: usize) -> u8
+fn byte_of(q: u64, n: usize) -> u8
     requires { ⌜ n < 8 ⌝ }
     ensures { λ r. ⌜ r ≡ q / 2 ^ (8 * n) % 256 ⌝ }
 {
@@ -48,12 +48,12 @@ fn byte_at(q: u64, n: usize) -> u8
 
 // The item that four quarters are of.
 pub fn lines_of(q: [u64; 4]) -> [u8; 32]
-    ensures { λ r. ⌜ r ≡ item (lineOf q) ⌝ }
+    ensures { λ r. ⌜ r ≡ item (lineAt q) ⌝ }
 {
     let mut out = [0u8; 32];
     let mut i: usize = 0;
     while i < 32 {
-        out[i] = byte_at(q[i / 8], i % 8);
+        out[i] = byte_of(q[i / 8], i % 8);
         i += 1;
     }
     out

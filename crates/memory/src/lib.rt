@@ -33,7 +33,8 @@ pub fn store_masked<'a>(mem: &mut [u8], mode: u8, addr: u8, item: &'a [u8; 32], 
     put_masked(mem, mode, addr, item, mask, &keep);
 }
 
-// The same where what the chips keep is made already. A function of its own: results of one type that one function calls for take their turns in one place of the stack, so with both here each would be copied out of it, 256 bytes more.
+// The same where what the chips keep is made already. Apart, because the compiler gives all results of one type within a function one place on the stack
+// and copies each out of it: together they would need 256 bytes more.
 fn put_masked<'a>(
     mem: &mut [u8],
     mode: u8,
@@ -42,7 +43,8 @@ fn put_masked<'a>(
     mask: &'a [u8; 32],
     keep: &'a [u8],
 )
-    requires { ⌜ (length (now mem) ≡ 8192) × (now keep ≡ listed (λ n. keepByte (bitOf (now mask)) mode addr (n % 32) (n / 32)) 256) ⌝ }
+    requires { ⌜ (length (now mem) ≡ 8192)
+        × (now keep ≡ listed (λ n. keepByte (bitOf (now mask)) mode addr (n % 32) (n / 32)) 256) ⌝ }
     ensures { λ r. ⌜ now (mem .exit) ≡ stored (now (mem .entry)) mode addr (bitOf (now (mask .entry))) (bitOf (now (item .entry))) ⌝ }
 {
     let put = spreading::spread(&spreading::masked(item, mask), mode, addr);

@@ -59,7 +59,7 @@ fn held_item(mem: &[u8], r: Registers, i: Instruction) -> [u8; 32]
     y
 }
 
-// The source item, passed. An outside item is handed to the pass as the part of the lent items that it is; a resolve reads no source. Most instructions move no line: a call of the pass would cost them more than the copy.
+// The source item, passed. An outside item is handed to the pass as the part of the lent items that it is; a resolve reads no source. Most instructions move no line: a call of the pass, which has the same test for its other callers, would cost them more than the copy.
 fn passed_item(mem: &[u8], r: Registers, i: Instruction, items: &[u8], taken: usize) -> [u8; 32]
     requires { ⌜ (length (now mem) ≡ memoryBytes) × (i .source ≤ 4) × (permitted (i .code) ≡ true) × (takes i ≡ true → 32 * taken + 32 ≤ length (now items)) ⌝ }
     ensures { λ f. ⌜ ((i .kind ≡ 5 → ⊥) → f ≡ passedBy i (now (mem .entry)) (now (items .entry)) r taken) ⌝ }

@@ -9,10 +9,10 @@ use lib.Bits.{bitOr, bitXor, xor-zero-r, xor-lt, or-add-and, and-le-l, and-le-r}
 use lib.ListN.{length, getD, replicate}
 use borrow.Author.Tests.{lt-ltb, le-ltb}
 use Rattle.bits.specs.Bits.{bitOf, byteOf, item, flipped}
-use Rattle.bits.specs.Quarters.{quarters, lineOf, flippedQuarters}
+use Rattle.bits.specs.Quarters.{quarters, lineAt, flippedQuarters}
 use Rattle.bits.proofs.Xor.{xor-cancel}
 use Rattle.bits.proofs.Items.{length-listed, bitOf-bit, bitOf-pack, pack-ext, pack-bitOf}
-use Rattle.bits.proofs.QuarterLaws.{lineOf-bit, lineOf-quarters}
+use Rattle.bits.proofs.QuarterLaws.{lineAt-bit, lineAt-quarters}
 use Rattle.bits.proofs.FlipLaws.{line-flipped}
 use Rattle.network.specs.Shifts.{codes, shiftOf, permitted, pOf, mOf}
 use Rattle.network.specs.Pass.{moved, unshifted, source, passed}
@@ -69,13 +69,13 @@ passedItem-is l f c t = ap (λ (k : ℕ). item (passed l f (k / 16) (k % 16))) (
 
 -- a flip and then a shift, of its quarters
 pub flip-shift : (l q r t : List ℕ) (f c : ℕ) → c < 256 → f < 256 → permitted c ≡ true → q ≡ quarters (bitOf l) → r ≡ flippedQuarters q f
-    → t ≡ quarters (λ k. lineOf r (unshifted (c / 16) (c % 16) k)) → item (lineOf t) ≡ passedItem l f c
+    → t ≡ quarters (λ k. lineAt r (unshifted (c / 16) (c % 16) k)) → item (lineAt t) ≡ passedItem l f c
 unfolding passed source
 flip-shift l q r t f c b d y eq er et =
     let from : ℕ → ℕ = unshifted (c / 16) (c % 16) in
-    ap (λ (x : List ℕ). item (lineOf x)) et
-    ∙ pack-ext (lineOf (quarters (λ k. lineOf r (from k)))) (λ k. flipped l f (from k)) 32
-    (λ k h. lineOf-quarters (λ i. lineOf r (from i)) (λ i. lineOf-bit r (from i)) k h
+    ap (λ (x : List ℕ). item (lineAt x)) et
+    ∙ pack-ext (lineAt (quarters (λ k. lineAt r (from k)))) (λ k. flipped l f (from k)) 32
+    (λ k h. lineAt-quarters (λ i. lineAt r (from i)) (λ i. lineAt-bit r (from i)) k h
     ∙ line-flipped l q r f d eq er (from k) (unshifted-lt 8 (c / 16) (c % 16) k (shift c b y .within) h))
     ∙ sym (passedItem-is l f c y)
 

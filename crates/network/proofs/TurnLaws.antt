@@ -13,10 +13,10 @@ use lib.Pow.{pow-pos, pow-mono, pow-add, split, mod-pow-add, shr-shr}
 use borrow.Author.Tests.{lt-ltb, le-ltb, ne-eqb}
 use Rattle.bits.specs.Bits.{digit, digitsOf}
 use Rattle.bits.specs.Steps.{mixed}
-use Rattle.bits.specs.Quarters.{quarterOf, lineOf}
+use Rattle.bits.specs.Quarters.{quarterOf, lineAt}
 use Rattle.bits.proofs.Binary.{Bit, off, on}
 use Rattle.bits.proofs.Digits.{digit-mod, digit-down, digit-up, digitsOf-at, digit-mixed}
-use Rattle.bits.proofs.QuarterLaws.{lineOf-at, quarterOf-is}
+use Rattle.bits.proofs.QuarterLaws.{lineAt-digit, quarterOf-is}
 use Rattle.bits.proofs.Tests.{and-left, and-right, all, all-at}
 use Rattle.network.specs.Pass.{unshifted}
 use Rattle.network.specs.Turn.{reach, mask}
@@ -46,17 +46,17 @@ pub reach-le : (p m : ℕ) → m ≤ p → p ≤ 8 → reach m ≤ reach p
 unfolding reach
 reach-le p m h k = leb→le (reach m) (reach p) (at-pair (λ p m. leb (reach m) (reach p)) tt p m h k)
 
-pub reach-pos : (p m : ℕ) → m ≤ p → p ≤ 8 → 0 < reach m
+pub reach-pos : (e : ℕ) → e ≤ 8 → 0 < reach e
 unfolding reach
-reach-pos p m h k = ltb→lt 0 (reach m) (at-pair (λ p m. ltb 0 (reach m)) tt p m h k)
+reach-pos e h = ltb→lt 0 (reach e) (all-at 9 (λ e. ltb 0 (reach e)) tt e (omega arith))
 
-pub reach-lt : (p m : ℕ) → m ≤ p → p ≤ 8 → reach p ≤ 64
+pub reach-most : (e : ℕ) → e ≤ 8 → reach e ≤ 64
 unfolding reach
-reach-lt p m h k = leb→le (reach p) 64 (at-pair (λ p m. leb (reach p) 64) tt p m h k)
+reach-most e h = leb→le (reach e) 64 (all-at 9 (λ e. leb (reach e) 64) tt e (omega arith))
 
-pub ones-pos : (p m : ℕ) → m ≤ p → p ≤ 8 → 0 < 2 ^ reach p - 1
+pub ones-pos : (e : ℕ) → e ≤ 8 → 0 < 2 ^ reach e - 1
 unfolding reach
-ones-pos p m h k = ltb→lt 0 (2 ^ reach p - 1) (at-pair (λ p m. ltb 0 (2 ^ reach p - 1)) tt p m h k)
+ones-pos e h = ltb→lt 0 (2 ^ reach e - 1) (all-at 9 (λ e. ltb 0 (2 ^ reach e - 1)) tt e (omega arith))
 
 pub ones-shr : (n : ℕ) → n ≤ 64 → 18446744073709551615 / 2 ^ (64 - n) ≡ 2 ^ n - 1
 ones-shr n h = eqb→eq _ _ (all-at 65 (λ n. eqb (18446744073709551615 / 2 ^ (64 - n)) (2 ^ n - 1)) tt n (omega arith))
@@ -183,7 +183,7 @@ digit-mask p m j h = digitsOf-at (λ j. cond (ltb (j % reach p) (reach m)) 1 0) 
 
 -- quarter i, joined from itself and from quarter w, which wraps round to its place
 joined-at : (q : List ℕ) (p m i w j : ℕ) → m ≤ p → w ≡ unshifted (p - 6) (m - 6) i → j < 64
-    → digit (mixed (getD q i 0 * 2 ^ (reach m % 64) % 2 ^ 64) (getD q w 0 / 2 ^ (reach p - reach m)) (mask p m)) j ≡ lineOf q (unshifted p m (64 * i + j))
+    → digit (mixed (getD q i 0 * 2 ^ (reach m % 64) % 2 ^ 64) (getD q w 0 / 2 ^ (reach p - reach m)) (mask p m)) j ≡ lineAt q (unshifted p m (64 * i + j))
 joined-at q p m i w j h e k =
     digit-mixed (getD q i 0 * 2 ^ (reach m % 64) % 2 ^ 64) (getD q w 0 / 2 ^ (reach p - reach m)) (mask p m) j
     ∙ ap (λ (d : ℕ). cond (eqb d 1) (digit (getD q w 0 / 2 ^ (reach p - reach m)) j) (digit (getD q i 0 * 2 ^ (reach m % 64) % 2 ^ 64) j)) (digit-mask p m j k)
@@ -191,23 +191,23 @@ joined-at q p m i w j h e k =
   where
     go : (t : Bool) → From p m (reach p) (reach m) i j t
         → cond (eqb (cond t 1 0) 1) (digit (getD q w 0 / 2 ^ (reach p - reach m)) j) (digit (getD q i 0 * 2 ^ (reach m % 64) % 2 ^ 64) j)
-        ≡ lineOf q (unshifted p m (64 * i + j))
+        ≡ lineAt q (unshifted p m (64 * i + j))
     go true f =
         digit-down (getD q w 0) (reach p - reach m) j
         ∙ ap (λ (x : ℕ). digit (getD q x 0) (j + (reach p - reach m))) e
-        ∙ sym (ap (lineOf q) (f .0) ∙ lineOf-at q (unshifted (p - 6) (m - 6) i) (j + (reach p - reach m)) (f .1))
+        ∙ sym (ap (lineAt q) (f .0) ∙ lineAt-digit q (unshifted (p - 6) (m - 6) i) (j + (reach p - reach m)) (f .1))
     go false f =
         let s : reach m % 64 ≡ reach m = omega (arith, f .1) in
         ap (λ (x : ℕ). digit (getD q i 0 * 2 ^ x % 2 ^ 64) j) s
         ∙ digit-mod (getD q i 0 * 2 ^ reach m) 64 j k
         ∙ digit-up (getD q i 0) (reach m) j (f .1)
-        ∙ sym (ap (lineOf q) (f .0) ∙ lineOf-at q i (j - reach m) (omega (arith, f .1)))
+        ∙ sym (ap (lineAt q) (f .0) ∙ lineAt-digit q i (j - reach m) (omega (arith, f .1)))
 
 -- as the code joins it, of what it has computed
 pub joined-is : (q : List ℕ) (p m i w u s which r : ℕ) → m ≤ p → r < 2 ^ 64 → w ≡ unshifted (p - 6) (m - 6) i → u ≡ reach p → s ≡ reach m → which ≡ mask p m
-    → r ≡ mixed (getD q i 0 * 2 ^ (s % 64) % 2 ^ 64) (getD q w 0 / 2 ^ (u - s)) which → r ≡ quarterOf (λ k. lineOf q (unshifted p m k)) i
+    → r ≡ mixed (getD q i 0 * 2 ^ (s % 64) % 2 ^ 64) (getD q w 0 / 2 ^ (u - s)) which → r ≡ quarterOf (λ k. lineAt q (unshifted p m k)) i
 joined-is q p m i w u s which r h b ew eu es em e =
-    quarterOf-is (λ k. lineOf q (unshifted p m k)) i r b
+    quarterOf-is (λ k. lineAt q (unshifted p m k)) i r b
     (λ j k. ap (λ (x : ℕ). digit x j)
     (e
     ∙ ap₂ (λ (x y : ℕ). mixed (getD q i 0 * 2 ^ (y % 64) % 2 ^ 64) (getD q w 0 / 2 ^ (x - y)) which) eu es
@@ -245,7 +245,7 @@ back-le p m n b i h k l en eb u =
     leb→le b i (subst T (ap₂ (λ (x y : ℕ). backward x y i) (sym en) (sym eb) ∙ ap (λ (t : Bool). cond t true (leb b i)) (ne-eqb (bitAnd i n) 0 u))
     (and-left (backward (2 ^ (p - 6) - 2 ^ (m - 6)) (2 ^ (m - 6)) i) (eqb (aside (2 ^ (p - 6) - 2 ^ (m - 6)) (2 ^ (m - 6)) i) (unshifted (p - 6) (m - 6) i)) (tested-at p m i h k l)))
 
-pub aside-is : (p m n b i : ℕ) → m ≤ p → p ≤ 8 → i < 4 → n ≡ 2 ^ (p - 6) - 2 ^ (m - 6) → b ≡ 2 ^ (m - 6) → aside n b i ≡ unshifted (p - 6) (m - 6) i
+aside-is : (p m n b i : ℕ) → m ≤ p → p ≤ 8 → i < 4 → n ≡ 2 ^ (p - 6) - 2 ^ (m - 6) → b ≡ 2 ^ (m - 6) → aside n b i ≡ unshifted (p - 6) (m - 6) i
 unfolding aside-right
 aside-is p m n b i h k l en eb = ap₂ (λ (x y : ℕ). aside x y i) en eb ∙ eqb→eq _ _ (and-right (backward (2 ^ (p - 6) - 2 ^ (m - 6)) (2 ^ (m - 6)) i) (eqb (aside (2 ^ (p - 6) - 2 ^ (m - 6)) (2 ^ (m - 6)) i) (unshifted (p - 6) (m - 6) i)) (tested-at p m i h k l))
 

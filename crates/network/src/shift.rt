@@ -3,7 +3,7 @@
 use bits::quarters::mix;
 ghost use mathlib.Core.Path.{_≡_};
 ghost use Prim.Native.Nat.{_-_, _^_, _<_, _≤_};
-ghost use Rattle.bits.specs.Quarters.{quarters, lineOf};
+ghost use Rattle.bits.specs.Quarters.{quarters, lineAt};
 ghost use Rattle.network.specs.Pass.{unshifted};
 ghost use Rattle.network.specs.Turn.{reach, mask};
 
@@ -51,7 +51,7 @@ fn wrapped(p: u8, m: u8, i: usize) -> usize
 // The quarters `q` shifted by 2^`m` modulo 2^`p`.
 pub fn shift(q: [u64; 4], p: u8, m: u8) -> [u64; 4]
     requires { ⌜ (m ≤ p) × (p ≤ 8) ⌝ }
-    ensures { λ r. ⌜ r ≡ quarters (λ k. lineOf q (unshifted p m k)) ⌝ }
+    ensures { λ r. ⌜ r ≡ quarters (λ k. lineAt q (unshifted p m k)) ⌝ }
 {
     let up = places(m);
     let down = places(p) - up;

@@ -1499,7 +1499,7 @@ pub fn code_table() -> [u8; 37]
     CODES
 }
 
-// The whole table, apart from `signals_of`: that it is what the definition computes is one conversion.
+// A function of its own: that the table is what the definition computes is one conversion, which `signals_of` cites.
 fn signal_table() -> [[u8; 36]; 37]
     ensures { λ r. ⌜ r ≡ signals ⌝ }
 {

@@ -8,7 +8,7 @@ use mir.Val.{Fits}
 use lib.ListN.{getD}
 use lib.Bits.{bitXor}
 use borrow.Author.Needs.{needs}
-use Rattle.bits.specs.Quarters.{quarterOf, lineOf, flippedQuarters}
+use Rattle.bits.specs.Quarters.{quarterOf, lineAt, flippedQuarters}
 use Rattle.bits.proofs.QuarterLaws.{four}
 use Rattle.bits.proofs.FlipLaws.{exchanged-is, flipped-none}
 use Rattle.bits.proofs.flips.exchange_if.Statement.{statement}
@@ -26,7 +26,7 @@ returns-2 c =
     let a = s .args in
     let once : a .on ≡ 1 = omega arith in
     let is = exchanged-is (a .t2) (a .m) (a .k) in
-    four (quarterOf (λ l. lineOf (a .t2) (bitXor l (a .k)))) _ _ _ _
+    four (quarterOf (λ l. lineAt (a .t2) (bitXor l (a .k)))) _ _ _ _
     (is 0 _ (s .pre .1) (s .pre .2) (omega arith) (c .before .before .before .exchange .ensures))
     (is 1 _ (s .pre .1) (s .pre .2) (omega arith) (c .before .before .exchange2 .ensures))
     (is 2 _ (s .pre .1) (s .pre .2) (omega arith) (c .before .exchange3 .ensures))

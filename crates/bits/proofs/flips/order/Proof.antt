@@ -8,14 +8,14 @@ use mir.Syntax.{w64}
 use mir.Val.{Fits}
 use borrow.Author.Needs.{needs}
 use Rattle.bits.specs.Bits.{listed}
-use Rattle.bits.specs.Quarters.{quarterOf, lineOf}
+use Rattle.bits.specs.Quarters.{quarterOf, lineAt}
 use Rattle.bits.proofs.Items.{fill-more, fill-done}
 use Rattle.bits.proofs.FlipLaws.{ordered-is}
 use Rattle.bits.proofs.flips.order.Statement.{statement}
 use Rattle.bits.proofs.flips.order.Tie as tie
 
 abbrev Inv-loop : tie.InvT-loop
-Inv-loop g q out₀ i₀ out i = (i ≤ 4) × (length out ≡ 4) × (take i out ≡ listed (quarterOf (λ l. lineOf q (bitXor l (64 * g)))) i)
+Inv-loop g q out₀ i₀ out i = (i ≤ 4) × (length out ≡ 4) × (take i out ≡ listed (quarterOf (λ l. lineAt q (bitXor l (64 * g)))) i)
 
 abbrev μ-loop : tie.MeasureT-loop
 μ-loop g q out₀ i₀ out i = 4 - i
@@ -41,7 +41,7 @@ loop-again c =
     let fits : (i : ℕ) → Fits w64 (getD (a .t1) i 0) = λ i. search needs in (
       omega arith,
       simp length-set (l .inv .1),
-      fill-more (quarterOf (λ l. lineOf (a .t1) (bitXor l (64 * a .g)))) (l .out) (l .i) _ (omega arith) (l .inv .2)
+      fill-more (quarterOf (λ l. lineAt (a .t1) (bitXor l (64 * a .g)))) (l .out) (l .i) _ (omega arith) (l .inv .2)
           (ordered-is (a .t1) (a .g) (l .i) _ (fits (bitXor (a .g) (l .i)) .fits) refl),
     )
 

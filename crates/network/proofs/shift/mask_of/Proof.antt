@@ -4,7 +4,7 @@ use Prim.Native.Nat.{ℕ, _*_, _/_, _-_, _^_, _<_}
 use native.Mathlib.Omega.{arith}
 use borrow.Author.Needs.{needs}
 use Rattle.network.specs.Turn.{reach, mask}
-use Rattle.network.proofs.TurnLaws.{reach-pos, reach-lt, ones-pos, mask-is, mask-lt}
+use Rattle.network.proofs.TurnLaws.{reach-pos, reach-most, ones-pos, mask-is, mask-lt}
 use Rattle.network.proofs.shift.mask_of.Statement.{statement}
 use Rattle.network.proofs.shift.mask_of.Tie as tie
 
@@ -12,19 +12,19 @@ ones-requires : tie.Need-ones-requires
 ones-requires c κs =
     let s = c .before in
     let p = s .args .p in
-    (omega (arith, c .places .ensures, reach-pos p p (omega arith) (s .pre .1)), omega (arith, c .places .ensures, reach-lt p p (omega arith) (s .pre .1)))
+    (omega (arith, c .places .ensures, reach-pos p (s .pre .1)), omega (arith, c .places .ensures, reach-most p (s .pre .1)))
 
 divisor : (c : tie.After-ones) → c .ones .result ≡ 2 ^ reach (c .before .before .args .p) - 1
 divisor c = c .ones .ensures ∙ ap (λ (x : ℕ). 2 ^ x - 1) (c .before .places .ensures)
 
 div-result : tie.Need-div-result
-div-result c = let s = c .before .before in omega (arith, divisor c, ones-pos (s .args .p) (s .args .m) (s .pre .0) (s .pre .1))
+div-result c = let s = c .before .before in omega (arith, divisor c, ones-pos (s .args .p) (s .pre .1))
 
 ones-requires-2 : tie.Need-ones-requires-2
 ones-requires-2 c κs =
     let s = c .before .before .before in
     let m = s .args .m in
-    (omega (arith, c .places2 .ensures, reach-pos m m (omega arith) (omega arith)), omega (arith, c .places2 .ensures, reach-lt m m (omega arith) (omega arith)))
+    (omega (arith, c .places2 .ensures, reach-pos m (omega arith)), omega (arith, c .places2 .ensures, reach-most m (omega arith)))
 
 product : (c : tie.After-ones2) → 18446744073709551615 / c .before .before .ones .result * c .ones2 .result ≡ mask (c .before .before .before .before .args .p) (c .before .before .before .before .args .m)
 product c =
