@@ -21,7 +21,7 @@ M=[
 ('network.rs','m <= j && j < p && k <= m','m <= j && j < p && k < m'),
 ('network.rs','m <= j && j < p && k <= m','m <= j && j <= p && k <= m'),
 ('network.rs','(rest + (1usize << m)) % size','(rest + size - (1usize << m)) % size'),
-('machine.rs','may_write[before ^ flip]','may_write[before]'),
+('machine.rs','if masked { self.m } else','if masked { std::array::from_fn(|line| self.m[line ^ flip]) } else'),
 ('machine.rs','''                4 => {
                     if old_y[line] {''','''                4 => {
                     if new_y {'''),
@@ -133,6 +133,21 @@ M=[
 ('searches.rs','2 + 3 * width','1 + 3 * width'),
 ('searches.rs','1 + 11 * width','12 * width'),
 ('searches.rs','            Search::Greatest => 0,','            Search::Greatest => width,'),
+# document 02, Three: M moved by a part of the flip, M through the network where it is the source, the item not moved
+# either, the mask of the words and not of the lines, the other lines, and zeros where M is 0
+('machine.rs','if masked { self.m } else','if masked { std::array::from_fn(|line| self.m[line ^ (flip & 7)]) } else'),
+('machine.rs','if masked { self.m } else','if masked { std::array::from_fn(|line| self.m[line ^ (flip & 248)]) } else'),
+('machine.rs','if masked { self.m } else','if masked { std::array::from_fn(|line| self.m[line ^ (flip & 1)]) } else'),
+('machine.rs','if masked { self.m } else','if masked { std::array::from_fn(|line| self.m[line ^ (flip & 128)]) } else'),
+('machine.rs','if masked { self.m } else','if masked { if source_item == self.m { passed } else { self.m } } else'),
+('machine.rs','&passed, &may_write','if masked { &source_item } else { &passed }, &may_write'),
+('machine.rs','if masked { self.m } else','if masked { std::array::from_fn(|line| self.m[crate::memory::met(mode, address, line).1]) } else'),
+('machine.rs','if masked { self.m } else','if masked { self.m.map(|bit| !bit) } else'),
+('memory.rs','''            if may_write[line] {
+                let (bit, word) = met(mode, address, line);
+                self.words[word][bit] = item[line];
+            }''','''            let (bit, word) = met(mode, address, line);
+            self.words[word][bit] = item[line] && may_write[line];'''),
 ]
 
 

@@ -4,6 +4,7 @@
 mod case;
 mod plan;
 mod against;
+mod masks;
 mod searches;
 mod words;
 

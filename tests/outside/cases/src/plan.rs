@@ -30,7 +30,7 @@ impl Random {
     }
 }
 
-type Instruction = [u8; 8];
+pub type Instruction = [u8; 8];
 
 const NOTHING: Instruction = [0, 2, 0, 0, 0, 0, 0, 0x0C];
 const RESOLVE: Instruction = [5, 0, 0, 0, 0, 0, 0, 0];
@@ -44,7 +44,7 @@ fn touches(kind: u8, source: u8) -> bool {
 }
 
 /// How many of these instructions take an item, and how many give one.
-fn demand(list: &[u8]) -> (usize, usize) {
+pub fn demand(list: &[u8]) -> (usize, usize) {
     let taken = list.chunks(8).filter(|b| b[0] <= 4 && b[1] == 4).count();
     let given = list.chunks(8).filter(|b| b[0] == 4 || b[0] == 5).count();
     (taken, given)
@@ -96,7 +96,7 @@ impl Plan {
         b
     }
 
-    fn valid_kind(&mut self, kind: u8) -> Instruction {
+    pub fn valid_kind(&mut self, kind: u8) -> Instruction {
         let source = match kind {
             2 | 3 => 1 + self.r.below(4) as u8,
             5 => 0,
@@ -208,12 +208,12 @@ impl Plan {
     }
 
     /// With just the items and the room that the list wants.
-    fn run_fitting(&mut self, list: &[Instruction]) -> Case {
+    pub fn run_fitting(&mut self, list: &[Instruction]) -> Case {
         let (taken, given) = demand(&list.concat());
         self.run(list, 32 * taken, 32 * given)
     }
 
-    fn step(&mut self, instruction: &[u8], items: usize, out: usize) -> Case {
+    pub fn step(&mut self, instruction: &[u8], items: usize, out: usize) -> Case {
         let mut case = self.case(STEP);
         case.lengths = [8192, 96, instruction.len() as u16, items as u16, out as u16, 0];
         case.zeros = 1 << LIST;
@@ -574,12 +574,12 @@ impl Plan {
         self.write_plain(asked, content, output)
     }
 
-    /// One random case of any family; one in eight is a search.
+    /// One random case of any family; one in eight is a search, one in sixteen a list of masked stores.
     fn random_case(&mut self) -> Case {
-        if self.r.one_in(8) {
-            self.random_search()
-        } else {
-            self.random_base()
+        match self.r.below(16) {
+            0 | 1 => self.random_search(),
+            2 => self.random_masks(),
+            _ => self.random_base(),
         }
     }
 
@@ -628,8 +628,8 @@ impl Plan {
 
     // ---- the planned cases
 
-    /// The stored cases: those of document 01, planned and this many random ones, then the searches. What
-    /// a later document adds stands behind, so that the cases before it stay.
+    /// The stored cases: those of document 01, planned and this many random ones, then the searches, then the
+    /// masked stores. What a later document adds stands behind, so that the cases before it stay.
     pub fn stored(&mut self, random: usize) {
         self.planned();
         for _ in 0..random {
@@ -637,6 +637,7 @@ impl Plan {
             self.add(case);
         }
         self.all_searches();
+        self.all_masks();
     }
 
     fn planned(&mut self) {

@@ -210,14 +210,9 @@ impl Module {
                 None
             }
             Act::Store { mode, address, masked } => {
-                // The bit on line P after the flip came from line P xor F; the M bit is the one of
-                // that line (reading A7).
-                let mut may_write = [true; 256];
-                if masked {
-                    for before in 0..256 {
-                        may_write[before ^ flip] = self.m[before];
-                    }
-                }
+                // Line P's bit is written exactly if M's bit P is 1, P being the line after the flip;
+                // only the source item goes through the network (document 02, Three; reading G1).
+                let may_write = if masked { self.m } else { [true; 256] };
                 self.table.store(mode, address, &passed, &may_write);
                 None
             }

@@ -316,29 +316,142 @@ fn all_choices_and_functions() {
     }
 }
 
+/// The lent memory after a store, chip by chip: under mode and address chip C is met by line G xor C, at
+/// location G xor (mode and C). `writes` is asked with the line that the bit came from, before the flip, and
+/// the line that points at the memory, after it.
+fn stored(memory: &[u8], item: &[u8], mode: u8, address: u8, flip: u8, writes: impl Fn(usize, usize) -> bool) -> Vec<u8> {
+    let mut after = memory.to_vec();
+    for chip in 0..=255u8 {
+        let to = address ^ chip;
+        let from = to ^ flip;
+        if writes(from as usize, to as usize) {
+            let location = address ^ (mode & chip);
+            let byte = &mut after[32 * chip as usize + location as usize / 8];
+            *byte &= !(1 << (location % 8));
+            *byte |= (has(item, from as usize) as u8) << (location % 8);
+        }
+    }
+    after
+}
+
+fn has(item: &[u8], k: usize) -> bool {
+    item[k / 8] >> (k % 8) & 1 == 1
+}
+
+/// The item of these lines.
+fn lines(of: impl Fn(usize) -> bool) -> [u8; 32] {
+    let mut item = [0; 32];
+    for line in (0..256).filter(|&line| of(line)) {
+        item[line / 8] |= 1 << (line % 8);
+    }
+    item
+}
+
+/// The source item of a store.
+fn source_item(bench: &Bench, source: u8) -> Vec<u8> {
+    if source == 4 {
+        bench.items[..32].to_vec()
+    } else {
+        bench.registers[32 * (source as usize - 1)..32 * source as usize].to_vec()
+    }
+}
+
+// Document 02, Three.
 #[test]
-fn masked_store_with_flip_uses_the_line_before_the_flip() {
+fn masked_store_with_flip_uses_the_line_after_the_flip() {
     let mut random = Random(41);
-    for _ in 0..60 {
+    for round in 0..240 {
         let mut bench = Bench::random(&mut random, 32, 0);
         let before = bench.clone();
         let (mode, address, flip) = (random.byte(), random.byte(), random.byte());
-        let source = 1 + random.below(4) as u8;
-        let masked = random.below(3) != 0;
+        let source = 1 + round % 4; // M is its own source too
+        let masked = random.below(5) != 0;
         let answer = bench.run(&[2 + masked as u8, source, 1, mode, address, flip, 0, 0]);
         assert_eq!(answer, ok(1, (source == 4) as u32, 0));
-        let item = if source == 4 { unpack(&before.items) } else { before.row(source as usize - 1) };
-        let mut expected = before.table();
-        for from in 0..256usize {
-            let to = from ^ flip as usize;
-            let (bit, word) = met(mode as usize, address as usize, to);
-            if !masked || before.row(0)[from] {
-                expected.set(word, bit, item[from]);
-            }
-        }
-        assert_eq!(bench.table(), expected);
+        let m = &before.registers[..32];
+        let item = source_item(&before, source);
+        let expected = stored(&before.memory, &item, mode, address, flip, |_, to| !masked || has(m, to));
+        assert!(bench.memory == expected, "{} {} {} {}", source, mode, address, flip);
         assert_eq!(bench.registers, before.registers);
     }
+}
+
+/// Masks that the flip moves, ones onto a memory of zeros: the line before the flip, which decided until
+/// Three, gives another memory every time.
+#[test]
+fn masked_store_with_flip_does_not_use_the_line_before_the_flip() {
+    let mut random = Random(43);
+    let mut count = 0;
+    for flip in [1u8, 2, 4, 8, 16, 32, 64, 128, 255, 90, 165, 3, 254] {
+        let (lowest, highest) = (flip.trailing_zeros(), 7 - flip.leading_zeros());
+        let one = random.below(256) as usize;
+        let masks = [
+            lines(|line| line >> lowest & 1 == 0),
+            lines(|line| line >> highest & 1 == 1),
+            lines(|line| line == one),
+            lines(|line| line != one),
+        ];
+        for mask in masks {
+            for source in 1..=4u8 {
+                let mut bench = Bench::zero();
+                bench.registers = [mask, [255; 32], [255; 32]].concat();
+                bench.items = vec![255; 32];
+                let before = bench.clone();
+                let (mode, address) = ([0, 7, 90, 255][random.below(4) as usize], random.byte());
+                assert_eq!(bench.run(&[3, source, 1, mode, address, flip, 0, 0]).number, 0);
+                let item = source_item(&before, source);
+                let by_line_after = stored(&before.memory, &item, mode, address, flip, |_, to| has(&mask, to));
+                let by_line_before = stored(&before.memory, &item, mode, address, flip, |from, _| has(&mask, from));
+                assert!(by_line_after != by_line_before);
+                assert!(bench.memory == by_line_after);
+                // three instructions ask for it; M as the source is moved by the first of them already
+                let turn = [1, 1, 0, 0, 0, flip, 0, 0];
+                let between = [3, source, 1, mode, address, if source == 1 { 0 } else { flip }, 0, 0];
+                let mut bench = before.clone();
+                assert_eq!(bench.run(&list(&[turn, between, turn])).number, 0);
+                assert!(bench.memory == by_line_before && bench.registers == before.registers);
+                count += 1;
+            }
+        }
+    }
+    assert_eq!(count, 13 * 4 * 4);
+}
+
+/// The office's list, "every second station, mirrored": bit 40 of the stations 3, 8 and 200 is set, bit 48 of
+/// station 1; the even stations' bit 48 is to become bit 40 of their mirror (station s of 255 - s).
+#[test]
+fn every_second_station_mirrored() {
+    let items = [lines(|s| s == 3 || s == 8 || s == 200), lines(|s| s == 1), lines(|s| s % 2 == 0)];
+    assert_eq!((items[0][0], items[0][1], items[0][25], items[1][0], items[2]), (8, 1, 1, 2, [0x55; 32]));
+    let prepare = [
+        [2, 4, 1, 0, 40, 0, 0, 0],    // bit 40 from outside
+        [2, 4, 1, 0, 48, 0, 0, 0],    // bit 48 from outside
+        [1, 4, 0, 0, 0, 0, 0, 0],     // M from outside
+        [0, 0, 1, 0, 40, 0, 0, 0x1A], // Y becomes bit 40
+    ];
+    let mirror = [3, 3, 1, 0, 48, 255, 0, 0]; // Y mirrored to bit 48, masked
+    let deliver = [4, 0, 1, 0, 48, 0, 0, 0];
+    let turn = [1, 1, 0, 0, 0, 255, 0, 0]; // M mirrored
+    let run = |instructions: &[[u8; 8]]| {
+        let mut bench = Bench::zero();
+        bench.items = items.concat();
+        bench.out = vec![0xEE; 32];
+        let answer = bench.run(&list(&[&prepare, instructions].concat()));
+        assert_eq!(answer, ok(4 + instructions.len() as u32, 3, 1));
+        assert_eq!(bench.registers[..32], [0x55; 32]); // M is as it was set
+        bench.out
+    };
+    // The mirror of 3, 8 and 200 is 252, 247 and 55. Of these 252 alone is even and written; the other even
+    // stations get 0; the odd ones stay, so 1 keeps its bit: stations 1 and 252.
+    let mut expected = [0u8; 32];
+    (expected[0], expected[31]) = (0x02, 0x10);
+    assert_eq!(run(&[mirror, deliver]), expected);
+    // Until Three the line before the flip decided: what comes from 8 and 200 was written, to 247 and 55,
+    // what comes from 3 was not; station 1 got the bit of 254, which is 0: stations 55 and 247. Whoever
+    // wants that mirrors M before the store and again after it.
+    let mut expected = [0u8; 32];
+    (expected[6], expected[30]) = (0x80, 0x80);
+    assert_eq!(run(&[turn, mirror, turn, deliver]), expected);
 }
 
 #[test]
