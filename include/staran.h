@@ -56,9 +56,9 @@
  *            Choice 0: X; 1: Y; 2: both; 3: X where Y is 1; 4: X where the old Y is 1, and Y everywhere
  *
  * The source item makes one pass, flip and then shift. Logic joins it to X and Y; set M puts it into M; a store writes line P's bit
- * where line P points under mode and address; a masked store does so only for a bit whose M bit is 1, that of the line that the bit
- * came from, before the flip; deliver puts it into the next 32 bytes of the out buffer. Resolve delivers 1 if any bit of Y is set and
- * else 0, then the smallest such number or 0, then thirty zeros. */
+ * where line P points under mode and address; a masked store writes line P's bit there exactly if bit P of M is 1, where P is the
+ * line after the flip: M does not go through the network; deliver puts the item into the next 32 bytes of the out buffer. Resolve delivers
+ * 1 if any bit of Y is set and else 0, then the smallest such number or 0, then thirty zeros. */
 #ifndef STARAN_H
 #define STARAN_H
 
@@ -72,8 +72,8 @@ extern "C" {
 #endif
 
 /* The version of this header, and the linked library's: see staran_version. */
-#define STARAN_VERSION_MAJOR 1
-#define STARAN_VERSION_MINOR 2
+#define STARAN_VERSION_MAJOR 2
+#define STARAN_VERSION_MINOR 0
 #define STARAN_VERSION (STARAN_VERSION_MAJOR * UINT32_C(65536) + STARAN_VERSION_MINOR)
 
 /* Lengths in bytes. */
@@ -199,8 +199,9 @@ typedef char staran_register_record_is_96_bytes[sizeof(staran_registers) == STAR
 
 /* The version of the library that is linked: 65,536 times the major number, plus the minor. It takes nothing and changes nothing.
  *
- * A later version may write longer answers or a longer register record: see docs/CHANGELOG.md. So a program that was compiled with one
- * version and is linked with another asks before its first call that staran_version() == STARAN_VERSION.
+ * A later version may write longer answers or a longer register record, or read an instruction otherwise: see docs/CHANGELOG.md. So a
+ * program that was compiled with one version and is linked with another asks before its first call that
+ * staran_version() == STARAN_VERSION.
  * Stack: at most 64 bytes. */
 uint32_t staran_version(void);
 

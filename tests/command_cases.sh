@@ -200,16 +200,38 @@ bare good; [ $status -eq 0 ] && [ ! -s "$work/err" ]; judge "no python3: a folde
 bare; [ $status -eq 0 ] && grep -qx 'r 0 0 518 1 2' "$work/out" && grep -q 'python3 is not on PATH' "$work/err"; judge "no python3: the demonstration says so" $?
 bare why bad; [ $status -eq 1 ] && grep -q 'no mode was given' "$work/out" && grep -q 'python3 is not on PATH' "$work/err"; judge "no python3: why says what it can, and so" $?
 
-# ---- the list that docs/MACHINE.md works through: its commands as they stand there, and what it says they print
+# ---- the lists that docs/MACHINE.md works through: their commands as they stand there, what it says they print, and that the bytes of a table are those of its commands
 mkdir page; ln -s "$here/tests" page/tests; ln -s "$staran" page/staran
-sed -n '/^    mkdir first/,/^    .\/staran first/s/^    //p' "$here/docs/MACHINE.md" >page/commands
-awk '/^It prints$/ { on = 1; next } on && /^    / { print substr($0, 5); seen = 1; next } on && seen { exit }' "$here/docs/MACHINE.md" >page/want
-call sh -c 'cd page && sh -eu commands'
-[ $status -eq 0 ] && [ "$(wc -l <page/want)" -eq 4 ] && cmp -s page/want out; judge "the manual's first list" $?
-# the bytes of its table are those of its commands
+printed() { # HEADING NUMBER: the lines of the section's block, counted from 1, that starts with a run's line or is an item alone
+    awk -v heading="## $1" -v number="$2" '$0 == heading { on = 1; next } /^## / { on = 0 } !on { next }
+        /^    / { if (!block && /^    (r [0-9]|[0-9a-f]+$)/) { block = 1; count++ } if (block && count == number) print substr($0, 5); next } { block = 0 }' "$here/docs/MACHINE.md"
+}
+worked() { # HEADING FOLDER LINES
+    awk -v heading="## $1" '$0 == heading { on = 1; next } /^## / { on = 0 } on' "$here/docs/MACHINE.md" >page/section
+    sed -n "/^    mkdir $2/,/^    .\\/staran $2/s/^    //p" page/section >page/commands
+    printed "$1" 1 >page/want
+    call sh -c 'cd page && sh -eu commands'
+    [ $status -eq 0 ] && [ "$(wc -l <page/want)" -eq "$3" ] && cmp -s page/want out; judge "the manual: $1" $?
+    # shellcheck disable=SC2016
+    grep -oE '^\| [0-9] \| `([0-9A-F]{2} ){7}[0-9A-F]{2}`' page/section | sed 's/.*`\(.*\)`/\1/' | tr -d ' ' >page/bytes
+    "$blocks" list page/again "$(cat page/bytes)" && cmp -s page/again "page/$2/run.lst"; judge "and its table" $?
+}
+worked "A first list, worked through" first 4
+# document 02, Three: what the office's list writes now; what it wrote before is on the page the item of another run, of the list that flips M with the item, which comes after
+mirrored='Every second station, mirrored'
+worked "$mirrored" mirror 2
+[ "$(printed "$mirrored" 2)" = "$(printed "$mirrored" 3 | tail -n 1)" ] && [ "$(printed "$mirrored" 2)" != "$(tail -n 1 page/want)" ]
+judge "it wrote the other half before" $?
 # shellcheck disable=SC2016
-grep -oE '^\| [0-9] \| `([0-9A-F]{2} ){7}[0-9A-F]{2}`' "$here/docs/MACHINE.md" | sed 's/.*`\(.*\)`/\1/' | tr -d ' ' >page/bytes
-"$blocks" list page/again "$(cat page/bytes)" && cmp -s page/again page/first/run.lst; judge "and its table" $?
+flips=$(sed -n 's/^(`\(01 01 [0-9A-F ]*\)`, twice).*/\1/p' page/section | tr -d ' ')
+"$blocks" list page/mirror/run.lst "$(sed "s/^03.*/$flips\n&\n$flips/" page/bytes)" && printed "$mirrored" 3 >page/want
+call sh -c 'cd page && ./staran mirror'; [ $status -eq 0 ] && [ "$(wc -l <page/want)" -eq 2 ] && cmp -s page/want out; judge "and writes it with M flipped as well" $?
+python3 -B - page/mirror/after.pic <<'READ'; judge "which leaves M as it was set" $?
+import sys
+blocks = open(sys.argv[1], 'rb').read()
+content = b''.join(blocks[k + 12:k + 508] for k in range(0, len(blocks), 512))
+sys.exit(content[8192:8224] != b'\x55' * 32)
+READ
 
 # ---- make_blocks.py
 mkdir made

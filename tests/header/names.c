@@ -153,7 +153,7 @@ int main(void)
     functions();
     refusals();
     hold("the contents on disk", STARAN_CONTENT_PICTURE == 1 && STARAN_CONTENT_LIST == 2 && STARAN_CONTENT_ITEMS == 3);
-    hold("the linked version is the header's", staran_version() == STARAN_VERSION && STARAN_VERSION == 65538);
+    hold("the linked version is the header's", staran_version() == STARAN_VERSION && STARAN_VERSION == 131072);
     hold("a number that is never given", strcmp(staran_meaning(14), "no such number is ever given") == 0);
     for (uint32_t number = 0; number <= 100; number++)
         if (strcmp(staran_meaning(number), staran_meaning(14)) != 0)

@@ -46,6 +46,16 @@ static void spread(const uint8_t item[restrict 32], unsigned mode, unsigned addr
     }
 }
 
+/* For each chip, what stays there where the lines of the mask write. */
+static void kept(const uint8_t mask[restrict 32], unsigned mode, unsigned address, uint8_t lanes[restrict 8][ITEM])
+{
+    for (unsigned t = 0; t < 8; t++) {
+        uint8_t from = (uint8_t)(1u << (address % 8 ^ t)), but = (uint8_t)~(1u << place_of(mode, address, t));
+        for (unsigned i = 0; i < ITEM; i++)
+            lanes[t][i] = mask[i] & from ? but : 255;
+    }
+}
+
 void plain_store(uint8_t *restrict memory, uint8_t mode, uint8_t address, const uint8_t item[restrict 32])
 {
     uint8_t put[8][ITEM], keep[8];
@@ -62,16 +72,16 @@ void plain_store(uint8_t *restrict memory, uint8_t mode, uint8_t address, const 
 
 void plain_store_masked(uint8_t *restrict memory, uint8_t mode, uint8_t address, const uint8_t item[restrict 32], const uint8_t mask[restrict 32])
 {
-    uint8_t put[8][ITEM], chosen[8][ITEM], both[ITEM];
+    uint8_t put[8][ITEM], keep[8][ITEM], both[ITEM];
     for (unsigned i = 0; i < ITEM; i++)
         both[i] = item[i] & mask[i];
     spread(both, mode, address, put);
-    spread(mask, mode, address, chosen);
+    kept(mask, mode, address, keep);
     for (unsigned i = 0; i < ITEM; i++) {
         unsigned group = address / 8u ^ i;
         uint8_t *to = memory + 256 * group + byte_at(mode, address, group);
         for (unsigned t = 0; t < 8; t++)
-            to[32 * t] = (to[32 * t] & (uint8_t)~chosen[t][i]) | put[t][i];
+            to[32 * t] = (to[32 * t] & keep[t][i]) | put[t][i];
     }
 }
 

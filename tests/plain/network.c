@@ -80,14 +80,6 @@ static void shift(uint64_t quarters[4], unsigned p, unsigned m)
     }
 }
 
-void plain_flip(const uint8_t item[32], uint8_t flip, uint8_t out[32])
-{
-    uint64_t quarters[QUARTERS];
-    quarters_of(item, quarters);
-    flip_quarters(quarters, flip);
-    lines_of(quarters, out);
-}
-
 void plain_pass(const uint8_t item[32], uint8_t flip, uint8_t code, uint8_t out[32])
 {
     uint64_t quarters[QUARTERS];

@@ -16,7 +16,6 @@ void plain_words_in(uint8_t *restrict memory, unsigned eight, const uint8_t word
 
 /* network.c */
 int plain_is_code(uint8_t code);
-void plain_flip(const uint8_t item[32], uint8_t flip, uint8_t out[32]);
 void plain_pass(const uint8_t item[32], uint8_t flip, uint8_t code, uint8_t out[32]);
 
 #endif

@@ -117,7 +117,7 @@ static void resolve(const uint8_t y[32], uint8_t out[32])
 static void run_list(uint8_t *memory, uint8_t *m, uint8_t *x, uint8_t *y, const uint8_t *list, size_t count, const uint8_t *items, uint8_t *out)
 {
     for (const uint8_t *i = list; i < list + 8 * count; i += 8) {
-        uint8_t item[ITEM], mask[ITEM];
+        uint8_t item[ITEM];
         if (i[0] == 5) {
             resolve(y, out);
             out += ITEM;
@@ -142,8 +142,7 @@ static void run_list(uint8_t *memory, uint8_t *m, uint8_t *x, uint8_t *y, const 
             plain_store(memory, i[3], i[4], item);
             break;
         case 3:
-            plain_flip(m, i[5], mask);
-            plain_store_masked(memory, i[3], i[4], item, mask);
+            plain_store_masked(memory, i[3], i[4], item, m);
             break;
         default:
             memcpy(out, item, ITEM);

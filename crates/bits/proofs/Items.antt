@@ -1,16 +1,17 @@
 -- Laws that connect bytes and bits both ways: lists made of elements, bytes made of bits, lists known by their bits. Assumes nothing.
 use mathlib.Core.Path.{_≡_, refl, sym, ap, ap₂, _∙_}
 use mathlib.Core.List.{List, [], _∷_, _++_, append-assoc, append-nil}
-use Prim.Native.Nat.{ℕ, zero, suc, _+_, _-_, _*_, _/_, _%_, _<_, _≤_}
+use Prim.Native.Nat.{ℕ, zero, suc, _+_, _-_, _*_, _/_, _%_, _^_, _<_, _≤_}
 use native.Mathlib.Nat.{add-zero, add-suc}
 use native.Mathlib.Numerals.{add-one}
 use native.Mathlib.Decide.{decLt}
 use native.Mathlib.Omega.{arith}
 use lib.ListN.{length, getD, take, set, length-append, List·getD-append, List·getD-eq-default}
+use lib.Pow.{shl-exact}
 use lib.Seq.{getD-at, take-at, take-suc-set, take-all, ext-getD}
 use borrow.Rule.Slice.PartMut.{putMid, postOf}
 use Rattle.bits.specs.Bits.{digit, bitOf, listed, byteOf, pack}
-use Rattle.bits.proofs.Binary.{Bit, digit-bit}
+use Rattle.bits.proofs.Binary.{Bit, bit-lt, digit-bit}
 use Rattle.bits.proofs.Digits.{digitsOf-lt, digitsOf-at, digitsOf-ext, digits-are}
 
 -- ---- a list of elements
@@ -114,6 +115,13 @@ bitOf-at l i j h =
     let hi : (8 * i + j) / 8 ≡ i = omega arith in
     let lo : (8 * i + j) % 8 ≡ j = omega arith in
     ap₂ (λ (x y : ℕ). digit (getD l x 0) y) hi lo
+
+-- digit j of byte i, moved to digit s
+pub bitOf-moved : (l : List ℕ) (i j s r : ℕ) → j < 8 → s < 8 → r ≡ digit (getD l i 0) j * 2 ^ s % 256 → r ≡ bitOf l (8 * i + j) * 2 ^ s
+bitOf-moved l i j s r h k e =
+    e
+    ∙ ap (λ (x : ℕ). x * 2 ^ s % 256) (sym (bitOf-at l i j h))
+    ∙ shl-exact 1 s 8 (bit-lt (bitOf-bit l (8 * i + j))) (omega arith)
 
 -- a byte is byte i of f when its digits are f's
 pub byteOf-is : (f : ℕ → ℕ) (i x : ℕ) → x < 256 → ((j : ℕ) → j < 8 → digit x j ≡ f (8 * i + j)) → x ≡ byteOf f i

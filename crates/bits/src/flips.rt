@@ -1,9 +1,6 @@
-// Flips of an item. Document 01, Network: "Flip F moves line I to I xor F." Each digit of F below 64 exchanges neighbouring groups of lines within every quarter, and the two above order the quarters.
-use super::quarters::lines_of;
-use super::quarters::quarters_of;
+// Flips of an item's quarters. Document 01, Network: "Flip F moves line I to I xor F." Each digit of F below 64 exchanges neighbouring groups of lines within every quarter, and the two above order the quarters.
 ghost use mathlib.Core.Path.{_≡_};
 ghost use Prim.Native.Nat.{_*_, _<_};
-ghost use Rattle.bits.specs.Bits.{item, flipped};
 ghost use Rattle.bits.specs.Quarters.{exchanged, Flips, flippedQuarters};
 
 // The digits of `x` at the places of `m` and those `k` above them change places.
@@ -55,11 +52,4 @@ pub fn flip_quarters(q: [u64; 4], f: u8) -> [u64; 4]
     let sixteens = exchange_if(f / 16 % 2, eights, 0x0000FFFF0000FFFF, 16);
     let halves = exchange_if(f / 32 % 2, sixteens, 0x00000000FFFFFFFF, 32);
     order(halves, (f / 64) as usize)
-}
-
-// `lines` flipped by `f`.
-pub fn flip(lines: &[u8; 32], f: u8) -> [u8; 32]
-    ensures { λ r. ⌜ r ≡ item (flipped (now (lines .entry)) f) ⌝ }
-{
-    lines_of(flip_quarters(quarters_of(lines), f))
 }

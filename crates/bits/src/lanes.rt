@@ -1,7 +1,7 @@
 // Lanes of an item: lane j is digit j of each of its 32 bytes. A whole lane is moved by one loop over bytes, which a compiler turns into a few wide operations.
 ghost use mathlib.Core.Path.{_≡_};
 ghost use Prim.Native.Nat.{_+_, _*_, _%_, _^_, _<_};
-ghost use lib.Bits.{bitOr};
+ghost use lib.Bits.{bitOr, bitXor};
 ghost use lib.ListN.{length, getD};
 ghost use Rattle.bits.specs.Bits.{digit, bitOf, listed};
 
@@ -21,6 +21,18 @@ pub fn spread_lane<'a>(item: &'a [u8; 32], j: u8, s: u8, out: &mut [u8])
     let mut i: usize = 0;
     while i < 32 {
         out[i] = moved_digit(item[i], j, s);
+        i += 1;
+    }
+}
+
+// What stays of a byte where that lane is written: every digit of each byte of `out` is 1, but digit `s` where lane `j` of the item is 1.
+pub fn clear_lane<'a>(item: &'a [u8; 32], j: u8, s: u8, out: &mut [u8])
+    requires { ⌜ (length (now out) ≡ 32) × (j < 8) × (s < 8) ⌝ }
+    ensures { λ r. ⌜ now (out .exit) ≡ listed (λ i. bitXor (bitOf (now (item .entry)) (8 * i + j) * 2 ^ s) 255) 32 ⌝ }
+{
+    let mut i: usize = 0;
+    while i < 32 {
+        out[i] = moved_digit(item[i], j, s) ^ 255;
         i += 1;
     }
 }

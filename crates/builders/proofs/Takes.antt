@@ -96,8 +96,8 @@ ranWord-ext o o′ = folded-ext (λ i x. actedWord i (λ k. x)) idle o o′ (λ 
 
     idle : (i : Instruction) (x y : ℕ) (v : Word) → takes i ≡ false → actedWord i (λ k. x) v ≡ actedWord i (λ k. y) v
     idle i x y v e =
-        ap (λ (t : Bool). afterBit i (v .m) (cond t x (held i v)) v) e
-        ∙ sym (ap (λ (t : Bool). afterBit i (v .m) (cond t y (held i v)) v) e)
+        ap (λ (t : Bool). afterBit i (cond t x (held i v)) v) e
+        ∙ sym (ap (λ (t : Bool). afterBit i (cond t y (held i v)) v) e)
 
     one-more : (t : Bool) (n : ℕ) → cond t (suc n) n ≡ n + cond t 1 0
     one-more true n = sym (add-one n)

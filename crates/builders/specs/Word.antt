@@ -28,11 +28,11 @@ heldBit (suc (suc (suc n))) b m x y = y
 unfoldable pub sourceBit : Instruction → (ℕ → ℕ) → Word → ℕ
 sourceBit i o v = cond (takes i) (o (v .taken)) (heldBit (i .source) (v .bits (i .addr)) (v .m) (v .x) (v .y))
 
--- What instruction i, with mask bit k and source bit f, makes of the word: logic, set M, a store of bit `addr`, a masked store; other kinds leave it.
-unfoldable pub afterBit : Instruction → ℕ → ℕ → Word → Word
-afterBit i k f v =
+-- What instruction i, with source bit f, makes of the word: logic, set M, a store of bit `addr`, a masked store where the word's own M bit is 1; other kinds leave it.
+unfoldable pub afterBit : Instruction → ℕ → Word → Word
+afterBit i f v =
     record {
-      bits = λ b. cond ((eqb (i .kind) 2 || (eqb (i .kind) 3 && eqb k 1)) && eqb b (i .addr)) f (v .bits b);
+      bits = λ b. cond ((eqb (i .kind) 2 || (eqb (i .kind) 3 && eqb (v .m) 1)) && eqb b (i .addr)) f (v .bits b);
       m = cond (eqb (i .kind) 1) f (v .m);
       x = cond (eqb (i .kind) 0) (newX (i .logic) (v .x) (v .y) f) (v .x);
       y = cond (eqb (i .kind) 0) (newY (i .logic) (v .y) f) (v .y);
@@ -40,7 +40,7 @@ afterBit i k f v =
     }
 
 unfoldable pub actedWord : Instruction → (ℕ → ℕ) → Word → Word
-actedWord i o v = afterBit i (v .m) (sourceBit i o v) v
+actedWord i o v = afterBit i (sourceBit i o v) v
 
 -- A list, for any machine that has a step.
 unfoldable pub folded : {S : Type 0} → (Instruction → S → S) → List Instruction → S → S

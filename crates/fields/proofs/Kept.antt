@@ -7,7 +7,7 @@ use Prim.Native.Nat.{ℕ, _*_, _<_, _≤_}
 use lib.Dec.{eqb}
 use lib.ListN.{length}
 use Rattle.bits.specs.Bits.{bitOf}
-use Rattle.memory.specs.Memory.{stored, every, maskOf}
+use Rattle.memory.specs.Memory.{stored, every}
 use Rattle.registers.specs.declared.Registers.{Registers}
 use Rattle.registers.specs.Logic.{logicOf}
 use Rattle.registers.specs.Rows.{registersOf, bytesOf, withM}
@@ -30,7 +30,7 @@ memory-kept : (i : Instruction) (mode : ℕ) (mem m f : List ℕ) → i .kind �
 unfolding memAfter
 memory-kept i mode mem m f e =
     ap (λ (k : ℕ). cond (eqb k 2) (stored mem mode (i .addr) every (bitOf f))
-    (cond (eqb k 3) (stored mem mode (i .addr) (maskOf m (i .flip)) (bitOf f)) mem)) e
+    (cond (eqb k 3) (stored mem mode (i .addr) (bitOf m) (bitOf f)) mem)) e
 
 m-kept : (i : Instruction) (r : Registers) (f : List ℕ) → i .kind ≡ 0 → regsAfter i r f .m ≡ r .m
 unfolding regsAfter logicOf

@@ -1,5 +1,5 @@
 -- The projection: for each instruction with mode 0, line P of what it makes of a state is what the one-word machine makes of line P with the source bit of the line that its pass brings there; with no flip and no shift that is line P itself, and so for a list. Assumes nothing.
-use mathlib.Core.Path.{_≡_, refl, sym, ap, ap₂, subst, subst₂, _∙_}
+use mathlib.Core.Path.{_≡_, refl, sym, ap, ap₂, subst, _∙_}
 use mathlib.Core.Bool.{Bool, true, false, cond, _&&_, _||_}
 use mathlib.Core.List.{List, [], _∷_}
 use Prim.Native.Nat.{ℕ, zero, suc, _+_, _/_, _%_, _<_}
@@ -10,12 +10,12 @@ use native.Mathlib.Omega.{arith}
 use borrow.Author.Tests.{eqb-true, eq-eqb, ne-eqb}
 use lib.Bits.{bitAnd, bitXor, and-comm, and-mask, xor-zero-r}
 use lib.Dec.{eqb}
-use Rattle.bits.specs.Bits.{bitOf}
+use Rattle.bits.specs.Bits.{bitOf, flipped}
 use Rattle.bits.proofs.Binary.{Bit}
 use Rattle.bits.proofs.Items.{bitOf-bit, bitOf-pack}
 use Rattle.memory.specs.Access.{readBit}
-use Rattle.memory.specs.Table.{table, lineBit, lineWord}
-use Rattle.memory.specs.Memory.{cell, stored, every, maskOf}
+use Rattle.memory.specs.Table.{table, lineBit, lineWord, Updated}
+use Rattle.memory.specs.Memory.{cell, stored, every}
 use Rattle.memory.proofs.AccessLaws.{read-line}
 use Rattle.memory.proofs.TableDemand.{store-updates-table}
 use Rattle.network.specs.Shifts.{permitted}
@@ -27,9 +27,10 @@ use Rattle.registers.specs.Logic.{newX, newY, logicOf}
 use Rattle.registers.specs.Rows.{withM}
 use Rattle.registers.proofs.LogicLaws.{logic-X, logic-Y}
 use Rattle.judge.specs.declared.Instruction.{Instruction}
-use Rattle.judge.specs.Judge.{instructionAt, takes}
+use Rattle.judge.specs.Judge.{instructionAt, takes, faultOf}
 use Rattle.module.specs.Act.{State, modeOf, partAt, held, heldItem, sourceItem, passedBy, regsAfter, memAfter, acted}
 use Rattle.module.specs.Run.{ranBy}
+use Rattle.module.proofs.ActLaws.{masks-by-line}
 use Rattle.builders.specs.Lists.{decoded, Each, none, more}
 use Rattle.builders.specs.Word.{Word, heldBit, sourceBit, afterBit, actedWord, folded, ranWord}
 use Rattle.builders.proofs.Folds.{folded-append}
@@ -50,32 +51,45 @@ pub read-slice : (mem : List ℕ) (g p : ℕ) → g < 256 → p < 256 → readBi
 read-slice mem g p hg hp =
     read-line 8 0 g p (omega arith) hg hp (cell mem) ∙ ap₂ (table (cell mem)) (slice-word g p hp) (slice-bit g p hg)
 
-module _ (mem : List ℕ) (g : ℕ) (mask f : ℕ → ℕ) (hg : g < 256) (bits : (k : ℕ) → Bit (f k)) where
-  pub store-slice : (p b : ℕ) → p < 256 → b < 256
-      → table (cell (stored mem 0 g mask f)) p b ≡ cond (eqb (mask p) 1 && eqb b g) (f p) (table (cell mem) p b)
-  store-slice p b hp hb = go (ℕ-discrete b g)
-    where
-      after : ℕ → ℕ → ℕ
-      after = table (cell (stored mem 0 g mask f))
+-- a table updated under mode 0, word by word
+updated-slice : (g : ℕ) (mask f : ℕ → ℕ) (t t′ : ℕ → ℕ → ℕ) → g < 256 → Updated 8 0 g mask f t t′ → (w b : ℕ) → w < 256 → b < 256
+    → t′ w b ≡ cond (eqb (mask w) 1 && eqb b g) (f w) (t w b)
+updated-slice g mask f t t′ hg u w b hw hb = go (ℕ-discrete b g)
+  where
+    same : (c : Bool) (x y : ℕ) → cond (c && true) x y ≡ cond c x y
+    same true x y = refl
+    same false x y = refl
 
-      same : (t : Bool) (x y : ℕ) → cond (t && true) x y ≡ cond t x y
-      same true x y = refl
-      same false x y = refl
+    old : (c : Bool) (x y : ℕ) → cond (c && false) x y ≡ y
+    old true x y = refl
+    old false x y = refl
 
-      old : (t : Bool) (x y : ℕ) → cond (t && false) x y ≡ y
-      old true x y = refl
-      old false x y = refl
+    go : Dec (b ≡ g) → t′ w b ≡ cond (eqb (mask w) 1 && eqb b g) (f w) (t w b)
+    go (yes e) =
+        ap (t′ w) e
+        ∙ sym (ap₂ t′ (slice-word g w hw) (slice-bit g w hg))
+        ∙ u .lines w hw
+        ∙ ap (cond (eqb (mask w) 1) (f w)) (ap₂ t (slice-word g w hw) (slice-bit g w hg) ∙ ap (t w) (sym e))
+        ∙ sym (ap (λ (c : Bool). cond (eqb (mask w) 1 && c) (f w) (t w b)) (eq-eqb b g e) ∙ same (eqb (mask w) 1) (f w) (t w b))
+    go (no q) =
+        u .others w b hw hb (λ k hk ew eb. q (eb ∙ slice-bit g k hg))
+        ∙ sym (ap (λ (c : Bool). cond (eqb (mask w) 1 && c) (f w) (t w b)) (ne-eqb b g q) ∙ old (eqb (mask w) 1) (f w) (t w b))
 
-      go : Dec (b ≡ g) → after p b ≡ cond (eqb (mask p) 1 && eqb b g) (f p) (table (cell mem) p b)
-      go (yes e) =
-          ap (after p) e
-          ∙ sym (ap₂ after (slice-word g p hp) (slice-bit g p hg))
-          ∙ store-updates-table mem 0 g mask f (omega arith) hg bits .lines p hp
-          ∙ ap (cond (eqb (mask p) 1) (f p)) (ap₂ (table (cell mem)) (slice-word g p hp) (slice-bit g p hg) ∙ ap (table (cell mem) p) (sym e))
-          ∙ sym (ap (λ (t : Bool). cond (eqb (mask p) 1 && t) (f p) (table (cell mem) p b)) (eq-eqb b g e) ∙ same (eqb (mask p) 1) (f p) (table (cell mem) p b))
-      go (no q) =
-          store-updates-table mem 0 g mask f (omega arith) hg bits .others p b hp hb (λ k hk ew eb. q (eb ∙ slice-bit g k hg))
-          ∙ sym (ap (λ (t : Bool). cond (eqb (mask p) 1 && t) (f p) (table (cell mem) p b)) (ne-eqb b g q) ∙ old (eqb (mask p) 1) (f p) (table (cell mem) p b))
+pub store-slice : (mem : List ℕ) (g : ℕ) (mask f : ℕ → ℕ) → g < 256 → ((k : ℕ) → Bit (f k)) → (w b : ℕ) → w < 256 → b < 256
+    → table (cell (stored mem 0 g mask f)) w b ≡ cond (eqb (mask w) 1 && eqb b g) (f w) (table (cell mem) w b)
+store-slice mem g mask f hg bits =
+    updated-slice g mask f (table (cell mem)) (table (cell (stored mem 0 g mask f))) hg (store-updates-table mem 0 g mask f (omega arith) hg bits)
+
+-- a masked store: by the word's own M bit, from the source item's line across the flip
+pub masked-slice : (i : Instruction) (items : List ℕ) (s : State) → i .kind ≡ 3 → faultOf i ≡ 0 → i .mode ≡ 0 → i .addr < 256 → (w b : ℕ) → w < 256 → b < 256
+    → table (cell (acted i items s .mem)) w b
+    ≡ cond (eqb (bitOf (s .regs .m) w) 1 && eqb b (i .addr)) (flipped (sourceItem i (s .mem) items (s .regs) (s .taken)) (i .flip) w) (table (cell (s .mem)) w b)
+masked-slice i items s e good slice hg =
+    let mask = bitOf (s .regs .m) in
+    let f = flipped (sourceItem i (s .mem) items (s .regs) (s .taken)) (i .flip) in
+    updated-slice (i .addr) mask f (table (cell (s .mem))) (table (cell (acted i items s .mem))) hg
+    (subst (λ (m : ℕ). Updated 8 m (i .addr) mask f (table (cell (s .mem))) (table (cell (acted i items s .mem)))) slice
+    (masks-by-line i items s e good (omega arith) hg))
 
 -- ---- one instruction: what it brings to a line
 
@@ -121,7 +135,7 @@ module _ (p : ℕ) (hp : p < 256) where
   -- what the passed item f does
   module _ (i : Instruction) (f : List ℕ) (s : State) (v : Word) (sl : Sliced i) (a : At p s v) where
     word-at : (b : ℕ) → b < 256 → table (cell (memAfter i (modeOf i (s .regs)) (s .mem) (s .regs .m) f)) p b
-        ≡ cond ((eqb (i .kind) 2 || (eqb (i .kind) 3 && eqb (maskOf (s .regs .m) (i .flip) p) 1)) && eqb b (i .addr)) (bitOf f p) (v .bits b)
+        ≡ cond ((eqb (i .kind) 2 || (eqb (i .kind) 3 && eqb (v .m) 1)) && eqb b (i .addr)) (bitOf f p) (v .bits b)
     unfolding memAfter
     word-at b hb = go (eqb (i .kind) 2) (eqb (i .kind) 3)
       where
@@ -134,10 +148,10 @@ module _ (p : ℕ) (hp : p < 256) where
 
         go : (two three : Bool)
             → table (cell (cond two (stored (s .mem) (i .mode) (i .addr) every (bitOf f))
-            (cond three (stored (s .mem) (i .mode) (i .addr) (maskOf (s .regs .m) (i .flip)) (bitOf f)) (s .mem)))) p b
-            ≡ cond ((two || (three && eqb (maskOf (s .regs .m) (i .flip) p) 1)) && eqb b (i .addr)) (bitOf f p) (v .bits b)
+            (cond three (stored (s .mem) (i .mode) (i .addr) (bitOf (s .regs .m)) (bitOf f)) (s .mem)))) p b
+            ≡ cond ((two || (three && eqb (v .m) 1)) && eqb b (i .addr)) (bitOf f p) (v .bits b)
         go true three = slice every
-        go false true = slice (maskOf (s .regs .m) (i .flip))
+        go false true = slice (bitOf (s .regs .m)) ∙ ap (λ (k : ℕ). cond (eqb k 1 && eqb b (i .addr)) (bitOf f p) (v .bits b)) (a .bitM)
         go false false = a .word b hb
 
     regs-at : (zeroth first : Bool) → (zeroth ≡ true → first ≡ false)
@@ -160,14 +174,14 @@ module _ (p : ℕ) (hp : p < 256) where
     count-at true = add-one (s .taken) ∙ ap suc (a .count)
     count-at false = add-zero (s .taken) ∙ a .count
 
-  -- the law, for every instruction with mode 0: line p gets the source bit of the line from which its bit comes, by the mask bit that the mask rule gives
+  -- the law, for every instruction with mode 0: line p gets the source bit of the line from which its bit comes, by its own M bit
   pub acted-from : (i : Instruction) (items : List ℕ) (s : State) (v w : Word) → Sliced i → At p s v → At (cameFrom i p) s w
-      → At p (acted i items s) (afterBit i (maskOf (s .regs .m) (i .flip) p) (sourceBit i (outsideAt (cameFrom i p) items) w) v)
+      → At p (acted i items s) (afterBit i (sourceBit i (outsideAt (cameFrom i p) items) w) v)
   unfolding acted afterBit regsAfter
   acted-from i items s v w sl a b =
       let f = passedBy i (s .mem) items (s .regs) (s .taken) in
       let r = regs-at i f s v sl a (eqb (i .kind) 0) (eqb (i .kind) 1) (one-kind i f s v sl a) in
-      subst (λ (z : ℕ). At p (acted i items s) (afterBit i (maskOf (s .regs .m) (i .flip) p) z v)) (passed-from p i items s w hp sl b)
+      subst (λ (z : ℕ). At p (acted i items s) (afterBit i z v)) (passed-from p i items s w hp sl b)
       (record {
         word = word-at i f s v sl a;
         bitM = r .0;
@@ -176,7 +190,7 @@ module _ (p : ℕ) (hp : p < 256) where
         count = count-at i f s v sl a (takes i);
       })
 
-  -- with no flip and no shift that is line p itself, and its own M bit
+  -- with no flip and no shift that is line p itself
   stays : (i : Instruction) → Local i → cameFrom i p ≡ p
   stays i lc = came-flipped i p (lc .code0) ∙ ap (bitXor p) (lc .flip0) ∙ xor-zero-r p
 
@@ -186,14 +200,11 @@ module _ (p : ℕ) (hp : p < 256) where
       let c = lc .code0 in
       record { mode0 = lc .mode0; inside = lc .inside; flips = omega arith; byte6 = omega arith; shifts = ap permitted c ∙ none-permitted }
 
-  own-mask : (i : Instruction) (s : State) (v : Word) → Local i → At p s v → maskOf (s .regs .m) (i .flip) p ≡ v .m
-  own-mask i s v lc a = ap (λ (z : ℕ). maskOf (s .regs .m) z p) (lc .flip0) ∙ ap (bitOf (s .regs .m)) (xor-zero-r p) ∙ a .bitM
-
   -- so each instruction that keeps to its line
   pub acted-at : (i : Instruction) (items : List ℕ) (s : State) (v : Word) → Local i → At p s v → At p (acted i items s) (actedWord i (outsideAt p items) v)
   unfolding actedWord
   acted-at i items s v lc a =
-      subst₂ (λ (k q : ℕ). At p (acted i items s) (afterBit i k (sourceBit i (outsideAt q items) v) v)) (own-mask i s v lc a) (stays i lc)
+      subst (λ (q : ℕ). At p (acted i items s) (afterBit i (sourceBit i (outsideAt q items) v) v)) (stays i lc)
       (acted-from i items s v v (sliced-of i lc) a (subst (λ (q : ℕ). At q s v) (sym (stays i lc)) a))
 
   -- and for a list

@@ -14,7 +14,7 @@ use Rattle.bits.proofs.Binary.{Bit, off}
 use Rattle.bits.proofs.Items.{length-listed, getD-listed, bitOf-bit, bitOf-pack, byteOf-lt, same-bits}
 use Rattle.bits.proofs.Xor.{xor-twice}
 use Rattle.memory.specs.Table.{table}
-use Rattle.memory.specs.Memory.{cell, stored, every, maskOf}
+use Rattle.memory.specs.Memory.{cell, stored, every}
 use Rattle.memory.proofs.MemoryLaws.{stored-bit}
 use Rattle.network.specs.Shifts.{shiftOf, pOf, mOf}
 use Rattle.network.specs.Pass.{passed}
@@ -93,9 +93,9 @@ memory-good i mode mem m f a = go (eqb (i .kind) 2) (eqb (i .kind) 3)
     kept : (mask : ℕ → ℕ) → Bytes (stored mem mode (i .addr) mask (bitOf f)) 8192
     kept mask = pack-bytes _ (λ k. stored-bit mem mode (i .addr) mask (bitOf f) (bitOf-bit f) (k / 256) (k % 256)) 8192
 
-    go : (two three : Bool) → Bytes (cond two (stored mem mode (i .addr) every (bitOf f)) (cond three (stored mem mode (i .addr) (maskOf m (i .flip)) (bitOf f)) mem)) 8192
+    go : (two three : Bool) → Bytes (cond two (stored mem mode (i .addr) every (bitOf f)) (cond three (stored mem mode (i .addr) (bitOf m) (bitOf f)) mem)) 8192
     go true three = kept every
-    go false true = kept (maskOf m (i .flip))
+    go false true = kept (bitOf m)
     go false false = a
 
 passed-good : (i : Instruction) (mem items : List ℕ) (r : Registers) (k : ℕ) → Bytes (passedBy i mem items r k) 32

@@ -13,7 +13,7 @@ use Rattle.bits.specs.Search.{count}
 use Rattle.network.specs.Shifts.{permitted}
 use Rattle.judge.specs.declared.Instruction.{Instruction}
 use Rattle.judge.specs.declared.Lengths.{Lengths}
-use Rattle.judge.specs.Judge.{instructionAt, takes, gives, wrongMemory, wrongRegisters, unfit, wrongKind, wrongSource, wrongPass, wrongLogic, runRows, stepRows, instructionRows, faultOf, refusal, done, orElse, judgedList, judgedBy, judged, judgedStep}
+use Rattle.judge.specs.Judge.{instructionAt, stores, takes, gives, wrongMemory, wrongRegisters, unfit, wrongKind, wrongSource, wrongPass, wrongLogic, runRows, stepRows, instructionRows, faultOf, refusal, done, orElse, judgedList, judgedBy, judged, judgedStep}
 use Rattle.judge.specs.Steps.{Accepted}
 use Rattle.judge.specs.Numbers.{Served, Unrefused}
 use Rattle.judge.proofs.RowLaws.{or-none, and-none, fit-whole, fit-size}
@@ -136,16 +136,19 @@ pub record WellFormed (i : Instruction) : Type 0 where
   pub kind : i .kind ≤ 5
   pub source : i .source ≤ 4
   pub code : permitted (i .code) ≡ true
+  pub unshifted : stores i ≡ true → i .code ≡ 0
   pub logic : i .kind ≡ 0 → i .logic < 80
 
 pub well-formed : (i : Instruction) → faultOf i ≡ 0 → WellFormed i
 unfolding faultOf wrongKind wrongSource wrongPass wrongLogic
 well-formed i e =
     let off = row-off (instructionRows i) (number-none (instructionRows i) refl e) in
+    let pass = or-none (not (permitted (i .code))) (stores i && not (eqb (i .code) 0)) (or-none _ _ (off 10) .0) in
     record {
       kind = ltb-false 5 (i .kind) (off 5);
       source = ltb-false 4 (i .source) (or-none _ _ (or-none _ _ (off 6) .0) .0);
-      code = not-false (permitted (i .code)) (or-none _ _ (or-none _ _ (off 10) .0) .0);
+      code = not-false (permitted (i .code)) (pass .0);
+      unshifted = λ t. eqb-true (i .code) 0 (not-false (eqb (i .code) 0) (and-none (stores i) (not (eqb (i .code) 0)) (pass .1) t));
       logic = λ z. choice (i .kind) (i .logic) z (or-none _ _ (off 11) .0);
     }
   where

@@ -217,28 +217,33 @@ gathered mem bytes m g e =
     ∙ ap₂ (λ (x y : ℕ). getD mem (spot m g x y) 0) lo hi)
     ∙ read-group mem m g i j hj))
 
--- ---- the loop that spreads an item
+-- ---- the loops that spread an item
 
--- one lane more, in the part that was lent on
-pub spread-more : (f : ℕ → ℕ) (m g t w p s : ℕ) (out ys : List ℕ) → t < 8 → length out ≡ 256 → w ≡ t → p ≡ bitXor (g % 8) t → s ≡ placeOf m g t
-    → take (32 * t) out ≡ listed (λ n. laneByte f m g (n % 32) (n / 32)) (32 * t)
-    → ys ≡ listed (λ i. f (8 * i + p) * 2 ^ s) 32
-    → take (32 * (t + 1)) (putMid (32 * w) (32 * w + 32 - 32 * w) out ys) ≡ listed (λ n. laneByte f m g (n % 32) (n / 32)) (32 * (t + 1))
-spread-more f m g t w p s out ys h size ew ep es e ey =
-    let φ : ℕ → ℕ = λ n. laneByte f m g (n % 32) (n / 32) in
+-- a lane as it is made, at the places that the code computed; c is what is made of each byte, to be put or to be kept
+pub lane-made : (f c : ℕ → ℕ) (m g t p s : ℕ) → p ≡ bitXor (g % 8) t → s ≡ placeOf m g t
+    → listed (λ i. c (f (8 * i + p) * 2 ^ s)) 32 ≡ listed (λ i. c (laneByte f m g i t)) 32
+lane-made f c m g t p s ep es = ap₂ (λ (x y : ℕ). listed (λ i. c (f (8 * i + x) * 2 ^ y)) 32) ep es
+
+-- one lane more, in the part that was lent on: lane i t is byte i of lane t
+pub lane-more : (lane : ℕ → ℕ → ℕ) (t w : ℕ) (out ys : List ℕ) → t < 8 → length out ≡ 256 → w ≡ t
+    → take (32 * t) out ≡ listed (λ n. lane (n % 32) (n / 32)) (32 * t)
+    → ys ≡ listed (λ i. lane i t) 32
+    → take (32 * (t + 1)) (putMid (32 * w) (32 * w + 32 - 32 * w) out ys) ≡ listed (λ n. lane (n % 32) (n / 32)) (32 * (t + 1))
+lane-more lane t w out ys h size ew e ey =
+    let φ : ℕ → ℕ = λ n. lane (n % 32) (n / 32) in
     let n : 32 * (t + 1) ≡ 32 * w + 32 = omega arith in
     let k : 32 ≡ 32 * w + 32 - 32 * w = omega arith in
     ap (λ (x : ℕ). take x (putMid (32 * w) (32 * w + 32 - 32 * w) out ys)) n
     ∙ part-more φ out (32 * w) (32 * w + 32) ys (omega arith) (omega arith)
     (ap (λ (x : ℕ). take (32 * x) out) ew ∙ e ∙ sym (ap (λ (x : ℕ). listed φ (32 * x)) ew))
-    (ey ∙ listed-ext (λ i. f (8 * i + p) * 2 ^ s) (λ i. φ (32 * w + i)) 32 same ∙ ap (listed (λ i. φ (32 * w + i))) k)
+    (ey ∙ listed-ext (λ i. lane i t) (λ i. φ (32 * w + i)) 32 same ∙ ap (listed (λ i. φ (32 * w + i))) k)
     ∙ sym (ap (listed φ) n)
   where
-    same : (i : ℕ) → i < 32 → f (8 * i + p) * 2 ^ s ≡ laneByte f m g ((32 * w + i) % 32) ((32 * w + i) / 32)
+    same : (i : ℕ) → i < 32 → lane i t ≡ lane ((32 * w + i) % 32) ((32 * w + i) / 32)
     same i hi =
         let lo : (32 * w + i) % 32 ≡ i = omega arith in
         let hi : (32 * w + i) / 32 ≡ t = omega arith in
-        ap₂ (λ (x y : ℕ). f (8 * i + x) * 2 ^ y) ep es ∙ sym (ap₂ (laneByte f m g) lo hi)
+        sym (ap₂ lane lo hi)
 
 -- ---- the loop that makes the first byte of each lane
 

@@ -24,7 +24,7 @@ lineOf g c = bitXor g c
 abbrev pub readBit : (ℕ → ℕ → ℕ) → ℕ → ℕ → ℕ → ℕ
 readBit chips m g p = chips (chipOf g p) (localOf m g (chipOf g p))
 
--- What location B of chip C holds after a store. Document 01, Instructions: "line P's bit goes where line P points. A masked store writes only bits whose M bit is 1": the line that meets the chip writes its bit f at the local address, if its mask bit is 1; all else stays.
+-- What location B of chip C holds after a store. Document 01, Instructions: "line P's bit goes where line P points"; document 02, Three: "a masked store writes line P's bit exactly if M's bit P is 1". The line that meets the chip writes its bit f at the local address, if its mask bit is 1; all else stays.
 abbrev pub storedBit : (ℕ → ℕ → ℕ) → ℕ → ℕ → (ℕ → ℕ) → (ℕ → ℕ) → ℕ → ℕ → ℕ
 storedBit chips m g mask f c b =
     cond (eqb b (localOf m g c) && eqb (mask (lineOf g c)) 1) (f (lineOf g c)) (chips c b)

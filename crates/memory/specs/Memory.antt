@@ -1,7 +1,6 @@
 -- The memory of 256 chips of 256 locations as 8,192 lent bytes: what a load gives and what a store leaves. Document 01, Memory and Instructions.
 use mathlib.Core.List.{List}
 use Prim.Native.Nat.{ℕ, _+_, _*_, _/_, _%_}
-use lib.Bits.{bitXor}
 use Rattle.bits.specs.Bits.{bitOf, pack}
 use Rattle.memory.specs.Access.{storedBit}
 
@@ -16,7 +15,3 @@ stored mem m g mask f = pack (λ k. storedBit (cell mem) m g mask f (k / 256) (k
 -- The mask of a store that is not masked.
 abbrev pub every : ℕ → ℕ
 every p = 1
-
--- The mask rule, and the only place that says whose M bit is meant. Document 01, Instructions: "The M bit is that of the line the bit came from, before the flip": line p of an item flipped by F came from line p xor F.
-abbrev pub maskOf : List ℕ → ℕ → ℕ → ℕ
-maskOf m f p = bitOf m (bitXor p f)

@@ -12,7 +12,7 @@ ghost use Prim.Native.Nat.{_/_, _%_};
 ghost use lib.ListN.{length};
 ghost use Rattle.bits.specs.Bits.{bitOf, listed, item};
 ghost use Rattle.memory.specs.Access.{readBit};
-ghost use Rattle.memory.specs.Memory.{cell, stored, every, maskOf};
+ghost use Rattle.memory.specs.Memory.{cell, stored, every};
 ghost use Rattle.memory.specs.Groups.{keepByte};
 
 // The item that is read under a mode and an address: line P has the bit that it meets.
@@ -59,11 +59,4 @@ pub fn store(mem: &mut [u8], mode: u8, addr: u8, item: &[u8; 32])
     let put = spreading::spread(item, mode, addr);
     let keep = spreading::kept_by_all(mode, addr);
     writing::write_all(mem, mode, addr, 1, &keep, &put);
-}
-
-// Which lines of an item flipped by `f` a masked store writes, by the rule of document 01.
-pub fn line_mask(m: &[u8; 32], f: u8) -> [u8; 32]
-    ensures { λ r. ⌜ r ≡ item (maskOf (now (m .entry)) f) ⌝ }
-{
-    bits::flips::flip(m, f)
 }

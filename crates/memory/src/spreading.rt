@@ -2,6 +2,7 @@
 use super::places::partner;
 use super::places::place_of;
 use super::places::wide;
+use bits::lanes::clear_lane;
 use bits::lanes::spread_lane;
 ghost use mathlib.Core.Path.{_≡_};
 ghost use Prim.Native.Nat.{ℕ, _*_, _/_, _%_, _<_};
@@ -47,12 +48,17 @@ pub fn masked<'a>(item: &'a [u8; 32], mask: &'a [u8; 32]) -> [u8; 32]
 pub fn kept(mask: &[u8; 32], mode: u8, addr: u8) -> [u8; 256]
     ensures { λ r. ⌜ r ≡ listed (λ n. keepByte (bitOf (now (mask .entry))) mode addr (n % 32) (n / 32)) 256 ⌝ }
 {
-    let lanes = spread(mask, mode, addr);
     let mut out = [0u8; 256];
-    let mut n: usize = 0;
-    while n < 256 {
-        out[n] = lanes[n] ^ 255;
-        n += 1;
+    let mut t: u8 = 0;
+    while t < 8 {
+        let from = 32 * wide(t);
+        clear_lane(
+            mask,
+            partner(addr, t),
+            place_of(mode, addr, t),
+            &mut out[from..from + 32],
+        );
+        t += 1;
     }
     out
 }

@@ -1,22 +1,25 @@
 -- An act, from what its parts leave; what the judge has seen to before it. Assumes nothing.
-use mathlib.Core.Path.{_≡_, refl, sym, ap, _∙_}
+use mathlib.Core.Path.{_≡_, refl, sym, ap, subst, _∙_}
 use mathlib.Core.Bool.{Bool, true, false, cond, _||_, false≢true}
 use mathlib.Core.List.{List}
 use Prim.Native.Nat.{ℕ, zero, suc, _+_, _<_, _≤_}
 use native.Mathlib.Omega.{arith}
 use native.Mathlib.Decide.{ℕ-discrete}
 use lib.Dec.{eqb}
-use Rattle.bits.specs.Bits.{bitOf, item}
-use Rattle.bits.proofs.Items.{bitOf-bit, bitOf-pack}
-use Rattle.memory.specs.Memory.{stored, every, maskOf}
-use Rattle.memory.proofs.MemoryLaws.{stored-ext}
+use Rattle.bits.specs.Bits.{bitOf, flipped}
+use Rattle.bits.proofs.Items.{bitOf-bit}
+use Rattle.memory.specs.Table.{table, lineBit, lineWord, Updated}
+use Rattle.memory.specs.Memory.{cell, stored, every}
+use Rattle.memory.proofs.TableDemand.{store-updates-table}
 use Rattle.network.specs.Answer.{passedItem}
+use Rattle.network.proofs.AnswerLaws.{passedItem-flipped}
 use Rattle.registers.specs.declared.Registers.{Registers}
 use Rattle.registers.specs.Rows.{withM}
 use Rattle.registers.specs.Logic.{logicOf}
 use Rattle.registers.specs.Resolver.{resolved}
 use Rattle.judge.specs.declared.Instruction.{Instruction}
-use Rattle.judge.specs.Judge.{takes, gives}
+use Rattle.judge.specs.Judge.{takes, gives, faultOf}
+use Rattle.judge.proofs.Accepted.{well-formed}
 use Rattle.module.specs.Act.{State, partAt, putPart, modeOf, held, heldItem, sourceItem, passedBy, regsAfter, memAfter, outAfter, after, acted}
 
 -- ---- the source
@@ -37,17 +40,6 @@ module _ (i : Instruction) (mem items : List ℕ) (r : Registers) (taken : ℕ) 
   pub passed-held : takes i ≡ false → (x : List ℕ) → x ≡ heldItem i mem r → passedItem x (i .flip) (i .code) ≡ passedBy i mem items r taken
   unfolding passedBy sourceItem
   passed-held t x e = ap (λ (l : List ℕ). passedItem l (i .flip) (i .code)) (e ∙ sym (ap (λ (b : Bool). cond b (partAt items taken) (heldItem i mem r)) t))
-
--- ---- a masked store by an item of mask bits
-
-mask-bits : (m : List ℕ) (f p : ℕ) → p < 256 → bitOf (item (maskOf m f)) p ≡ maskOf m f p
-mask-bits m f p h = bitOf-pack (maskOf m f) (λ k. bitOf-bit m _) 32 p h
-
-pub stored-by-mask : (mem : List ℕ) (mode addr : ℕ) (m f mask : List ℕ) (flip : ℕ) → addr < 256 → mask ≡ item (maskOf m flip)
-    → stored mem mode addr (bitOf mask) (bitOf f) ≡ stored mem mode addr (maskOf m flip) (bitOf f)
-stored-by-mask mem mode addr m f mask flip h e =
-    ap (λ (k : List ℕ). stored mem mode addr (bitOf k) (bitOf f)) e
-    ∙ stored-ext mem mode addr (bitOf (item (maskOf m flip))) (maskOf m flip) (bitOf f) (bitOf f) h (mask-bits m flip) (λ p l. refl)
 
 -- ---- the out buffer
 
@@ -114,7 +106,7 @@ module _ (i : Instruction) (items : List ℕ) (s : State) where
         mem =
             let mode = modeOf i (s .regs) in
             cond (eqb n 2) (stored (s .mem) mode (i .addr) every (bitOf f))
-            (cond (eqb n 3) (stored (s .mem) mode (i .addr) (maskOf (s .regs .m) (i .flip)) (bitOf f)) (s .mem));
+            (cond (eqb n 3) (stored (s .mem) mode (i .addr) (bitOf (s .regs .m)) (bitOf f)) (s .mem));
         out = cond (eqb n 4) (putPart (s .out) (s .given) f) (cond (eqb n 5) (putPart (s .out) (s .given) (resolved (bitOf (s .regs .y)))) (s .out));
         regs = cond (eqb n 0) (logicOf (s .regs) f (i .logic)) (cond (eqb n 1) (withM (s .regs) f) (s .regs));
         taken = s .taken + cond (takes i) 1 0;
@@ -124,3 +116,23 @@ module _ (i : Instruction) (items : List ℕ) (s : State) where
   pub acted-kind : (n : ℕ) → i .kind ≡ n → acted i items s ≡ byKind (passedBy i (s .mem) items (s .regs) (s .taken)) n
   unfolding acted memAfter outAfter regsAfter
   acted-kind n e = ap (byKind (passedBy i (s .mem) items (s .regs) (s .taken))) e
+
+  -- a masked store in the unscrambled table: line p by M's bit p, and its bit from the source item's line across the flip
+  pub masks-by-line : i .kind ≡ 3 → faultOf i ≡ 0 → modeOf i (s .regs) < 256 → i .addr < 256
+      → Updated 8 (modeOf i (s .regs)) (i .addr) (bitOf (s .regs .m)) (flipped (sourceItem i (s .mem) items (s .regs) (s .taken)) (i .flip))
+      (table (cell (s .mem))) (table (cell (acted i items s .mem)))
+  unfolding passedBy
+  masks-by-line e good hm hg =
+      let mode = modeOf i (s .regs) in
+      let mask = bitOf (s .regs .m) in
+      let l = sourceItem i (s .mem) items (s .regs) (s .taken) in
+      let f = passedBy i (s .mem) items (s .regs) (s .taken) in
+      let u = store-updates-table (s .mem) mode (i .addr) mask (bitOf f) hm hg (bitOf-bit f) in
+      let code0 = well-formed i good .unshifted (ap (λ (k : ℕ). eqb k 2 || eqb k 3) e) in
+      subst (λ (x : List ℕ). Updated 8 mode (i .addr) mask (flipped l (i .flip)) (table (cell (s .mem))) (table (cell x)))
+      (sym (ap (λ (t : State). t .mem) (acted-kind 3 e)))
+      (record {
+        lines = λ p hp. u .lines p hp
+            ∙ ap (λ (b : ℕ). cond (eqb (mask p) 1) b (table (cell (s .mem)) (lineWord 8 mode (i .addr) p) (lineBit 8 mode (i .addr) p))) (passedItem-flipped l (i .flip) (i .code) p code0 hp);
+        others = u .others;
+      })

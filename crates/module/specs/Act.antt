@@ -6,7 +6,7 @@ use lib.Dec.{eqb}
 use lib.ListN.{take, drop}
 use Rattle.bits.specs.Bits.{bitOf, item}
 use Rattle.memory.specs.Access.{readBit}
-use Rattle.memory.specs.Memory.{cell, stored, every, maskOf}
+use Rattle.memory.specs.Memory.{cell, stored, every}
 use Rattle.network.specs.Answer.{passedItem}
 use Rattle.registers.specs.declared.Registers.{Registers}
 use Rattle.registers.specs.Rows.{withM}
@@ -58,11 +58,11 @@ passedBy i mem items r taken = passedItem (sourceItem i mem items r taken) (i .f
 unfoldable pub regsAfter : Instruction → Registers → List ℕ → Registers
 regsAfter i r f = cond (eqb (i .kind) logic) (logicOf r f (i .logic)) (cond (eqb (i .kind) setM) (withM r f) r)
 
--- The memory, under a mode: kind 2 stores at all lines, kind 3 at those that the mask rule gives for M and the flip.
+-- The memory, under a mode: kind 2 stores at all lines. Kind 3, document 02, Three: "a masked store writes line P's bit exactly if M's bit P is 1". P is the line that points at the memory's bit, after the flip: the item has passed, and M has not.
 unfoldable pub memAfter : Instruction → ℕ → List ℕ → List ℕ → List ℕ → List ℕ
 memAfter i mode mem m f =
     cond (eqb (i .kind) store) (stored mem mode (i .addr) every (bitOf f))
-    (cond (eqb (i .kind) maskedStore) (stored mem mode (i .addr) (maskOf m (i .flip)) (bitOf f)) mem)
+    (cond (eqb (i .kind) maskedStore) (stored mem mode (i .addr) (bitOf m) (bitOf f)) mem)
 
 -- The out buffer: kind 4 puts the item out, kind 5 what the resolver says of Y.
 unfoldable pub outAfter : Instruction → List ℕ → ℕ → List ℕ → List ℕ → List ℕ

@@ -91,7 +91,7 @@ fn turn(i: Instruction, r: Registers, f: &[u8; 32]) -> Registers
     r
 }
 
-// The memory after it: store and masked store change it.
+// The memory after it: store and masked store change it. M is the mask as it is: only the item has passed.
 fn keep<'a>(mem: &mut [u8], i: Instruction, mode: u8, m: &'a [u8; 32], f: &'a [u8; 32])
     requires { ⌜ length (now mem) ≡ memoryBytes ⌝ }
     ensures { λ r. ⌜ now (mem .exit) ≡ memAfter i mode (now (mem .entry)) (now (m .entry)) (now (f .entry)) ⌝ }
@@ -101,8 +101,7 @@ fn keep<'a>(mem: &mut [u8], i: Instruction, mode: u8, m: &'a [u8; 32], f: &'a [u
         return;
     }
     if i.kind == MASKED_STORE {
-        let mask = memory::line_mask(m, i.flip);
-        memory::store_masked(mem, mode, i.addr, f, &mask);
+        memory::store_masked(mem, mode, i.addr, f, m);
     }
 }
 

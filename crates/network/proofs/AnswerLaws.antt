@@ -118,6 +118,10 @@ pub bitOf-passedItem : (l : List ℕ) (f c k : ℕ) → permitted c ≡ true →
 bitOf-passedItem l f c k t h =
     ap (λ (x : List ℕ). bitOf x k) (passedItem-is l f c t) ∙ bitOf-pack (passed l f (c / 16) (c % 16)) (passed-bit l f (c / 16) (c % 16)) 32 k h
 
+-- with no shift it is the flipped item
+pub passedItem-flipped : (l : List ℕ) (f c k : ℕ) → c ≡ 0 → k < 256 → bitOf (passedItem l f c) k ≡ flipped l f k
+passedItem-flipped l f c k e h = ap (λ (x : List ℕ). bitOf x k) (sym (flip-none l f c e)) ∙ bitOf-pack (flipped l f) (λ i. bitOf-bit l _) 32 k h
+
 -- a pass with no flip and no shift leaves an item, and a flip undoes itself
 pub passed-idle : (l : List ℕ) → length l ≡ 32 → ((i : ℕ) → getD l i 0 < 256) → passedItem l 0 0 ≡ l
 passed-idle l n b = sym (stay-none l 0 refl ∙ flip-none l 0 0 refl) ∙ pack-bitOf l 32 n b

@@ -2,7 +2,6 @@
 use mathlib.Core.Path.{_≡_, refl, sym, ap, _∙_}
 use mathlib.Core.List.{List}
 use Prim.Native.Nat.{ℕ, _/_, _%_, _<_}
-use lib.ListN.{length}
 use Rattle.bits.specs.Bits.{bitOf}
 use Rattle.bits.proofs.Items.{bitOf-bit}
 use Rattle.memory.specs.Memory.{cell}
@@ -22,7 +21,7 @@ use Rattle.judge.specs.declared.Answer.{Answer}
 use Rattle.judge.specs.Judge.{judged}
 use Rattle.judge.proofs.Accepted.{run-done}
 use Rattle.module.specs.Run.{Lent, runLengths, ranBy, ranAll}
-use Rattle.module.proofs.ActLaws.{passed-source, acted-kind}
+use Rattle.module.proofs.ActLaws.{passed-source, acted-kind, masks-by-line}
 use Rattle.module.proofs.RunLaws.{ran-done, ran-refused}
 use Rattle.pictures.proofs.RoundTripDemand.{content-back, content-again, picture-back, picture-again}
 use Rattle.promises.specs.DemandTwo.{Choices, Runs, DemandTwo}
@@ -83,6 +82,7 @@ demand-two =
       acts = λ i items s.
           let by = acted-kind i items s in
           record { logic = by 0; setM = by 1; store = by 2; maskedStore = by 3; deliver = by 4; resolve = by 5 };
+      masks = masks-by-line;
       runs = a-run;
       disk = record { content = content-back; contentAgain = content-again; picture = picture-back; pictureAgain = picture-again };
     }

@@ -1,14 +1,27 @@
--- The table of starred examples of specs/Examples.antt: the crates' own Examples compute them. Assumes nothing.
-use mathlib.Core.Path.{ap, ap₂, _∙_}
+-- The examples of specs/Examples.antt: the crates' own Examples compute the starred ones; the office's is an instance of `masked-slice`. Assumes nothing.
+use mathlib.Core.Path.{_≡_, refl, ap, ap₂, _∙_}
+use mathlib.Core.Bool.{Bool, cond, _&&_}
 use mathlib.Core.List.{List}
-use Prim.Native.Nat.{ℕ, _+_, _-_, _*_, _/_, _%_}
-use lib.ListN.{take, drop}
+use Prim.Native.Nat.{ℕ, _+_, _-_, _*_, _/_, _%_, _<_}
+use native.Mathlib.Decide.{ℕ-discrete}
+use native.Mathlib.Omega.{arith}
+use borrow.Author.Tests.{eq-eqb, ne-eqb}
+use lib.Bits.{bitXor}
+use lib.Dec.{T, eqb, eqb→eq}
+use lib.ListN.{take, drop, replicate}
+use Rattle.bits.specs.Bits.{bitOf, flipped}
+use Rattle.bits.proofs.Tests.{all, all-at}
+use Rattle.memory.specs.Table.{table}
+use Rattle.memory.specs.Memory.{cell}
 use Rattle.memory.proofs.Examples.{mode-seven, mode-zero, mode-all}
 use Rattle.network.proofs.Examples.{passed-48, one-mod-8, eight-mod-256, back-31, half-is-flip, refused-136, refused-1}
+use Rattle.judge.specs.declared.Instruction.{Instruction}
+use Rattle.module.specs.Act.{State, partAt, modeOf, held, heldItem, sourceItem, acted}
 use Rattle.builders.proofs.Examples.{one-bit, the-fourth, stands, overlaps, reaches, goes-beyond}
+use Rattle.fields.proofs.LineLaws.{masked-slice}
 use Rattle.fields.proofs.SumRuns.{sum-built, difference-built, sum-listed}
 use Rattle.promises.proofs.DemandThree.{demand-three}
-use Rattle.promises.specs.Examples.{Starred}
+use Rattle.promises.specs.Examples.{Starred, Mirrors, EverySecond}
 
 pub starred : Starred
 starred =
@@ -35,3 +48,63 @@ starred =
       lastField = λ buffer. (sum-built 192 192 192 64 reaches buffer, difference-built 192 192 192 64 reaches buffer);
       pastTheWord = goes-beyond;
     }
+
+-- ---- every second station, mirrored
+
+-- 85 in every byte is a 1 at the even numbers, and 255 across a number is 255 less it: two tests, at each of the 256 stations
+second : ℕ → Bool
+second w = eqb (bitOf (replicate 32 85) w) (1 - w % 2)
+
+mirror : ℕ → Bool
+mirror w = eqb (bitXor w 255) (255 - w)
+
+seconds : T (all 256 second)
+unfolding second bitOf
+seconds = tt
+
+mirrors : T (all 256 mirror)
+unfolding mirror
+mirrors = tt
+
+module _ (i : Instruction) (items : List ℕ) (s : State) (m : Mirrors i s) where
+  across : ℕ → ℕ
+  across w = bitOf (s .regs .y) (255 - w)
+
+  from-y : sourceItem i (s .mem) items (s .regs) (s .taken) ≡ s .regs .y
+  unfolding sourceItem heldItem
+  from-y = ap (λ (n : ℕ). cond (eqb n 4) (partAt items (s .taken)) (held n (modeOf i (s .regs)) (i .addr) (s .mem) (s .regs))) (m .fromY)
+
+  marked : (w : ℕ) → w < 256 → bitOf (s .regs .m) w ≡ 1 - w % 2
+  unfolding second
+  marked w hw = ap (λ (x : List ℕ). bitOf x w) (m .everySecond) ∙ eqb→eq _ _ (all-at 256 second seconds w hw)
+
+  mirrored : (w : ℕ) → w < 256 → flipped (sourceItem i (s .mem) items (s .regs) (s .taken)) (i .flip) w ≡ across w
+  unfolding mirror across
+  mirrored w hw =
+      ap₂ (λ (x : List ℕ) (f : ℕ). flipped x f w) from-y (m .mirrored) ∙ ap (bitOf (s .regs .y)) (eqb→eq _ _ (all-at 256 mirror mirrors w hw))
+
+  station : (w b : ℕ) → w < 256 → b < 256
+      → table (cell (acted i items s .mem)) w b ≡ cond (eqb (1 - w % 2) 1 && eqb b (i .addr)) (across w) (table (cell (s .mem)) w b)
+  station w b hw hb =
+      masked-slice i items s (m .masked) (m .accepted) (m .slice) (m .bit) w b hw hb
+      ∙ ap₂ (λ (x y : ℕ). cond (eqb x 1 && eqb b (i .addr)) y (table (cell (s .mem)) w b)) (marked w hw) (mirrored w hw)
+
+  written : (w : ℕ) → w < 256 → w % 2 ≡ 0 → table (cell (acted i items s .mem)) w (i .addr) ≡ across w
+  written w hw e =
+      station w (i .addr) hw (m .bit)
+      ∙ ap₂ (λ (x : ℕ) (t : Bool). cond (eqb (1 - x) 1 && t) (across w) (table (cell (s .mem)) w (i .addr))) e (eq-eqb (i .addr) (i .addr) refl)
+
+  stays : (w b : ℕ) → w < 256 → b < 256 → (w % 2 ≡ 0 → b ≡ i .addr → ⊥) → table (cell (acted i items s .mem)) w b ≡ table (cell (s .mem)) w b
+  stays w b hw hb u = station w b hw hb ∙ go (ℕ-discrete (w % 2) 0) (ℕ-discrete b (i .addr))
+    where
+      go : Dec (w % 2 ≡ 0) → Dec (b ≡ i .addr) → cond (eqb (1 - w % 2) 1 && eqb b (i .addr)) (across w) (table (cell (s .mem)) w b) ≡ table (cell (s .mem)) w b
+      go (yes e) (yes q) = absurd (u e q)
+      go (yes e) (no q) =
+          ap₂ (λ (x : ℕ) (t : Bool). cond (eqb (1 - x) 1 && t) (across w) (table (cell (s .mem)) w b)) e (ne-eqb b (i .addr) q)
+      go (no v) d =
+          let odd : w % 2 ≡ 1 = omega arith in
+          ap (λ (x : ℕ). cond (eqb (1 - x) 1 && eqb b (i .addr)) (across w) (table (cell (s .mem)) w b)) odd
+
+pub every-second : EverySecond
+unfolding across
+every-second = record { written = written; stays = stays }

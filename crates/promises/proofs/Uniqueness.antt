@@ -121,9 +121,9 @@ module _ {M : Type 1} (𝓤 : URA M) (H : Heap 𝓤) (A : Atoms 𝓤) (memory : 
         numberOr = equation 𝓤 _ (λ κs a g r e. refl);
         copy = equation 𝓤 _ (λ κs a g r e. refl);
         itemOf = equation 𝓤 _ (λ κs a g r e. refl);
-        flip = equation 𝓤 _ (λ κs a g r e. refl);
         flipQuarters = equation 𝓤 _ (λ κs a g r e. refl);
         spreadLane = equation 𝓤 _ (λ κs a g r e. refl);
+        clearLane = equation 𝓤 _ (λ κs a g r e. refl);
         gatherLane = equation 𝓤 _ (λ κs a g r e. refl);
         keepLane = equation 𝓤 _ (λ κs a g r e. refl);
         quartersOf = equation 𝓤 _ (λ κs a g r e. refl);
@@ -137,7 +137,6 @@ module _ {M : Type 1} (𝓤 : URA M) (H : Heap 𝓤) (A : Atoms 𝓤) (memory : 
         load = equation 𝓤 _ (λ κs a g r e. refl);
         store = equation 𝓤 _ (λ κs a g r e. refl);
         storeMasked = equation 𝓤 _ (λ κs a g r e. refl);
-        lineMask = equation 𝓤 _ (λ κs a g r e. refl);
         partner = equation-and 𝓤 _ _ (λ κs a g r e. refl);
         readAll = equation 𝓤 _ (λ κs a g r e. refl);
       }

@@ -1,5 +1,5 @@
--- Demand 2, on a page: "Storage, access, flips, shifts, register logic and resolver follow Batcher's published rules as document 01 states them. What is stored under one mode reads, under each of the 256 modes, as from an unscrambled table. Pictures, lists and items come back from disk as they were written."
--- The names are those of specs/. `Memory`, `Network` and `Logic` say what the parts do; `Acts` that an instruction does this and nothing else, by its source and its kind; `Runs` that a run is all of its instructions, one after the other, and so that `run`, which promises `ran`, does it; `Returns` is the disk. It is proved in proofs/DemandTwo.antt, and assumes nothing.
+-- Demand 2, on a page: "Storage, access, flips, shifts, register logic and resolver follow Batcher's published rules as document 01 states them. What is stored under one mode reads, under each of the 256 modes, as from an unscrambled table. Pictures, lists and items come back from disk as they were written." Document 02, Three, puts its rule of the masked store in place of document 01's: "Demand 2 reads with this rule."
+-- The names are those of specs/. `Memory`, `Network` and `Logic` say what the parts do; `Acts` that an instruction does this and nothing else, by its source and its kind; `MasksByLine` whose M bit a masked store asks; `Runs` that a run is all of its instructions, one after the other, and so that `run`, which promises `ran`, does it; `Returns` is the disk. It is proved in proofs/DemandTwo.antt, and assumes nothing.
 use mathlib.Core.Path.{_≡_}
 use mathlib.Core.Bool.{true, cond}
 use mathlib.Core.List.{List, _∷_}
@@ -7,10 +7,10 @@ use mathlib.Core.Logic.{_⊎_, _≢_}
 use Prim.Native.Nat.{ℕ, suc, _+_, _*_, _/_, _%_, _^_, _<_, _≤_}
 use lib.Dec.{eqb}
 use lib.ListN.{length, take, replicate}
-use Rattle.bits.specs.Bits.{bitOf, item}
+use Rattle.bits.specs.Bits.{bitOf, item, flipped}
 use Rattle.memory.specs.Access.{wordAt, readBit}
 use Rattle.memory.specs.Table.{table, lineBit, lineWord, Updated}
-use Rattle.memory.specs.Memory.{cell, stored, every, maskOf}
+use Rattle.memory.specs.Memory.{cell, stored, every}
 use Rattle.network.specs.Shifts.{permitted}
 use Rattle.network.specs.Pass.{moved}
 use Rattle.network.specs.Wired.{wired, wiredItem}
@@ -20,8 +20,8 @@ use Rattle.registers.specs.Rows.{registersOf, bytesOf, withM}
 use Rattle.registers.specs.Logic.{functionBit, newX, newY, logicOf}
 use Rattle.registers.specs.Resolver.{resolved}
 use Rattle.judge.specs.declared.Instruction.{Instruction}
-use Rattle.judge.specs.Judge.{instructionAt, takes, gives, done, judged}
-use Rattle.module.specs.Act.{State, modeOf, partAt, putPart, passedBy, acted}
+use Rattle.judge.specs.Judge.{instructionAt, takes, gives, done, faultOf, judged}
+use Rattle.module.specs.Act.{State, modeOf, partAt, putPart, sourceItem, passedBy, acted}
 use Rattle.module.specs.Run.{Lent, unmoved, runLengths, begun, ranBy, ran}
 use Rattle.blocks.specs.Sums.{at}
 use Rattle.contents.specs.File.{pictureKind, pictureBytes, done as put}
@@ -106,9 +106,19 @@ pub record Acts (i : Instruction) (items f : List ℕ) (s : State) : Type 0 wher
   pub logic : i .kind ≡ 0 → acted i items s ≡ left i s (s .mem) (s .out) (logicOf (s .regs) f (i .logic))
   pub setM : i .kind ≡ 1 → acted i items s ≡ left i s (s .mem) (s .out) (withM (s .regs) f)
   pub store : i .kind ≡ 2 → acted i items s ≡ left i s (stored (s .mem) (modeOf i (s .regs)) (i .addr) every (bitOf f)) (s .out) (s .regs)
-  pub maskedStore : i .kind ≡ 3 → acted i items s ≡ left i s (stored (s .mem) (modeOf i (s .regs)) (i .addr) (maskOf (s .regs .m) (i .flip)) (bitOf f)) (s .out) (s .regs)
+  pub maskedStore : i .kind ≡ 3 → acted i items s ≡ left i s (stored (s .mem) (modeOf i (s .regs)) (i .addr) (bitOf (s .regs .m)) (bitOf f)) (s .out) (s .regs)
   pub deliver : i .kind ≡ 4 → acted i items s ≡ left i s (s .mem) (putPart (s .out) (s .given) f) (s .regs)
   pub resolve : i .kind ≡ 5 → acted i items s ≡ left i s (s .mem) (putPart (s .out) (s .given) (resolved (bitOf (s .regs .y)))) (s .regs)
+
+-- Document 02, Three: "a masked store writes line P's bit exactly if M's bit P is 1." P is the line that points at the memory's bit, after the flip F, and only the source item goes through the network: where M's bit P is 1, the bit that line P meets becomes the source item's bit P xor F; every other bit of the table stays. Of any masked store that no row of 5 to 11 refuses; mode and address are bytes.
+abbrev pub MasksByLine : Instruction → List ℕ → State → Type 0
+MasksByLine i items s =
+    i .kind ≡ 3 → faultOf i ≡ 0 → modeOf i (s .regs) < 256 → i .addr < 256
+    → Updated 8 (modeOf i (s .regs)) (i .addr)
+    (bitOf (s .regs .m))
+    (flipped (sourceItem i (s .mem) items (s .regs) (s .taken)) (i .flip))
+    (table (cell (s .mem)))
+    (table (cell (acted i items s .mem)))
 
 -- ---- a run
 
@@ -155,5 +165,6 @@ pub record DemandTwo : Type 0 where
   pub registers : Logic
   pub sources : (i : Instruction) (mem items : List ℕ) (r : Registers) (taken : ℕ) → Sources i mem items r taken
   pub acts : (i : Instruction) (items : List ℕ) (s : State) → Acts i items (passedBy i (s .mem) items (s .regs) (s .taken)) s
+  pub masks : (i : Instruction) (items : List ℕ) (s : State) → MasksByLine i items s
   pub runs : (l : Lent (List ℕ)) → Runs l
   pub disk : Returns

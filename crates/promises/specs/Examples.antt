@@ -1,15 +1,19 @@
--- The starred examples of document 01 as one table, in the document's order: its sentences, and of what each is. Sums and differences are those of a run of the list that a builder wrote. It is proved in proofs/Examples.antt, and assumes nothing.
+-- The starred examples of document 01 as one table, in the document's order: its sentences, and of what each is; sums and differences are those of a run of the list that a builder wrote. Then the office's example of document 02, Three. Both are proved in proofs/Examples.antt, and assume nothing.
 use mathlib.Core.Path.{_≡_}
 use mathlib.Core.List.{List, [], _∷_}
-use Prim.Native.Nat.{ℕ, _*_, _<_, _≤_}
+use Prim.Native.Nat.{ℕ, _-_, _*_, _%_, _<_, _≤_}
 use lib.ListN.{length, take, drop, replicate}
 use Rattle.bits.specs.Bits.{bitOf, item}
 use Rattle.memory.specs.Access.{chipOf}
-use Rattle.memory.specs.Table.{lineBit, lineWord}
+use Rattle.memory.specs.Table.{table, lineBit, lineWord}
+use Rattle.memory.specs.Memory.{cell}
 use Rattle.network.specs.Pass.{moved, passed}
 use Rattle.network.specs.Answer.{answer}
 use Rattle.registers.specs.Rows.{registersOf}
+use Rattle.judge.specs.declared.Instruction.{Instruction}
+use Rattle.judge.specs.Judge.{faultOf}
 use Rattle.builders.specs.Sums.{sumBuilt, differenceBuilt}
+use Rattle.module.specs.Act.{State, acted}
 use Rattle.module.specs.Run.{Lent}
 use Rattle.fields.specs.Value.{value, listOf, sumRun, differenceRun}
 use Rattle.promises.specs.DemandThree.{Given}
@@ -54,3 +58,20 @@ pub record Starred : Type 0 where
   pub pastTheWord : (buffer : List ℕ) → (sumBuilt 193 192 192 64 buffer ≡ record { answer = record { number = 31; count = 0 }; list = buffer })
       × (sumBuilt 192 193 192 64 buffer ≡ record { answer = record { number = 31; count = 0 }; list = buffer })
       × (differenceBuilt 192 192 193 64 buffer ≡ record { answer = record { number = 31; count = 0 }; list = buffer })
+
+-- Document 02, Three: "Our old list for editing every second station writes the wrong half when it mirrors." What it comes to: a masked store of Y into one bit of every station, with flip 255, where M marks the stations 0, 2, 4 and so on.
+pub record Mirrors (i : Instruction) (s : State) : Type 0 where
+  pub masked : i .kind ≡ 3
+  pub fromY : i .source ≡ 3
+  pub slice : i .mode ≡ 0
+  pub bit : i .addr < 256
+  pub mirrored : i .flip ≡ 255
+  pub accepted : faultOf i ≡ 0
+  pub everySecond : s .regs .m ≡ replicate 32 85
+
+-- Now the half that M marks is written, whatever the memory held: that bit of a marked station becomes the Y bit of the station across, and every other bit of every station stays.
+pub record EverySecond : Type 0 where
+  pub written : (i : Instruction) (items : List ℕ) (s : State) → Mirrors i s
+      → (w : ℕ) → w < 256 → w % 2 ≡ 0 → table (cell (acted i items s .mem)) w (i .addr) ≡ bitOf (s .regs .y) (255 - w)
+  pub stays : (i : Instruction) (items : List ℕ) (s : State) → Mirrors i s
+      → (w b : ℕ) → w < 256 → b < 256 → (w % 2 ≡ 0 → b ≡ i .addr → ⊥) → table (cell (acted i items s .mem)) w b ≡ table (cell (s .mem)) w b

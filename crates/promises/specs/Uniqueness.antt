@@ -19,9 +19,9 @@ use Rattle.bits.proofs.choices.one_if as one_if
 use Rattle.bits.proofs.choices.number_or as number_or
 use Rattle.bits.proofs.copies.copy as copy
 use Rattle.bits.proofs.copies.item_of as item_of
-use Rattle.bits.proofs.flips.flip as flip
 use Rattle.bits.proofs.flips.flip_quarters as flip_quarters
 use Rattle.bits.proofs.lanes.spread_lane as spread_lane
+use Rattle.bits.proofs.lanes.clear_lane as clear_lane
 use Rattle.bits.proofs.lanes.gather_lane as gather_lane
 use Rattle.bits.proofs.lanes.keep_lane as keep_lane
 use Rattle.bits.proofs.quarters.quarters_of as quarters_of
@@ -30,7 +30,6 @@ use Rattle.bits.proofs.quarters.mix as mix_quarter
 use Rattle.memory.proofs.load as load
 use Rattle.memory.proofs.store as store
 use Rattle.memory.proofs.store_masked as store_masked
-use Rattle.memory.proofs.line_mask as line_mask
 use Rattle.memory.proofs.places.partner as partner
 use Rattle.memory.proofs.reading.read_all as read_all
 use Rattle.words.proofs.words_out as words_out
@@ -184,9 +183,9 @@ module _ {M : Type 1} (𝓤 : URA M) (H : Heap 𝓤) (A : Atoms 𝓤) (memory : 
     pub numberOr : OneOutcome 𝓤 number_or.ended (number_or.clauses 𝓤 H A memory runs) (λ κs r e. r)
     pub copy : OneOutcome 𝓤 copy.ended (copy.clauses 𝓤 H A memory runs) (λ κs r e. now (e .1 .0))
     pub itemOf : OneOutcome 𝓤 item_of.ended (item_of.clauses 𝓤 H A memory runs) (λ κs r e. r)
-    pub flip : OneOutcome 𝓤 flip.ended (flip.clauses 𝓤 H A memory runs) (λ κs r e. r)
     pub flipQuarters : OneOutcome 𝓤 flip_quarters.ended (flip_quarters.clauses 𝓤 H A memory runs) (λ κs r e. r)
     pub spreadLane : OneOutcome 𝓤 spread_lane.ended (spread_lane.clauses 𝓤 H A memory runs) (λ κs r e. now (e .1 .1 .1 .0))
+    pub clearLane : OneOutcome 𝓤 clear_lane.ended (clear_lane.clauses 𝓤 H A memory runs) (λ κs r e. now (e .1 .1 .1 .0))
     pub gatherLane : OneOutcome 𝓤 gather_lane.ended (gather_lane.clauses 𝓤 H A memory runs) (λ κs r e. r)
     pub keepLane : OneOutcome 𝓤 keep_lane.ended (keep_lane.clauses 𝓤 H A memory runs) (λ κs r e. r)
     pub quartersOf : OneOutcome 𝓤 quarters_of.ended (quarters_of.clauses 𝓤 H A memory runs) (λ κs r e. r)
@@ -198,7 +197,6 @@ module _ {M : Type 1} (𝓤 : URA M) (H : Heap 𝓤) (A : Atoms 𝓤) (memory : 
     pub load : OneOutcome 𝓤 load.ended (load.clauses 𝓤 H A memory runs) (λ κs r e. r)
     pub store : OneOutcome 𝓤 store.ended (store.clauses 𝓤 H A memory runs) (λ κs r e. now (e .0))
     pub storeMasked : OneOutcome 𝓤 store_masked.ended (store_masked.clauses 𝓤 H A memory runs) (λ κs r e. now (e .0))
-    pub lineMask : OneOutcome 𝓤 line_mask.ended (line_mask.clauses 𝓤 H A memory runs) (λ κs r e. r)
     pub partner : OneOutcome 𝓤 partner.ended (partner.clauses 𝓤 H A memory runs) (λ κs r e. r)
     pub readAll : OneOutcome 𝓤 read_all.ended (read_all.clauses 𝓤 H A memory runs) (λ κs r e. r)
 

@@ -1,12 +1,10 @@
 -- `spread_lane`: the bytes so far are the first of the lane.
-use mathlib.Core.Path.{_≡_, refl, sym, ap, _∙_}
-use Prim.Native.Nat.{ℕ, _≤_, _-_, _+_, _*_, _%_, _^_}
+use mathlib.Core.Path.{_≡_, refl}
+use Prim.Native.Nat.{_≤_, _-_, _+_, _*_, _^_}
 use lib.ListN.{length, take, length-set}
 use denote.Ref.{now}
-use lib.Pow.{shl-exact}
 use Rattle.bits.specs.Bits.{bitOf, listed}
-use Rattle.bits.proofs.Binary.{bit-lt}
-use Rattle.bits.proofs.Items.{fill-more, fill-done, bitOf-at, bitOf-bit}
+use Rattle.bits.proofs.Items.{fill-more, fill-done, bitOf-moved}
 use borrow.Author.Needs.{needs}
 use native.Mathlib.Omega.{arith}
 use Rattle.bits.proofs.lanes.spread_lane.Statement.{statement}
@@ -26,10 +24,7 @@ loop-again : tie.Need-loop-again Inv-loop μ-loop
 loop-again c =
     let a = c .before .before .before .before .before .args in
     let l = c .before .before .before .loop in
-    let v : c .moved-digit .result ≡ bitOf (now (a .item)) (8 * l .i + a .j) * 2 ^ a .s =
-    c .moved-digit .ensures
-    ∙ ap (λ (x : ℕ). x * 2 ^ a .s % 256) (sym (bitOf-at (now (a .item)) (l .i) (a .j) (omega arith)))
-    ∙ shl-exact 1 (a .s) 8 (bit-lt (bitOf-bit (now (a .item)) (8 * l .i + a .j))) (omega arith) in
+    let v = bitOf-moved (now (a .item)) (l .i) (a .j) (a .s) _ (omega arith) (omega arith) (c .moved-digit .ensures) in
     (omega arith, simp length-set (l .inv .1), fill-more _ (l .out) (l .i) _ (omega arith) (l .inv .2) v)
 
 returns : tie.Need-returns Inv-loop μ-loop

@@ -1,23 +1,24 @@
--- `kept`: the bytes so far are the first of the list, each made of the lanes' byte beside it.
-use mathlib.Core.Path.{_≡_, refl, ap, _∙_}
-use mathlib.Core.List.{List}
-use Prim.Native.Nat.{ℕ, _≤_, _-_, _/_, _%_}
+-- `kept`: each turn is one lane more.
+use mathlib.Core.Path.{_≡_, refl, _∙_}
+use Prim.Native.Nat.{_≤_, _-_, _+_, _*_, _/_, _%_}
 use lib.Bits.{bitXor}
-use lib.ListN.{length, getD, take, length-set}
+use lib.ListN.{length, take}
 use denote.Ref.{now}
+use borrow.Rule.Slice.PartMut.{same-len-mid}
 use Rattle.bits.specs.Bits.{bitOf, listed}
-use Rattle.bits.proofs.Items.{getD-listed, fill-more, fill-done}
-use Rattle.memory.specs.Groups.{laneByte, keepByte}
+use Rattle.bits.proofs.Items.{fill-done}
+use Rattle.memory.specs.Groups.{keepByte}
+use Rattle.memory.proofs.GroupLaws.{lane-made, lane-more}
 use borrow.Author.Needs.{needs}
 use native.Mathlib.Omega.{arith}
 use Rattle.memory.proofs.spreading.kept.Statement.{statement}
 use Rattle.memory.proofs.spreading.kept.Tie as tie
 
 abbrev Inv-loop : tie.InvT-loop
-Inv-loop mask mode addr lanes out₀ n₀ out n = (n ≤ 256) × (length out ≡ 256) × (take n out ≡ listed (λ k. keepByte (bitOf mask) mode addr (k % 32) (k / 32)) n)
+Inv-loop mask mode addr out₀ t₀ out t = (t ≤ 8) × (length out ≡ 256) × (take (32 * t) out ≡ listed (λ n. keepByte (bitOf mask) mode addr (n % 32) (n / 32)) (32 * t))
 
 abbrev μ-loop : tie.MeasureT-loop
-μ-loop mask mode addr lanes out₀ n₀ out n = 256 - n
+μ-loop mask mode addr out₀ t₀ out t = 8 - t
 
 loop-holds : tie.Need-loop-holds Inv-loop μ-loop
 unfolding listed
@@ -25,13 +26,17 @@ loop-holds c = (omega arith, refl, refl)
 
 loop-again : tie.Need-loop-again Inv-loop μ-loop
 loop-again c =
-    let a = c .before .before .before .args in
-    let l = c .before .loop in
-    let lanes = c .before .before .spread in
-    let v : getD (lanes .result) (l .n) 0 ≡ laneByte (bitOf (now (a .mask))) (a .mode) (a .addr) (l .n % 32) (l .n / 32) =
-    ap (λ (x : List ℕ). getD x (l .n) 0) (lanes .ensures)
-    ∙ getD-listed (λ k. laneByte (bitOf (now (a .mask))) (a .mode) (a .addr) (k % 32) (k / 32)) 256 (l .n) (omega arith) in
-    (omega arith, simp length-set (l .inv .1), fill-more _ (l .out) (l .n) _ (omega arith) (l .inv .2) (ap (λ (x : ℕ). bitXor x 255) v))
+    let a = c .before .before .before .before .before .before .before .before .args in
+    let l = c .before .before .before .before .before .before .before .loop in
+    let w = c .before .before .before .before .before .wide in
+    let p = c .before .before .before .before .partner in
+    let s = c .before .before .before .place-of in
+    let r = c .before .clear-lane in (
+      omega arith,
+      same-len-mid (32 * w .result) (32 * w .result + 32 - 32 * w .result) (l .out) (r .last .1 .1 .1 .0) (r .kept .1 .1 .1 .0) ∙ l .inv .1,
+      lane-more (keepByte (bitOf (now (a .mask))) (a .mode) (a .addr)) (l .t) (w .result) (l .out) _ (omega arith) (l .inv .1) (w .ensures) (l .inv .2)
+          (r .ensures ∙ lane-made (bitOf (now (a .mask))) (λ x. bitXor x 255) (a .mode) (a .addr) (l .t) (p .result) (s .result) (p .ensures .0) (s .ensures .0)),
+    )
 
 returns : tie.Need-returns Inv-loop μ-loop
 returns c = fill-done _ (c .before .loop .out) 256 _ (c .before .loop .inv .1) (omega arith) (c .before .loop .inv .2)
@@ -42,10 +47,16 @@ kept-spec =
     (tie.spec
     Inv-loop
     μ-loop
-    (λ c κs. search needs)
     loop-holds
+    (λ c κs. search needs)
+    (λ c. search needs)
+    (λ c κs. search needs)
+    (λ c κs. search needs)
     (λ c. search needs)
     (λ c. search needs)
+    (λ c. search needs)
+    (λ c. search needs)
+    (λ c κs. search needs)
     (λ c. search needs)
     (λ c. search needs)
     loop-again

@@ -7,7 +7,7 @@ use borrow.Rule.Slice.PartMut.{same-len-mid}
 use Rattle.bits.specs.Bits.{bitOf, listed}
 use Rattle.bits.proofs.Items.{fill-done}
 use Rattle.memory.specs.Groups.{laneByte}
-use Rattle.memory.proofs.GroupLaws.{spread-more}
+use Rattle.memory.proofs.GroupLaws.{lane-made, lane-more}
 use borrow.Author.Needs.{needs}
 use native.Mathlib.Omega.{arith}
 use Rattle.memory.proofs.spreading.spread.Statement.{statement}
@@ -33,7 +33,8 @@ loop-again c =
     let r = c .before .spread-lane in (
       omega arith,
       same-len-mid (32 * w .result) (32 * w .result + 32 - 32 * w .result) (l .out) (r .last .1 .1 .1 .0) (r .kept .1 .1 .1 .0) ∙ l .inv .1,
-      spread-more (bitOf (now (a .item))) (a .mode) (a .addr) (l .t) (w .result) (p .result) (s .result) (l .out) _ (omega arith) (l .inv .1) (w .ensures) (p .ensures .0) (s .ensures .0) (l .inv .2) (r .ensures),
+      lane-more (laneByte (bitOf (now (a .item))) (a .mode) (a .addr)) (l .t) (w .result) (l .out) _ (omega arith) (l .inv .1) (w .ensures) (l .inv .2)
+          (r .ensures ∙ lane-made (bitOf (now (a .item))) (λ x. x) (a .mode) (a .addr) (l .t) (p .result) (s .result) (p .ensures .0) (s .ensures .0)),
     )
 
 returns : tie.Need-returns Inv-loop μ-loop
