@@ -57,8 +57,8 @@
  *
  * The source item makes one pass, flip and then shift. Logic joins it to X and Y; set M puts it into M; a store writes line P's bit
  * where line P points under mode and address; a masked store writes line P's bit there exactly if bit P of M is 1, where P is the
- * line after the flip: M does not go through the network; deliver puts the item into the next 32 bytes of the out buffer. Resolve delivers
- * 1 if any bit of Y is set and else 0, then the smallest such number or 0, then thirty zeros. */
+ * line after the flip: M does not go through the network; deliver puts the item into the next 32 bytes of the out buffer. Resolve
+ * delivers 1 if any bit of Y is set and else 0, then the smallest such number or 0, then thirty zeros. */
 #ifndef STARAN_H
 #define STARAN_H
 
