@@ -148,6 +148,27 @@ M=[
                 self.words[word][bit] = item[line];
             }''','''            let (bit, word) = met(mode, address, line);
             self.words[word][bit] = item[line] && may_write[line];'''),
+# document 02, Four (the last responder for the first stands above): the count of zeros, 255 and 0 for none, each number
+# high byte first, the two exchanged, the count at most 255, modulo 256 and left out, activity always, never and from the
+# count's low byte, X or M for Y in each part, the count without the smallest, and the bytes behind not zero
+('machine.rs','filter(|&&bit| bit).count()','filter(|&&bit| !bit).count()'),
+('machine.rs','unwrap_or(256)','unwrap_or(255)'),
+('machine.rs','unwrap_or(256)','unwrap_or(0)'),
+('machine.rs','item[1] = (smallest % 256) as u8;\n        item[2] = (smallest / 256) as u8;','item[2] = (smallest % 256) as u8;\n        item[1] = (smallest / 256) as u8;'),
+('machine.rs','item[3] = (count % 256) as u8;\n        item[4] = (count / 256) as u8;','item[4] = (count % 256) as u8;\n        item[3] = (count / 256) as u8;'),
+('machine.rs','let mut item = [0u8; 32];','let (smallest, count) = (count, smallest);\n        let mut item = [0u8; 32];'),
+('machine.rs','filter(|&&bit| bit).count()','filter(|&&bit| bit).count().min(255)'),
+('machine.rs','item[4] = (count / 256) as u8;',''),
+('machine.rs','item[3] = (count % 256) as u8;\n        item[4] = (count / 256) as u8;\n','let _ = count;\n'),
+('machine.rs','self.y.contains(&true) as u8','1'),
+('machine.rs','self.y.contains(&true) as u8','0'),
+('machine.rs','self.y.contains(&true) as u8','(count % 256 != 0) as u8'),
+('machine.rs','self.y.iter().position','self.x.iter().position'),
+('machine.rs','self.y.iter().filter','self.x.iter().filter'),
+('machine.rs','self.y.iter().filter','self.m.iter().filter'),
+('machine.rs','self.y.contains(&true)','self.x.contains(&true)'),
+('machine.rs','self.y.iter().filter','self.y.iter().skip(smallest + 1).filter'),
+('machine.rs','let mut item = [0u8; 32];','let mut item = pack(&self.y);'),
 ]
 
 

@@ -5,6 +5,7 @@ mod case;
 mod plan;
 mod against;
 mod masks;
+mod resolves;
 mod searches;
 mod words;
 

@@ -15,7 +15,7 @@ fn turn(flip: u8) -> Instruction {
 }
 
 /// The item of these lines.
-fn lines(of: impl Fn(usize) -> bool) -> [u8; 32] {
+pub fn lines(of: impl Fn(usize) -> bool) -> [u8; 32] {
     let mut item = [0u8; 32];
     for line in (0..256).filter(|&line| of(line)) {
         item[line / 8] |= 1 << (line % 8);

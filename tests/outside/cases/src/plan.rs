@@ -32,8 +32,8 @@ impl Random {
 
 pub type Instruction = [u8; 8];
 
-const NOTHING: Instruction = [0, 2, 0, 0, 0, 0, 0, 0x0C];
-const RESOLVE: Instruction = [5, 0, 0, 0, 0, 0, 0, 0];
+pub const NOTHING: Instruction = [0, 2, 0, 0, 0, 0, 0, 0x0C];
+pub const RESOLVE: Instruction = [5, 0, 0, 0, 0, 0, 0, 0];
 
 fn codes() -> Vec<u8> {
     emulator::network::codes()
@@ -260,7 +260,7 @@ impl Plan {
     fn random_step(&mut self) -> Case {
         match self.r.below(5) {
             4 => {
-                // resolve with few responders or none
+                // resolve with few responders or none; fresh ones have others too (vary_responders)
                 let out = self.r.of(&[31usize, 32, 40]);
                 let mut case = self.step(&RESOLVE, 0, out);
                 case.zeros |= 1 << REGISTERS;
@@ -574,16 +574,23 @@ impl Plan {
         self.write_plain(asked, content, output)
     }
 
-    /// One random case of any family; one in eight is a search, one in sixteen a list of masked stores.
+    /// One random case of any family; one in eight is a search, one in sixteen a list of masked stores, one in
+    /// sixteen a list of resolves.
     fn random_case(&mut self) -> Case {
         match self.r.below(16) {
             0 | 1 => self.random_search(),
             2 => self.random_masks(),
-            _ => self.random_base(),
+            3 => self.random_resolves(),
+            _ => {
+                let mut case = self.random_base();
+                self.vary_responders(&mut case);
+                case
+            }
         }
     }
 
-    /// One random case of document 01, at times with some buffers of zeros.
+    /// One random case of document 01, at times with some buffers of zeros. The stored ones are made here, so what
+    /// it draws stays as it is.
     fn random_base(&mut self) -> Case {
         let mut case = self.random_family();
         if self.r.one_in(8) {
@@ -629,7 +636,7 @@ impl Plan {
     // ---- the planned cases
 
     /// The stored cases: those of document 01, planned and this many random ones, then the searches, then the
-    /// masked stores. What a later document adds stands behind, so that the cases before it stay.
+    /// masked stores, then the resolves. What a later document adds stands behind, so that the cases before it stay.
     pub fn stored(&mut self, random: usize) {
         self.planned();
         for _ in 0..random {
@@ -638,6 +645,7 @@ impl Plan {
         }
         self.all_searches();
         self.all_masks();
+        self.all_resolves();
     }
 
     fn planned(&mut self) {

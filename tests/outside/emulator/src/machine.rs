@@ -187,13 +187,18 @@ impl Module {
         }
     }
 
-    /// 1 if any Y bit is set, else 0; the smallest set Y number, 0 if none; thirty zeros.
+    /// Byte 0 is activity: 1 if any Y bit is 1, else 0. Bytes 1 and 2 are the smallest responder, low byte first,
+    /// 256 if there is none. Bytes 3 and 4 are the count of responders, 0 to 256, low byte first. Zeros after
+    /// (document 02, Four; reading G2).
     fn resolve(&self) -> [u8; 32] {
+        let smallest = self.y.iter().position(|&bit| bit).unwrap_or(256);
+        let count = self.y.iter().filter(|&&bit| bit).count();
         let mut item = [0u8; 32];
-        if let Some(first) = self.y.iter().position(|&bit| bit) {
-            item[0] = 1;
-            item[1] = first as u8;
-        }
+        item[0] = self.y.contains(&true) as u8;
+        item[1] = (smallest % 256) as u8;
+        item[2] = (smallest / 256) as u8;
+        item[3] = (count % 256) as u8;
+        item[4] = (count / 256) as u8;
         item
     }
 

@@ -333,7 +333,10 @@ fn the_program() {
     assert_eq!(write_picture(&[0; 8192], &[0; 96], &mut zero_picture).number, 0);
     let list = written(LIST, &[0, 2, 0, 0, 0, 0, 0, 0x1F, 5, 0, 0, 0, 0, 0, 0, 0]);
     let items = written(ITEMS, &[]);
-    let expected = "r 0 0 2 0 1\n0100000000000000000000000000000000000000000000000000000000000000\n";
+    // document 01's printed item line as document 02's Four makes it: 0100000001, then zeros
+    let item = "0100000001".to_string() + &"0".repeat(54);
+    assert_eq!(item.len(), 64);
+    let expected = format!("r 0 0 2 0 1\n{}\n", item);
     let (text, after) = program(Some(&zero_picture), Some(&list), Some(&items));
     assert_eq!(text, expected);
     let (answer, memory, registers) = read_pic(&after.unwrap(), 8192, 96);
@@ -341,6 +344,10 @@ fn the_program() {
     assert!(memory.iter().all(|&b| b == 0));
     assert!(registers[..64].iter().all(|&b| b == 0) && registers[64..].iter().all(|&b| b == 255));
     assert_eq!(program(Some(&zero_picture), Some(&list), None).0, expected);
+    // with nothing set in Y: none
+    let resolve = written(LIST, &[5, 0, 0, 0, 0, 0, 0, 0]);
+    let expected = format!("r 0 0 1 0 1\n{}{}\n", "0000010000", "0".repeat(54));
+    assert_eq!(program(Some(&zero_picture), Some(&resolve), None), (expected, Some(zero_picture.clone())));
     // absent list: the empty list, the same picture
     let (_, _, pic) = picture(&mut Random(81));
     assert_eq!(program(Some(&pic), None, None), ("r 0 0 0 0 0\n".to_string(), Some(pic.clone())));

@@ -469,25 +469,148 @@ fn the_mask_is_the_one_of_that_moment() {
     assert_eq!(bench.registers[..32], [0x0F; 32]);
 }
 
+const RESOLVE: [u8; 8] = [5, 0, 0, 0, 0, 0, 0, 0];
+
+/// What a resolve delivers with this Y: by a run and by a step, with all else at random. Both leave the bytes of
+/// out behind the item, Y, the other registers and the memory as they were.
+fn resolved(random: &mut Random, y: &[u8; 32]) -> [u8; 32] {
+    let behind = random.below(70) as usize;
+    let mut bench = Bench::random(random, 0, 32 + behind);
+    bench.registers[64..].copy_from_slice(y);
+    let before = bench.clone();
+    assert_eq!(bench.run(&RESOLVE), ok(1, 0, 1));
+    let mut item = [0; 32];
+    item.copy_from_slice(&bench.out[..32]);
+    assert!(bench.out[32..] == before.out[32..]);
+    assert!(bench.memory == before.memory && bench.registers == before.registers);
+
+    let mut other = before.clone();
+    let mut record = [0u8; 96];
+    record.copy_from_slice(&other.registers);
+    assert_eq!(step(&mut other.memory, &mut record, &RESOLVE, &[], &mut other.out), ok(1, 0, 1));
+    assert!(other.out == bench.out && other.memory == before.memory && record[..] == before.registers[..]);
+    item
+}
+
+/// The item of Four for these responders, smallest first: activity, the smallest, the count, zeros.
+fn four(responders: &[usize]) -> [u8; 32] {
+    let smallest = if responders.is_empty() { 256 } else { responders[0] as u16 };
+    let mut item = [0; 32];
+    item[0] = if responders.is_empty() { 0 } else { 1 };
+    item[1..3].copy_from_slice(&smallest.to_le_bytes());
+    item[3..5].copy_from_slice(&(responders.len() as u16).to_le_bytes());
+    item
+}
+
+/// An item that starts so and goes on in zeros.
+fn starts(bytes: [u8; 5]) -> [u8; 32] {
+    let mut item = [0; 32];
+    item[..5].copy_from_slice(&bytes);
+    item
+}
+
+// Document 02, Four; reading G2.
 #[test]
-fn resolve() {
-    for first in 0..256usize {
-        let mut bench = Bench::zero();
-        bench.out = vec![0xEE; 64];
-        bench.registers[64 + first / 8] |= 1 << (first % 8);
-        bench.registers[95] |= 128;
-        let answer = bench.run(&[5, 0, 0, 0, 0, 0, 0, 0]);
-        assert_eq!(answer, ok(1, 0, 1));
-        let mut expected = vec![0u8; 32];
-        expected[0] = 1;
-        expected[1] = first as u8;
-        expected.extend_from_slice(&[0xEE; 32]);
-        assert_eq!(bench.out, expected);
+fn resolve_with_none_all_and_a_few() {
+    let mut random = Random(61);
+    assert_eq!(resolved(&mut random, &[0; 32]), starts([0, 0, 1, 0, 0]));
+    assert_eq!(resolved(&mut random, &[255; 32]), starts([1, 0, 0, 0, 1]));
+    assert_eq!(resolved(&mut random, &lines(|line| line == 0)), starts([1, 0, 0, 1, 0]));
+    assert_eq!(resolved(&mut random, &lines(|line| line == 255)), starts([1, 255, 0, 1, 0]));
+    assert_eq!(resolved(&mut random, &lines(|line| line != 0)), starts([1, 1, 0, 255, 0]));
+    assert_eq!(resolved(&mut random, &lines(|line| line != 255)), starts([1, 0, 0, 255, 0]));
+    assert_eq!(resolved(&mut random, &lines(|line| line == 1 || line == 0)), starts([1, 0, 0, 2, 0]));
+    assert_eq!(resolved(&mut random, &lines(|line| line == 3 || line == 8 || line == 200)), starts([1, 3, 0, 3, 0]));
+    assert_eq!(resolved(&mut random, &lines(|line| line >= 128)), starts([1, 128, 0, 128, 0]));
+}
+
+#[test]
+fn resolve_with_one_responder_and_with_two() {
+    let mut random = Random(62);
+    for one in 0..256usize {
+        assert_eq!(resolved(&mut random, &lines(|line| line == one)), starts([1, one as u8, 0, 1, 0]));
+        let all_but_one = starts([1, if one == 0 { 1 } else { 0 }, 0, 255, 0]);
+        assert_eq!(resolved(&mut random, &lines(|line| line != one)), all_but_one);
+        if one != 255 {
+            assert_eq!(resolved(&mut random, &lines(|line| line == one || line == 255)), starts([1, one as u8, 0, 2, 0]));
+        }
     }
+}
+
+/// Each count, 0 to 256: the first lines, the last lines, and lines anywhere.
+#[test]
+fn resolve_counts_the_responders() {
+    let mut random = Random(63);
+    for count in 0..=256usize {
+        let (low, high) = ((count % 256) as u8, (count / 256) as u8);
+        let active = (count > 0) as u8;
+        let first = resolved(&mut random, &lines(|line| line < count));
+        // with none the smallest is 256, else it is line 0
+        assert_eq!(first, starts([active, 0, 1 - active, low, high]));
+        let last = resolved(&mut random, &lines(|line| line >= 256 - count));
+        // the smallest is 256 minus the count: 256 with none, 0 with all
+        let smallest = 256 - count;
+        assert_eq!(last, starts([active, (smallest % 256) as u8, (smallest / 256) as u8, low, high]));
+        for _ in 0..3 {
+            let mut order: Vec<usize> = (0..256).collect();
+            for k in 0..count {
+                let other = k + random.below(256 - k as u64) as usize;
+                order.swap(k, other);
+            }
+            let mut responders = order[..count].to_vec();
+            responders.sort();
+            let item = resolved(&mut random, &lines(|line| responders.contains(&line)));
+            assert_eq!(item, four(&responders));
+            assert_eq!((item[3], item[4]), (low, high));
+            assert_eq!(item[5..], [0; 27]);
+        }
+    }
+}
+
+/// Y changes between the resolves; the items are in out in their order, with the delivered ones between them.
+#[test]
+fn resolves_in_a_run_take_the_y_of_that_moment() {
     let mut bench = Bench::zero();
-    bench.out = vec![0xEE; 32];
-    bench.run(&[5, 0, 0, 0, 0, 0, 0, 0]);
-    assert_eq!(bench.out, vec![0; 32]);
+    bench.items = lines(|line| line == 7 || line == 70 || line == 255).to_vec();
+    bench.registers = [[0x11; 32], [0x22; 32], [0; 32]].concat();
+    bench.out = vec![0xEE; 32 * 7 + 9];
+    let answer = bench.run(&list(&[
+        RESOLVE,                      // none
+        [0, 2, 0, 0, 0, 0, 0, 0x1F],  // Y all ones
+        RESOLVE,
+        [0, 4, 0, 0, 0, 0, 0, 0x1A],  // Y from outside
+        [4, 3, 0, 0, 0, 0, 0, 0],
+        RESOLVE,
+        [0, 3, 0, 0, 0, 0, 128, 0x1A], // Y by 1 mod 256: 8, 71 and 0
+        RESOLVE,
+        [0, 3, 0, 0, 0, 0, 0, 0x15],  // Y becomes not Y
+        RESOLVE,
+        [0, 2, 0, 0, 0, 0, 0, 0x10],  // Y zeros
+        RESOLVE,
+    ]));
+    assert_eq!(answer, ok(12, 1, 7));
+    let expected = [
+        starts([0, 0, 1, 0, 0]),
+        starts([1, 0, 0, 0, 1]),
+        lines(|line| line == 7 || line == 70 || line == 255),
+        starts([1, 7, 0, 3, 0]),
+        starts([1, 0, 0, 3, 0]),
+        starts([1, 1, 0, 253, 0]),
+        starts([0, 0, 1, 0, 0]),
+    ];
+    assert_eq!(bench.out[..32 * 7], expected.concat());
+    assert_eq!(bench.out[32 * 7..], [0xEE; 9]);
+    assert_eq!(bench.registers, [[0x11; 32], [0x22; 32], [0; 32]].concat());
+}
+
+#[test]
+fn resolve_without_room_is_13_and_puts_nothing() {
+    for room in [0usize, 1, 5, 31] {
+        let mut bench = Bench::random(&mut Random(64), 0, room);
+        bench.refused(&RESOLVE, 13, 0);
+    }
+    let mut bench = Bench::random(&mut Random(65), 0, 63);
+    bench.refused(&list(&[RESOLVE, NOTHING, RESOLVE]), 13, 2);
 }
 
 #[test]
