@@ -58,7 +58,9 @@
  * The source item makes one pass, flip and then shift. Logic joins it to X and Y; set M puts it into M; a store writes line P's bit
  * where line P points under mode and address; a masked store writes line P's bit there exactly if bit P of M is 1, where P is the
  * line after the flip: M does not go through the network; deliver puts the item into the next 32 bytes of the out buffer. Resolve
- * delivers 1 if any bit of Y is set and else 0, then the smallest such number or 0, then thirty zeros. */
+ * delivers an item of its own, of the responders, which are the lines whose bit of Y is 1: byte 0 is 1 if there is one, else 0; bytes
+ * 1 and 2 are the smallest responder, 256 if there is none; bytes 3 and 4 are how many there are, 0 to 256; the other 27 are 0. Both
+ * numbers have their low byte first: STARAN_SMALLEST_RESPONDER and STARAN_RESPONDERS read them. */
 #ifndef STARAN_H
 #define STARAN_H
 
@@ -72,7 +74,7 @@ extern "C" {
 #endif
 
 /* The version of this header, and the linked library's: see staran_version. */
-#define STARAN_VERSION_MAJOR 2
+#define STARAN_VERSION_MAJOR 3
 #define STARAN_VERSION_MINOR 0
 #define STARAN_VERSION (STARAN_VERSION_MAJOR * UINT32_C(65536) + STARAN_VERSION_MINOR)
 
@@ -181,6 +183,12 @@ enum {
     STARAN_INSTRUCTION(STARAN_KIND_DELIVER, STARAN_SOURCE_MEMORY, 1, mode, address, flip, shift, 0)
 #define STARAN_DELIVER_FROM(source, flip, shift) STARAN_INSTRUCTION(STARAN_KIND_DELIVER, source, 0, 0, 0, flip, shift, 0)
 #define STARAN_RESOLVE STARAN_INSTRUCTION(STARAN_KIND_RESOLVE, 0, 0, 0, 0, 0, 0, 0)
+
+/* What a resolve says, from its 32 bytes: whether there is a responder; the smallest, STARAN_NO_RESPONDER if there is none; how many. */
+#define STARAN_ACTIVITY(item) ((item)[0])
+#define STARAN_SMALLEST_RESPONDER(item) ((item)[1] + 256 * (item)[2])
+#define STARAN_RESPONDERS(item) ((item)[3] + 256 * (item)[4])
+#define STARAN_NO_RESPONDER 256
 
 /* The register record that a step is lent: the same 96 bytes in the same order as a run's registers. */
 typedef struct {

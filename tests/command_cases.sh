@@ -197,7 +197,7 @@ RATTLE_HOME=$kit_home PATH=$work/few complains "no rt: a sentence" 2 'rt, the co
 ln -s "$work/stand/rt" few/rt
 bare() { RATTLE_HOME=$kit_home PATH=$work/few "$copy/staran" "$@" >"$work/out" 2>"$work/err"; status=$?; }
 bare good; [ $status -eq 0 ] && [ ! -s "$work/err" ]; judge "no python3: a folder is run" $?
-bare; [ $status -eq 0 ] && grep -qx 'r 0 0 518 1 2' "$work/out" && grep -q 'python3 is not on PATH' "$work/err"; judge "no python3: the demonstration says so" $?
+bare; [ $status -eq 0 ] && grep -qx 'r 0 0 519 1 3' "$work/out" && grep -q 'python3 is not on PATH' "$work/err"; judge "no python3: the demonstration says so" $?
 bare why bad; [ $status -eq 1 ] && grep -q 'no mode was given' "$work/out" && grep -q 'python3 is not on PATH' "$work/err"; judge "no python3: why says what it can, and so" $?
 
 # ---- the lists that docs/MACHINE.md works through: their commands as they stand there, what it says they print, and that the bytes of a table are those of its commands

@@ -247,8 +247,8 @@ def main(words):
         write(beside('before.pic'), picture(stations), replace)
         # the sum; then word 13 is stored from outside (mode 255, address 13), and delivered
         steps = sum_list(0, 32, 64, 32) + bytes([2, 4, 1, 255, 13, 0, 0, 0]) + bytes([4, 0, 1, 255, 13, 0, 0, 0])
-        # every word is marked in Y; those with the greatest sum stay marked; and Y is delivered
-        steps += bytes([0, 2, 0, 0, 0, 0, 0, 0x1F]) + greatest_list(64, 32) + bytes([4, 3, 0, 0, 0, 0, 0, 0])
+        # every word is marked in Y; those with the greatest sum stay marked; Y is delivered, and what the resolver says of it
+        steps += bytes([0, 2, 0, 0, 0, 0, 0, 0x1F]) + greatest_list(64, 32) + bytes([4, 3, 0, 0, 0, 0, 0, 0]) + bytes([5, 0, 0, 0, 0, 0, 0, 0])
         write(beside('run.lst'), blocks(LIST, steps))
         write(beside('in.itm'), blocks(ITEMS, station(250000, 0, 250000)))
     elif what == 'heights':

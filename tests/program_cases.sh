@@ -40,8 +40,8 @@ old() { head -c 5000 /dev/urandom >"$work/old"; cp "$work/old" "$work/f/after.pi
 same() { cmp -s "$work/f/after.pic" "$work/f/before.pic"; judge "$1" $?; }
 
 zeros=$(printf '%064d' 0)
-one=01${zeros#00}
-done_lines="r 0 0 2 0 1\n$one\n"
+all=0100000001${zeros#??????????} none=0000010000${zeros#??????????} # what a resolve delivers of a full Y and of an empty one (document 02, Four)
+done_lines="r 0 0 2 0 1\n$all\n"
 
 # ---- the document's example, and absent files
 fresh; says "the document's example" "$done_lines"
@@ -85,7 +85,7 @@ fresh; blocks list run.lst 000200000000001F FF00000000000000; old; says "a kind 
 fresh; blocks list run.lst 02030000FF000000; says "a store without a mode" "r 7 0 0 0 0\n"; none "a refused run makes no after.pic"
 fresh; blocks list run.lst 0404000000000000; says "items too few" "r 12 0 0 0 0\n"
 fresh; blocks list run.lst "$(times 257 0500000000000000)"; says "the out buffer too short for 257" "r 13 256 0 0 0\n"
-fresh; blocks list run.lst "$(times 256 0500000000000000)"; says "256 items fit" "r 0 0 256 0 256\n$(times 256 "$zeros")\n"
+fresh; blocks list run.lst "$(times 256 0500000000000000)"; says "256 items fit, and none responds" "r 0 0 256 0 256\n$(times 256 "$none")\n"
 fresh; blocks list run.lst 0404000000000000; blocks items in.itm "0123456789abcdef${zeros#????????????????}"; says "an item goes out as it came in" "r 0 0 1 1 1\n0123456789abcdef${zeros#????????????????}\n"
 
 # ---- what cannot be opened or read
@@ -140,14 +140,15 @@ another; run; whole "$here/demo/before.pic"; judge "and the next run is not hind
 fresh; timeout 20 ${emulator:+"$emulator"} "$loader" --library-path "$tools/lib" "$here/target/bin/program" >/dev/full 2>"$work/err"; : >"$work/out"
 grep -qx 'standard output: No space left on device' "$work/err" && [ -s "$work/f/after.pic" ]; judge "an output that takes nothing: the reason is said, and after.pic is whole" $?
 
-# ---- the demonstration: 20 stations, word 13 stored by itself, and the highest marked
+# ---- the demonstration: 20 stations, word 13 stored by itself, the highest marked, and the marks resolved
 "$here/staran" >"$work/out" 2>"$work/err"; status=$?
-[ $status -eq 0 ] && grep -qx 'r 0 0 518 1 2' "$work/out" && [ "$(grep -cE '^ +[0-9]+ ' "$work/out")" -eq 20 ]; judge "the demonstration shows its 20 stations" $?
+[ $status -eq 0 ] && grep -qx 'r 0 0 519 1 3' "$work/out" && [ "$(grep -cE '^ +[0-9]+ ' "$work/out")" -eq 20 ]; judge "the demonstration shows its 20 stations" $?
 awk '/^ +[0-9]+ / { if ($1 == 13 ? $5 != 250000 || $6 != 0 || $7 != 250000 : $5 != $2 || $6 != $3 || $7 != $2 + $3) wrong = 1 } END { exit wrong }' "$work/out"
 judge "every word but 13 has its sum, and word 13 what in.itm has" $?
 awk '/^ +[0-9]+ / { if ($7 > most) most = $7; sum[$1] = $7; star[$1] = / \*$/ } END { for (w in sum) if (star[w] != (sum[w] == most)) exit 1; exit !most }' "$work/out" &&
     grep -qxE '0020(00){30}' "$work/out"
 judge "the highest station is marked in the table and in the item delivered, and no other" $?
+grep -qxE '010d000100(00){27}' "$work/out"; judge "the resolver says that there is one, station 13" $?
 
 echo "$passed passed, $failed failed"
 [ "$failed" -eq 0 ]

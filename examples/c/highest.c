@@ -1,8 +1,9 @@
 /* An example of the library for C: the highest of the stations below 200 m, by two searches.
  *
  * Each word of the array is one station, its height in millimetres in a field of 32 bits. The list for less marks in Y the stations below 200 m, all at
- * once; the list for greatest keeps the highest of them. Two stations are equally high, so that both are marked. At last a number is tried that the
- * field cannot hold, and refused. docs/LISTS.md has the lists. */
+ * once; the list for greatest keeps the highest of them. The marks are delivered, and the resolver says which station is the first of them, and how many
+ * there are: two stations are equally high, so that both are marked. At last a number is tried that the field cannot hold, and refused. docs/LISTS.md has
+ * the lists. */
 #include "staran.h"
 
 #include <stdio.h>
@@ -10,7 +11,8 @@
 
 enum { STATIONS = 256, WIDTH = 32, HEIGHT = 0, LIMIT = 200000 };
 
-static uint8_t memory[STARAN_MEMORY_BYTES], registers[STARAN_REGISTERS_BYTES], out[STARAN_ITEM_BYTES];
+static uint8_t memory[STARAN_MEMORY_BYTES], registers[STARAN_REGISTERS_BYTES], out[2 * STARAN_ITEM_BYTES];
+static const uint8_t *const resolved = out + STARAN_ITEM_BYTES;
 
 /* The office's numbers: from 150 m on, in some order; stations 122 and 141 are both at 199.950 m. */
 static uint32_t height_of(uint32_t station) { return station == 141 ? 199950 : 150000 + station * 6967 % 100003; }
@@ -36,25 +38,28 @@ static uint32_t store_stations(void)
     return run("stations stored by words:", list, sizeof list, items, sizeof items);
 }
 
-/* Y is delivered: bit w of the item is 1 for each station w that is marked. */
+/* Y is delivered: bit w of the first item is 1 for each station w that is marked. The second is what the resolver says of them. */
 static int marked(uint32_t station) { return out[station / 8] >> station % 8 & 1; }
 
 static uint32_t deliver_marks(void)
 {
-    const uint8_t list[] = {STARAN_DELIVER_FROM(STARAN_SOURCE_Y, STARAN_NO_FLIP, STARAN_NO_SHIFT)};
-    return run("marks delivered:", list, sizeof list, list, 0);
+    const uint8_t list[] = {STARAN_DELIVER_FROM(STARAN_SOURCE_Y, STARAN_NO_FLIP, STARAN_NO_SHIFT), STARAN_RESOLVE};
+    return run("marks delivered, and resolved:", list, sizeof list, list, 0);
 }
 
-/* Compares the marks with what a loop over the stations finds, and prints how many there are. */
+/* Compares the marks with what a loop over the stations finds, and the resolver's numbers with the marks; prints how many there are. */
 static int wrong_marks(uint32_t lowest, uint32_t limit)
 {
-    int marks = 0, wrong = 0;
+    int marks = 0, wrong = 0, first = STARAN_NO_RESPONDER;
     for (uint32_t w = 0; w < STATIONS; w++) {
+        if (marks == 0 && marked(w))
+            first = (int)w;
         marks += marked(w);
         wrong += marked(w) != (height_of(w) >= lowest && height_of(w) < limit);
     }
     printf("%-34s %d stations, %d of them wrongly or not at all\n", "marked:", marks, wrong);
-    return wrong;
+    printf("%-34s %d stations, the first is %d\n", "the resolver says:", STARAN_RESPONDERS(resolved), STARAN_SMALLEST_RESPONDER(resolved));
+    return wrong + (STARAN_RESPONDERS(resolved) != marks) + (STARAN_SMALLEST_RESPONDER(resolved) != first) + (STARAN_ACTIVITY(resolved) != (marks > 0));
 }
 
 int main(void)

@@ -1,6 +1,7 @@
 /* Makes one call of the library some times, on fixed buffers, so that its executed instructions can be counted:
  *     library TIMES CALL
  *     library TIMES list INSTRUCTION COUNT      a run of a list that has the instruction, in hex digits, COUNT times
+ *     library TIMES none INSTRUCTION COUNT      the same with Y all zeros: no line responds
  * tests/count-library runs it. */
 #include "staran.h"
 
@@ -8,10 +9,10 @@
 #include <stdlib.h>
 #include <string.h>
 
-enum { WIDTH = 32, LIST = 8192, MANY = 4096, LONGEST = STARAN_INSTRUCTION_BYTES * MANY };
+enum { WIDTH = 32, LIST = 8192, MANY = 4096, LONGEST = STARAN_INSTRUCTION_BYTES * MANY, GIVEN = 161 };
 static const uint64_t NUMBER = 0x5A3C96E1;
 
-static uint8_t memory[STARAN_MEMORY_BYTES], registers[STARAN_REGISTERS_BYTES], out[STARAN_ITEM_BYTES];
+static uint8_t memory[STARAN_MEMORY_BYTES], registers[STARAN_REGISTERS_BYTES], out[STARAN_ITEM_BYTES * GIVEN];
 static uint8_t list[STARAN_SUM_LIST_BYTES(WIDTH)], many[LONGEST], content[LIST], target[LIST], file[STARAN_FILE_BYTES(LIST)], picture[STARAN_PICTURE_FILE_BYTES];
 static uint8_t equal[STARAN_SEARCH_LIST_BYTES(WIDTH)], less[STARAN_SEARCH_LIST_BYTES(WIDTH)], greatest[STARAN_GREATEST_LIST_BYTES(WIDTH)];
 static uint8_t searched[STARAN_SEARCH_ITEMS_BYTES(WIDTH)]; /* the items of equal and of less: the same number */
@@ -137,6 +138,10 @@ int main(int count, char **words)
     prepare();
     if (count == 5)
         length = prepare_list(words[3], (size_t)atoi(words[4]));
+    if (strcmp(words[2], "none") == 0) {
+        memset(registers + 64, 0, STARAN_ITEM_BYTES);
+        words[2] = "list";
+    }
     int times = atoi(words[1]);
     void (*search)(void) = search_named(words[2]);
     if (search != NULL) {

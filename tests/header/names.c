@@ -126,6 +126,30 @@ static void functions(void)
     function("set", STARAN_FUNCTION_SET, "1111");
 }
 
+/* What the macros read out of a resolved item: none, station 0 alone, station 255 alone, all; the printed line's bytes are document 02's, Four. */
+static void resolved(const char *what, uint8_t first, uint8_t last, uint8_t others, const char *digits, int activity, int smallest, int count)
+{
+    const uint8_t list[] = {STARAN_RESOLVE};
+    uint32_t answer[STARAN_RUN_NUMBERS];
+    char item[2 * STARAN_ITEM_BYTES + 1];
+    memset(registers + 64, others, 32);
+    registers[64] |= first;
+    registers[95] |= last;
+    staran_run(memory, sizeof memory, registers, sizeof registers, list, sizeof list, out, 0, out, sizeof out, answer);
+    snprintf(item, sizeof item, "%s%054d", digits, 0);
+    bytes(what, out, STARAN_ITEM_BYTES, item);
+    hold(what, answer[0] == STARAN_DONE && STARAN_ACTIVITY(out) == activity && STARAN_SMALLEST_RESPONDER(out) == smallest && STARAN_RESPONDERS(out) == count);
+    memset(registers + 64, 0, 32);
+}
+
+static void resolves(void)
+{
+    resolved("none responds", 0, 0, 0, "0000010000", 0, STARAN_NO_RESPONDER, 0);
+    resolved("station 0 responds", 1, 0, 0, "0100000100", 1, 0, 1);
+    resolved("station 255 responds", 0, 128, 0, "01FF000100", 1, 255, 1);
+    resolved("all respond", 0, 0, 255, "0100000001", 1, 0, 256);
+}
+
 static void refusals(void)
 {
     const uint8_t kind[] = {STARAN_INSTRUCTION(6, 0, 0, 0, 0, 0, 0, 0)}, source[] = {STARAN_STORE(STARAN_SOURCE_MEMORY, 0, 0, 0)};
@@ -151,9 +175,10 @@ int main(void)
     instructions();
     searches();
     functions();
+    resolves();
     refusals();
     hold("the contents on disk", STARAN_CONTENT_PICTURE == 1 && STARAN_CONTENT_LIST == 2 && STARAN_CONTENT_ITEMS == 3);
-    hold("the linked version is the header's", staran_version() == STARAN_VERSION && STARAN_VERSION == 131072);
+    hold("the linked version is the header's", staran_version() == STARAN_VERSION && STARAN_VERSION == 196608);
     hold("a number that is never given", strcmp(staran_meaning(14), "no such number is ever given") == 0);
     for (uint32_t number = 0; number <= 100; number++)
         if (strcmp(staran_meaning(number), staran_meaning(14)) != 0)

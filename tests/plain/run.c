@@ -103,15 +103,32 @@ static void logic(uint8_t x[restrict 32], uint8_t y[restrict 32], const uint8_t 
     memcpy(y, ny, ITEM);
 }
 
+static unsigned first_responder(const uint8_t y[32])
+{
+    for (unsigned i = 0; i < ITEM; i++)
+        if (y[i] != 0)
+            return 8 * i + (unsigned)__builtin_ctz(y[i]);
+    return STARAN_NO_RESPONDER;
+}
+
+static unsigned count_responders(const uint8_t y[32])
+{
+    unsigned count = 0;
+    for (unsigned i = 0; i < ITEM; i++)
+        count += (unsigned)__builtin_popcount(y[i]);
+    return count;
+}
+
+/* Activity; the smallest responder, or 256; how many there are: both low byte first. */
 static void resolve(const uint8_t y[32], uint8_t out[32])
 {
+    unsigned count = count_responders(y), first = first_responder(y);
     memset(out, 0, ITEM);
-    for (unsigned k = 0; k < 256; k++)
-        if (y[k / 8] >> k % 8 & 1) {
-            out[0] = 1;
-            out[1] = (uint8_t)k;
-            return;
-        }
+    out[0] = first < 256;
+    out[1] = (uint8_t)first;
+    out[2] = (uint8_t)(first >> 8);
+    out[3] = (uint8_t)count;
+    out[4] = (uint8_t)(count >> 8);
 }
 
 static void run_list(uint8_t *memory, uint8_t *m, uint8_t *x, uint8_t *y, const uint8_t *list, size_t count, const uint8_t *items, uint8_t *out)

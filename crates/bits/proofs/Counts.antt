@@ -1,13 +1,19 @@
--- Laws of trailing_zeros and count_ones, digit by digit: the kit's definitions are in lib.Count, without them. Assumes nothing.
+-- Laws of trailing_zeros and count_ones, digit by digit, and of the lines that the digits of a byte or of a quarter are: the kit's definitions are in lib.Count, without them. Assumes nothing.
 use mathlib.Core.Path.{_≡_, refl, sym, ap, _∙_}
-use Prim.Native.Nat.{ℕ, zero, suc, _+_, _/_, _%_, _^_, _<_, suc-le-suc}
-use native.Mathlib.Nat.{not-suc-le-zero, pow-suc, div-one}
+use mathlib.Core.Bool.{false, cond}
+use Prim.Native.Nat.{ℕ, zero, suc, _+_, _-_, _/_, _%_, _^_, _<_, _≤_, suc-le-suc}
+use native.Mathlib.Nat.{not-suc-le-zero, pow-suc, div-one, zero-div}
+use native.Mathlib.Decide.{decLt}
 use native.Mathlib.Numerals.{one-add}
 use native.Mathlib.Omega.{arith}
+use lib.Count.{trailingZeros, under, ones, ones-cat}
+use lib.Dec.{eqb}
 use lib.Pow.{shr-shr}
-use lib.Count.{trailingZeros, under, ones, ones-step}
-use Rattle.bits.specs.Bits.{digit}
-use Rattle.bits.proofs.Binary.{Bit, off, on, low-bit}
+use Rattle.bits.specs.Bits.{digit, digitsOf}
+use Rattle.bits.specs.Search.{first, count, isOne}
+use Rattle.bits.proofs.Binary.{Bit, off, on, low-bit, digit-bit}
+use Rattle.bits.proofs.Digits.{digitsOf-lt, digits-are}
+use Rattle.bits.proofs.Search.{NoneBelow, found, count-append, count-ext}
 
 -- ---- trailing zeros
 
@@ -49,17 +55,56 @@ trailing-lt (suc k) n p h = go (n % 2) refl (low-bit n) (λ q. trailing-lt k (n 
 
 -- ---- ones
 
--- the digits of n below k, added up
-unfoldable pub digitSum : ℕ → ℕ → ℕ
-digitSum zero n = 0
-digitSum (suc k) n = digitSum k n + digit n k
+-- those of the number made of the digits f are the digits that are 1
+ones-digits : (f : ℕ → ℕ) → ((k : ℕ) → Bit (f k)) → (n : ℕ) → ones (digitsOf f n) ≡ count (isOne f) n
+unfolding digitsOf count ones
+ones-digits f bits zero = refl
+ones-digits f bits (suc n) = ones-cat n (f n) (digitsOf f n) (digitsOf-lt f bits n) ∙ go (bits n) (ones-digits f bits n)
+  where
+    go : {d : ℕ} → Bit d → ones (digitsOf f n) ≡ count (isOne f) n → ones d + ones (digitsOf f n) ≡ count (isOne f) n + cond (eqb d 1) 1 0
+    go off e = omega arith
+    go on e = omega arith
 
-digitSum-half : (k n : ℕ) → digitSum (suc k) n ≡ n % 2 + digitSum k (n / 2)
-unfolding digitSum
-digitSum-half zero n = omega (arith, div-one n)
-digitSum-half (suc k) n = omega (arith, digitSum-half k n, digit-suc n k)
+-- those of a number of n digits
+pub ones-count : (n x : ℕ) → x < 2 ^ n → ones x ≡ count (isOne (digit x)) n
+ones-count n x h = ap ones (digits-are (digit x) n x h (λ j l. refl)) ∙ ones-digits (digit x) (digit-bit x) n
 
-pub ones-digits : (k n : ℕ) → n < 2 ^ k → ones n ≡ digitSum k n
-unfolding digitSum ones
-ones-digits zero n h = let e : n ≡ 0 = omega arith in ap ones e
-ones-digits (suc k) n h = ones-step n ∙ ap (λ (y : ℕ). n % 2 + y) (ones-digits k (n / 2) (omega (arith, pow-suc 2 k))) ∙ sym (digitSum-half k n)
+-- ---- lines in blocks: the w lines of f from a on are the digits of x, as those of a byte or of a quarter of an item are
+
+module _ (f : ℕ → ℕ) (a w x : ℕ) (bound : x < 2 ^ w) (digits : (j : ℕ) → j < w → f (a + j) ≡ digit x j) where
+  -- the lines with a 1 up to the block's end are those before it and the ones of x
+  pub count-block : count (isOne f) (a + w) ≡ count (isOne f) a + ones x
+  count-block =
+      count-append (isOne f) a w
+      ∙ ap (λ (c : ℕ). count (isOne f) a + c)
+      (count-ext (λ k. isOne f (a + k)) (isOne (digit x)) w (λ j h. ap (λ (d : ℕ). eqb d 1) (digits j h)) ∙ sym (ones-count w x bound))
+
+  -- line k of the block is digit k - a of x
+  within : (k : ℕ) → a ≤ k → k < a + w → isOne f k ≡ isOne (digit x) (k - a)
+  within k l h =
+      let e : k ≡ a + (k - a) = omega arith in
+      ap (isOne f) e ∙ ap (λ (d : ℕ). eqb d 1) (digits (k - a) (omega arith))
+
+  -- a block that is 0 is passed
+  pub skip-block : NoneBelow (isOne f) a → x ≡ 0 → NoneBelow (isOne f) (a + w)
+  skip-block before e k h = go (decLt k a)
+    where
+      go : Dec (k < a) → isOne f k ≡ false
+      go (yes q) = before k q
+      go (no q) =
+          within k (omega arith) h
+          ∙ ap (λ (y : ℕ). isOne (digit y) (k - a)) e
+          ∙ ap (λ (d : ℕ). eqb (d % 2) 1) (zero-div (2 ^ (k - a)))
+
+  -- a block that is not has the first line with a 1
+  pub hit-block : NoneBelow (isOne f) a → 0 < x → (n : ℕ) → a + w ≤ n → a + trailingZeros w x ≡ first (isOne f) 0 n
+  hit-block before p n l =
+      let t : trailingZeros w x < w = trailing-lt w x p bound in
+      found (isOne f) n (a + trailingZeros w x) (omega arith) (λ k q. go k q (decLt k a))
+      (ap (λ (d : ℕ). eqb d 1) (digits (trailingZeros w x) t ∙ trailing-at w x t))
+    where
+      go : (k : ℕ) → k < a + trailingZeros w x → Dec (k < a) → isOne f k ≡ false
+      go k q (yes u) = before k u
+      go k q (no u) =
+          let t : trailingZeros w x < w = trailing-lt w x p bound in
+          within k (omega arith) (omega arith) ∙ ap (λ (d : ℕ). eqb d 1) (trailing-below w x (k - a) (omega arith))

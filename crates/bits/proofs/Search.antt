@@ -1,11 +1,14 @@
 -- Laws of a search from the front and of a count. Assumes nothing.
-use mathlib.Core.Path.{_≡_, refl, sym, ap, _∙_}
+use mathlib.Core.Path.{_≡_, refl, sym, ap, ap₂, subst, _∙_}
 use mathlib.Core.Bool.{Bool, true, false, cond, true≢false}
 use Prim.Native.Nat.{ℕ, zero, suc, _+_, _<_, _≤_}
-use native.Mathlib.Decide.{ℕ-discrete}
+use native.Mathlib.Nat.{add-zero, add-suc, add-assoc}
+use native.Mathlib.Decide.{decLt, ℕ-discrete}
 use native.Mathlib.Numerals.{add-one}
 use native.Mathlib.Omega.{arith}
-use Rattle.bits.specs.Search.{first, count}
+use lib.Dec.{ltb}
+use borrow.Author.Tests.{lt-ltb, le-ltb}
+use Rattle.bits.specs.Search.{first, count, Numbered}
 
 -- ---- what is found
 
@@ -112,3 +115,99 @@ count-le f (suc i) = go (f i) (count-le f i)
     go : (b : Bool) → count f i ≤ i → count f i + cond b 1 0 ≤ suc i
     go true h = omega arith
     go false h = omega arith
+
+pub count-ext : (f g : ℕ → Bool) (n : ℕ) → ((j : ℕ) → j < n → f j ≡ g j) → count f n ≡ count g n
+unfolding count
+count-ext f g zero same = refl
+count-ext f g (suc n) same = ap₂ (λ (x : ℕ) (t : Bool). x + cond t 1 0) (count-ext f g n (λ j h. same j (omega arith))) (same n (omega arith))
+
+-- the numbers below a, and the n from a on
+pub count-append : (f : ℕ → Bool) (a n : ℕ) → count f (a + n) ≡ count f a + count (λ k. f (a + k)) n
+unfolding count
+count-append f a zero = ap (count f) (add-zero a) ∙ sym (add-zero (count f a))
+count-append f a (suc n) =
+    ap (count f) (add-suc a n)
+    ∙ ap (λ (x : ℕ). x + cond (f (a + n)) 1 0) (count-append f a n)
+    ∙ add-assoc (count f a) (count (λ k. f (a + k)) n) (cond (f (a + n)) 1 0)
+
+-- where the test holds nowhere, the count is 0
+pub count-none : (f : ℕ → Bool) (n : ℕ) → NoneBelow f n → count f n ≡ 0
+unfolding count
+count-none f zero none = refl
+count-none f (suc n) none = ap₂ (λ (x : ℕ) (t : Bool). x + cond t 1 0) (count-none f n (λ j h. none j (omega arith))) (none n (omega arith))
+
+-- ---- what a count says: the numbers below n at which the test holds, told off
+
+module _ (P : ℕ → Type 0) (n c : ℕ) (m : Numbered P n c) where
+  -- n has not the property: the same are told
+  told-same : (P n → ⊥) → Numbered P (suc n) c
+  told-same u =
+      record {
+        told = m .told;
+        below = λ j h. omega (arith, m .below j h);
+        has = m .has;
+        rising = m .rising;
+        each = λ k h p. m .each k (lower k h p (ℕ-discrete k n)) p;
+      }
+    where
+      lower : (k : ℕ) → k < suc n → P k → Dec (k ≡ n) → k < n
+      lower k h p (yes q) = absurd (u (subst P q p))
+      lower k h p (no q) = omega arith
+
+  -- n has it: it is told last
+  with-last : ℕ → ℕ
+  with-last j = cond (ltb j c) (m .told j) n
+
+  before-last : (j : ℕ) → j < c → m .told j ≡ with-last j
+  unfolding with-last
+  before-last j h = sym (ap (λ (t : Bool). cond t (m .told j) n) (lt-ltb j c h))
+
+  the-last : (j : ℕ) → c ≤ j → n ≡ with-last j
+  unfolding with-last
+  the-last j h = sym (ap (λ (t : Bool). cond t (m .told j) n) (le-ltb j c h))
+
+  told-last : P n → Numbered P (suc n) (c + 1)
+  told-last p =
+      record {
+        told = with-last;
+        below = λ j h. under j (decLt j c);
+        has = λ j h. has j (decLt j c);
+        rising = λ i j l h. rising i j l h (decLt j c);
+        each = λ k h q. each k h q (ℕ-discrete k n);
+      }
+    where
+      under : (j : ℕ) → Dec (j < c) → with-last j < suc n
+      under j (yes l) = omega (arith, m .below j l, before-last j l)
+      under j (no u) = omega (arith, the-last j (omega arith))
+
+      has : (j : ℕ) → Dec (j < c) → P (with-last j)
+      has j (yes l) = subst P (before-last j l) (m .has j l)
+      has j (no u) = subst P (the-last j (omega arith)) p
+
+      rising : (i j : ℕ) → i < j → j < c + 1 → Dec (j < c) → with-last i < with-last j
+      rising i j l h (yes q) = let r : i < c = omega arith in omega (arith, m .rising i j l q, before-last i r, before-last j q)
+      rising i j l h (no u) = let r : i < c = omega arith in omega (arith, m .below i r, before-last i r, the-last j (omega arith))
+
+      each : (k : ℕ) → k < suc n → P k → Dec (k ≡ n) → (j : ℕ) × (j < c + 1) × (with-last j ≡ k)
+      each k h q (yes e) = (c, omega arith, sym (e ∙ the-last c (omega arith)))
+      each k h q (no u) =
+          let t = m .each k (omega arith) q in
+          (t .0, omega (arith, t .1), sym (before-last (t .0) (t .1)) ∙ t .2)
+
+module _ (P : ℕ → Type 0) (f : ℕ → Bool) (holds : (k : ℕ) → f k ≡ true → P k) (tested : (k : ℕ) → P k → f k ≡ true) where
+  -- a test of the property counts the numbers that have it
+  pub count-tells : (n : ℕ) → Numbered P n (count f n)
+  unfolding count
+  count-tells zero =
+      record {
+        told = λ j. 0;
+        below = λ j h. absurd (omega arith);
+        has = λ j h. absurd (omega arith);
+        rising = λ i j l h. absurd (omega arith);
+        each = λ k h p. absurd (omega arith);
+      }
+  count-tells (suc n) = go (f n) refl (count-tells n)
+    where
+      go : (b : Bool) → f n ≡ b → Numbered P n (count f n) → Numbered P (suc n) (count f n + cond b 1 0)
+      go true e m = told-last P n (count f n) m (holds n e)
+      go false e m = subst (Numbered P (suc n)) (sym (add-zero (count f n))) (told-same P n (count f n) m (λ p. true≢false (sym (tested n p) ∙ e)))

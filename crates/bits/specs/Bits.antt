@@ -37,3 +37,7 @@ item f = pack f 32
 -- Number k of a list flipped by f. Document 01, Network: "Flip F moves line I to I xor F", so line k has what line k xor f had.
 abbrev pub flipped : List ℕ → ℕ → ℕ → ℕ
 flipped l f k = bitOf l (bitXor k f)
+
+-- A number below 65,536 as two bytes, low first.
+abbrev pub two : ℕ → List ℕ
+two x = x % 256 ∷ x / 256 ∷ []

@@ -1,6 +1,8 @@
 -- The first number at which a test holds, and at how many it does.
+use mathlib.Core.Path.{_≡_}
 use mathlib.Core.Bool.{Bool, cond}
-use Prim.Native.Nat.{ℕ, zero, suc, _+_}
+use Prim.Native.Nat.{ℕ, zero, suc, _+_, _<_}
+use lib.Dec.{eqb}
 
 -- The first of the n numbers from k on at which f holds, or k + n where there is none.
 unfoldable pub first : (ℕ → Bool) → ℕ → ℕ → ℕ
@@ -11,3 +13,15 @@ first f k (suc n) = cond (f k) k (first f (suc k) n)
 unfoldable pub count : (ℕ → Bool) → ℕ → ℕ
 count f zero = 0
 count f (suc n) = count f n + cond (f n) 1 0
+
+-- The test of lines for a 1: is f at k a 1?
+abbrev pub isOne : (ℕ → ℕ) → ℕ → Bool
+isOne f k = eqb (f k) 1
+
+-- What a count says: exactly c of the numbers below n have the property P. They can be told off from 0 to c - 1, rising, each of them once and no other: `told j` is the one told j-th.
+pub record Numbered (P : ℕ → Type 0) (n c : ℕ) : Type 0 where
+  pub told : ℕ → ℕ
+  pub below : (j : ℕ) → j < c → told j < n
+  pub has : (j : ℕ) → j < c → P (told j)
+  pub rising : (i j : ℕ) → i < j → j < c → told i < told j
+  pub each : (k : ℕ) → k < n → P k → (j : ℕ) × (j < c) × (told j ≡ k)

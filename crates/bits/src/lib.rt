@@ -1,9 +1,10 @@
-// Items of 32 bytes: the leaves that take bits out of them, put bits into them and copy them; and what a test chooses.
+// Items of 32 bytes: the leaves that take bits out of them, put bits into them and copy them; what a test chooses; and a number as two bytes.
 pub mod choices;
 pub mod copies;
 pub mod flips;
 pub mod lanes;
 pub mod quarters;
+pub mod twos;
 
 ghost use mathlib.Core.Path.{_≡_};
 ghost use Rattle.bits.specs.Steps.{mixed};

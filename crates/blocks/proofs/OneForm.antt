@@ -8,7 +8,8 @@ use lib.ListN.{length, take, drop, replicate, length-append, length-replicate, l
 use lib.Seq.{take-at, drop-at, drop-cons, getD-append-add, take-add, take-all, length-take-le}
 use borrow.Author.Tests.{eq-eqb}
 use Rattle.blocks.specs.Sums.{at, s1, s2}
-use Rattle.blocks.specs.Block.{two, twoAt, part, header, body, summed, block, payloadOf, sumsRight, usedRight, allZero, zerosRight, fault}
+use Rattle.bits.specs.Bits.{two}
+use Rattle.blocks.specs.Block.{twoAt, part, header, body, summed, block, payloadOf, sumsRight, usedRight, allZero, zerosRight, fault}
 use Rattle.blocks.proofs.SumLaws.{s1-front, s2-front}
 use Rattle.blocks.proofs.BlockLaws.{and-left, and-right, zeros-zero, zeros-are, used-le, fault-last, Good}
 use Rattle.blocks.proofs.WriteLaws.{length-header, length-body}

@@ -7,7 +7,8 @@ use lib.ListN.{length, take, drop, replicate, drop-of-length-le, length-append, 
 use lib.Seq.{take-at, drop-drop, length-take-le, take-append-add}
 use borrow.Rule.Slice.PartMut.{midOf, postOf, putMid, mid-len, same-len-mid}
 use Rattle.blocks.specs.Sums.{s1, s2}
-use Rattle.blocks.specs.Block.{two, header, body, summed, block}
+use Rattle.bits.specs.Bits.{two}
+use Rattle.blocks.specs.Block.{header, body, summed, block}
 use Rattle.blocks.proofs.SumLaws.{s1-front, s2-front}
 
 pub length-header : (kind place count used : ℕ) → length (header kind place count used) ≡ 12

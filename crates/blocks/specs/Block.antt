@@ -1,9 +1,10 @@
 -- A block of 512 bytes: how it is written, what is wrong with one that is read, and when it is good at its place. Document 01, Blocks on disk.
 use mathlib.Core.Bool.{Bool, true, cond, not, _&&_, _||_}
 use mathlib.Core.List.{List, [], _∷_, _++_}
-use Prim.Native.Nat.{ℕ, _+_, _-_, _*_, _/_, _%_}
+use Prim.Native.Nat.{ℕ, _+_, _-_, _*_}
 use lib.Dec.{eqb, leb, ltb}
 use lib.ListN.{length, take, drop, replicate}
+use Rattle.bits.specs.Bits.{two}
 use Rattle.bits.specs.Rows.{Row, row, numberOf}
 use Rattle.blocks.specs.Sums.{at, s1, s2}
 
@@ -14,10 +15,7 @@ blockBytes = 512
 abbrev pub payloadBytes : ℕ
 payloadBytes = 496
 
--- "Two bytes low first": the bytes of a number, and the number that bytes i and i + 1 are.
-abbrev pub two : ℕ → List ℕ
-two x = x % 256 ∷ x / 256 ∷ []
-
+-- "Two bytes low first": the number that bytes i and i + 1 are (`two` of `bits` has the bytes of a number).
 abbrev pub twoAt : List ℕ → ℕ → ℕ
 twoAt b i = at b i + 256 * at b (i + 1)
 

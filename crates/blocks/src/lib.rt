@@ -3,6 +3,8 @@
 //
 // These are inner functions: the length of a block and its place are the caller's to judge.
 use bits::copies::copy;
+use bits::twos::high;
+use bits::twos::low;
 ghost use mathlib.Core.Path.{_≡_};
 ghost use Prim.Native.Nat.{_+_, _%_, _/_, _<_, _≤_};
 ghost use lib.ListN.{length, take, drop, replicate};
@@ -138,19 +140,6 @@ fn clear(dst: &mut [u8])
         dst[i] = 0;
         i += 1;
     }
-}
-
-fn low(x: usize) -> u8
-    ensures { λ r. ⌜ r ≡ x % 256 ⌝ }
-{
-    (x % 256) as u8
-}
-
-fn high(x: usize) -> u8
-    requires { ⌜ x < 65536 ⌝ }
-    ensures { λ r. ⌜ r ≡ x / 256 ⌝ }
-{
-    (x / 256) as u8
 }
 
 // Makes a block of a payload that already stands in it, `used` bytes from byte 12 on: header, zeros and sums.

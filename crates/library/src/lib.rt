@@ -219,7 +219,7 @@ pub extern "C" fn staran_write_picture(
 // The version of the library that is linked, to be held to the header's.
 #[no_mangle]
 pub extern "C" fn staran_version() -> u32
-    ensures { λ r. ⌜ r ≡ version 2 0 ⌝ }
+    ensures { λ r. ⌜ r ≡ version 3 0 ⌝ }
 {
-    131072
+    196608
 }

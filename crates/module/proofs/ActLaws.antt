@@ -43,25 +43,15 @@ module _ (i : Instruction) (mem items : List ℕ) (r : Registers) (taken : ℕ) 
 
 -- ---- the out buffer
 
-module _ (i : Instruction) (out : List ℕ) (given : ℕ) (f y : List ℕ) where
-  pub put-out : gives i ≡ true → (x : List ℕ) → x ≡ cond (eqb (i .kind) 4) f (resolved (bitOf y)) → putPart out given x ≡ outAfter i out given f y
-  unfolding outAfter
-  put-out t x e = ap (putPart out given) e ∙ go (eqb (i .kind) 4) (eqb (i .kind) 5) t
-    where
-      go : (a b : Bool) → (a || b) ≡ true
-          → putPart out given (cond a f (resolved (bitOf y))) ≡ cond a (putPart out given f) (cond b (putPart out given (resolved (bitOf y))) out)
-      go true b t = refl
-      go false true t = refl
-      go false false t = absurd (false≢true t)
-
-  pub no-out : gives i ≡ false → out ≡ outAfter i out given f y
-  unfolding outAfter
-  no-out t = go (eqb (i .kind) 4) (eqb (i .kind) 5) t
-    where
-      go : (a b : Bool) → (a || b) ≡ false → out ≡ cond a (putPart out given f) (cond b (putPart out given (resolved (bitOf y))) out)
-      go true b t = absurd (false≢true (sym t))
-      go false true t = absurd (false≢true (sym t))
-      go false false t = refl
+-- an instruction that gives nothing leaves it as it was
+pub no-out : (i : Instruction) (out : List ℕ) (given : ℕ) (f y : List ℕ) → gives i ≡ false → out ≡ outAfter i out given f y
+unfolding outAfter
+no-out i out given f y t = go (eqb (i .kind) 4) (eqb (i .kind) 5) t
+  where
+    go : (a b : Bool) → (a || b) ≡ false → out ≡ cond a (putPart out given f) (cond b (putPart out given (resolved (bitOf y))) out)
+    go true b t = absurd (false≢true (sym t))
+    go false true t = absurd (false≢true (sym t))
+    go false false t = refl
 
 -- ---- an act
 

@@ -13,16 +13,13 @@ use judge::kinds::STORE;
 use judge::kinds::X;
 use registers::Registers;
 ghost use mathlib.Core.Path.{_≡_};
-ghost use mathlib.Core.Bool.{true, cond};
+ghost use mathlib.Core.Bool.{true};
 ghost use Prim.Native.Nat.{_+_, _*_, _<_, _≤_};
-ghost use lib.Dec.{eqb};
 ghost use lib.ListN.{length};
-ghost use Rattle.bits.specs.Bits.{bitOf};
 ghost use Rattle.network.specs.Shifts.{permitted};
-ghost use Rattle.registers.specs.Resolver.{resolved};
-ghost use Rattle.judge.specs.Kinds.{memoryBytes, deliver};
+ghost use Rattle.judge.specs.Kinds.{memoryBytes};
 ghost use Rattle.judge.specs.Judge.{gives, takes};
-ghost use Rattle.module.specs.Act.{modeOf, heldItem, passedBy, regsAfter, memAfter, outAfter, acted};
+ghost use Rattle.module.specs.Act.{modeOf, heldItem, passedBy, regsAfter, memAfter, putPart, outAfter, acted};
 ghost use Rattle.module.specs.Ready.{Ready};
 
 // What an act leaves beside the buffers: the registers, and how many items were taken and given.
@@ -105,25 +102,26 @@ fn keep<'a>(mem: &mut [u8], i: Instruction, mode: u8, m: &'a [u8; 32], f: &'a [u
     }
 }
 
-// What is put out: the passed item, or what the resolver says.
-fn outgoing<'a>(i: Instruction, f: &'a [u8; 32], y: &'a [u8; 32]) -> [u8; 32]
-    ensures { λ r. ⌜ r ≡ cond (eqb (i .kind) deliver) (now (f .entry)) (resolved (bitOf (now (y .entry)))) ⌝ }
+// An item put out: the next part of the out buffer is lent to the copy.
+fn put_out(out: &mut [u8], given: usize, x: &[u8; 32])
+    requires { ⌜ 32 * given + 32 ≤ length (now out) ⌝ }
+    ensures { λ r. ⌜ now (out .exit) ≡ putPart (now (out .entry)) given (now (x .entry)) ⌝ }
 {
-    if i.kind == DELIVER {
-        let x = *f;
-        return x;
-    }
-    registers::resolver::resolve(y)
+    copy(x, &mut out[32 * given..32 * given + 32]);
 }
 
-// The out buffer after it: deliver and resolve are lent its next part.
+// The out buffer after it: a deliver puts the passed item out, a resolve what the resolver says. Each copies its own: joined to one value first, a deliver took longer.
 fn deliver<'a>(out: &mut [u8], i: Instruction, given: usize, f: &'a [u8; 32], y: &'a [u8; 32])
     requires { ⌜ (gives i ≡ true → 32 * given + 32 ≤ length (now out)) ⌝ }
     ensures { λ r. ⌜ now (out .exit) ≡ outAfter i (now (out .entry)) given (now (f .entry)) (now (y .entry)) ⌝ }
 {
-    if judge::rows::gives(i) {
-        let x = outgoing(i, f, y);
-        copy(&x, &mut out[32 * given..32 * given + 32]);
+    if i.kind == DELIVER {
+        put_out(out, given, f);
+        return;
+    }
+    if i.kind == RESOLVE {
+        let x = registers::resolver::resolve(y);
+        put_out(out, given, &x);
     }
 }
 

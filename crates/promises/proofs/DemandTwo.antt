@@ -16,7 +16,7 @@ use Rattle.registers.specs.declared.Registers.{Registers}
 use Rattle.registers.specs.Rows.{registersOf, bytesOf}
 use Rattle.registers.specs.Logic.{logicOf}
 use Rattle.registers.proofs.LogicLaws.{logic-X, logic-Y, choice-X, choice-Y}
-use Rattle.registers.proofs.ResolverLaws.{resolved-first, resolved-none}
+use Rattle.registers.proofs.ResolverLaws.{resolved-first, resolved-none, responders-numbered}
 use Rattle.judge.specs.declared.Answer.{Answer}
 use Rattle.judge.specs.Judge.{judged}
 use Rattle.judge.proofs.Accepted.{run-done}
@@ -75,7 +75,16 @@ demand-two =
             wiredLine = agree;
             wiredPass = λ l f c hf hc t. agree-item f (c / 16) (c % 16) l (shift c hc t .below) (shift c hc t .within) hf ∙ sym (passedItem-is l f c t);
           };
-      registers = record { choices = chosen; lineX = logic-X; lineY = logic-Y; keepsM = keeps-M; resolves = resolved-first; resolvesNone = resolved-none };
+      registers =
+          record {
+            choices = chosen;
+            lineX = logic-X;
+            lineY = logic-Y;
+            keepsM = keeps-M;
+            resolves = resolved-first;
+            resolvesNone = resolved-none;
+            counts = responders-numbered;
+          };
       sources = λ i mem items r taken.
           let from = passed-source i mem items r taken in
           record { fromMemory = from 0; fromM = from 1; fromX = from 2; fromY = from 3; fromOutside = from 4 };

@@ -129,6 +129,8 @@ module _ {M : Type 1} (𝓤 : URA M) (H : Heap 𝓤) (A : Atoms 𝓤) (memory : 
         quartersOf = equation 𝓤 _ (λ κs a g r e. refl);
         linesOf = equation 𝓤 _ (λ κs a g r e. refl);
         mixQuarter = equation 𝓤 _ (λ κs a g r e. refl);
+        low = equation 𝓤 _ (λ κs a g r e. refl);
+        high = equation 𝓤 _ (λ κs a g r e. refl);
       }
 
   of-memory : OfMemory 𝓤 H A memory runs

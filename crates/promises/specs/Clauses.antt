@@ -107,6 +107,6 @@ abbrev pub LibraryReadPicture : (kind : ℕ) (bytes memory registers memory′ r
 LibraryReadPicture kind bytes memory registers memory′ registers′ answer′ =
     _≡_ {A = TargetsLeft} (record { memory = memory′; registers = registers′; answer = answer′ }) (readPictureLeft kind bytes memory registers)
 
--- `staran_version`: 2.0
+-- `staran_version`: 3.0
 abbrev pub LibraryVersion : ℕ → Type 0
-LibraryVersion r = r ≡ version 2 0
+LibraryVersion r = r ≡ version 3 0

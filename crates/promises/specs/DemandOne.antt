@@ -194,5 +194,5 @@ pub record DemandOne : Type 0 where
   pub libraryWritePicture : (kind : ℕ) (memory registers out out′ answer′ : List ℕ) → LibraryBuffer (writePictureLeft kind memory registers out) out′ answer′
       → (r : Moved) × (answer′ ≡ three r) × WriteTable kind (pictureFits kind (length memory) (length registers)) pictureBytes (length out) r
       × Kept (r .number) out out′
-  -- `staran_version` has no number of the tables: 2.0, and nothing else
-  pub libraryVersion : (r : ℕ) → LibraryVersion r → r ≡ 131072
+  -- `staran_version` has no number of the tables: 3.0, and nothing else
+  pub libraryVersion : (r : ℕ) → LibraryVersion r → r ≡ 196608

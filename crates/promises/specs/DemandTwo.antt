@@ -1,4 +1,4 @@
--- Demand 2, on a page: "Storage, access, flips, shifts, register logic and resolver follow Batcher's published rules as document 01 states them. What is stored under one mode reads, under each of the 256 modes, as from an unscrambled table. Pictures, lists and items come back from disk as they were written." Document 02, Three, puts its rule of the masked store in place of document 01's: "Demand 2 reads with this rule."
+-- Demand 2, on a page: "Storage, access, flips, shifts, register logic and resolver follow Batcher's published rules as document 01 states them. What is stored under one mode reads, under each of the 256 modes, as from an unscrambled table. Pictures, lists and items come back from disk as they were written." Document 02, Three and Four, put their rules of the masked store and of the resolved item in place of document 01's.
 -- The names are those of specs/. `Memory`, `Network` and `Logic` say what the parts do; `Acts` that an instruction does this and nothing else, by its source and its kind; `MasksByLine` whose M bit a masked store asks; `Runs` that a run is all of its instructions, one after the other, and so that `run`, which promises `ran`, does it; `Returns` is the disk. It is proved in proofs/DemandTwo.antt, and assumes nothing.
 use mathlib.Core.Path.{_≡_}
 use mathlib.Core.Bool.{true, cond}
@@ -8,6 +8,7 @@ use Prim.Native.Nat.{ℕ, suc, _+_, _*_, _/_, _%_, _^_, _<_, _≤_}
 use lib.Dec.{eqb}
 use lib.ListN.{length, take, replicate}
 use Rattle.bits.specs.Bits.{bitOf, item, flipped}
+use Rattle.bits.specs.Search.{Numbered}
 use Rattle.memory.specs.Access.{wordAt, readBit}
 use Rattle.memory.specs.Table.{table, lineBit, lineWord, Updated}
 use Rattle.memory.specs.Memory.{cell, stored, every}
@@ -18,7 +19,7 @@ use Rattle.network.specs.Answer.{passedItem}
 use Rattle.registers.specs.declared.Registers.{Registers}
 use Rattle.registers.specs.Rows.{registersOf, bytesOf, withM}
 use Rattle.registers.specs.Logic.{functionBit, newX, newY, logicOf}
-use Rattle.registers.specs.Resolver.{resolved}
+use Rattle.registers.specs.Resolver.{responders, resolved}
 use Rattle.judge.specs.declared.Instruction.{Instruction}
 use Rattle.judge.specs.Judge.{instructionAt, takes, gives, done, faultOf, judged}
 use Rattle.module.specs.Act.{State, modeOf, partAt, putPart, sourceItem, passedBy, acted}
@@ -83,9 +84,12 @@ pub record Logic : Type 0 where
   pub lineX : (r : Registers) (l : List ℕ) (t k : ℕ) → k < 256 → bitOf (logicOf r l t .x) k ≡ newX t (bitOf (r .x) k) (bitOf (r .y) k) (bitOf l k)
   pub lineY : (r : Registers) (l : List ℕ) (t k : ℕ) → k < 256 → bitOf (logicOf r l t .y) k ≡ newY t (bitOf (r .y) k) (bitOf l k)
   pub keepsM : (r : Registers) (l : List ℕ) (t : ℕ) → logicOf r l t .m ≡ r .m
-  -- "1 if any Y bit is set, else 0; the smallest set Y number, 0 if none; thirty zeros"
-  pub resolves : (y : ℕ → ℕ) (k : ℕ) → k < 256 → y k ≡ 1 → ((j : ℕ) → j < k → y j ≢ 1) → resolved y ≡ 1 ∷ k ∷ replicate 30 0
-  pub resolvesNone : (y : ℕ → ℕ) → ((k : ℕ) → k < 256 → y k ≢ 1) → resolved y ≡ replicate 32 0
+  -- document 02, Four: "byte 0 activity; bytes 1 and 2 the smallest responder, low byte first, 256 if there is none; bytes 3 and 4 the count of responders, 0 to 256; zeros after". The item where line k is the smallest responder, and the item where there is none
+  pub resolves : (y : ℕ → ℕ) (k : ℕ) → k < 256 → y k ≡ 1 → ((j : ℕ) → j < k → y j ≢ 1)
+      → resolved y ≡ 1 ∷ k ∷ 0 ∷ responders y % 256 ∷ responders y / 256 ∷ replicate 27 0
+  pub resolvesNone : (y : ℕ → ℕ) → ((k : ℕ) → k < 256 → y k ≢ 1) → resolved y ≡ 0 ∷ 0 ∷ 1 ∷ 0 ∷ 0 ∷ replicate 27 0
+  -- and the count is the number of lines whose Y bit is 1
+  pub counts : (y : ℕ → ℕ) → Numbered (λ k. y k ≡ 1) 256 (responders y)
 
 -- ---- an instruction
 

@@ -27,6 +27,8 @@ use Rattle.bits.proofs.lanes.keep_lane as keep_lane
 use Rattle.bits.proofs.quarters.quarters_of as quarters_of
 use Rattle.bits.proofs.quarters.lines_of as lines_of
 use Rattle.bits.proofs.quarters.mix as mix_quarter
+use Rattle.bits.proofs.twos.low as low
+use Rattle.bits.proofs.twos.high as high
 use Rattle.memory.proofs.load as load
 use Rattle.memory.proofs.store as store
 use Rattle.memory.proofs.store_masked as store_masked
@@ -191,6 +193,8 @@ module _ {M : Type 1} (𝓤 : URA M) (H : Heap 𝓤) (A : Atoms 𝓤) (memory : 
     pub quartersOf : OneOutcome 𝓤 quarters_of.ended (quarters_of.clauses 𝓤 H A memory runs) (λ κs r e. r)
     pub linesOf : OneOutcome 𝓤 lines_of.ended (lines_of.clauses 𝓤 H A memory runs) (λ κs r e. r)
     pub mixQuarter : OneOutcome 𝓤 mix_quarter.ended (mix_quarter.clauses 𝓤 H A memory runs) (λ κs r e. r)
+    pub low : OneOutcome 𝓤 low.ended (low.clauses 𝓤 H A memory runs) (λ κs r e. r)
+    pub high : OneOutcome 𝓤 high.ended (high.clauses 𝓤 H A memory runs) (λ κs r e. r)
 
   -- `memory`
   pub record OfMemory : Type 2 where

@@ -1,89 +1,89 @@
--- The smallest line of a search by bytes, by the trailing zeros of the first byte that is not 0 (`bits`, Counts); what the resolver's answer says. Assumes nothing.
-use mathlib.Core.Path.{_≡_, refl, sym, ap, _∙_}
-use mathlib.Core.Bool.{Bool, false, cond}
-use mathlib.Core.List.{List, _∷_, replicate}
+-- The smallest responder and the count of responders, byte by byte; what a resolve delivers. Assumes nothing.
+use mathlib.Core.Path.{_≡_, refl, sym, ap, ap₂, _∙_}
+use mathlib.Core.Bool.{Bool, cond}
+use mathlib.Core.List.{List, _∷_, _++_, replicate}
 use mathlib.Core.Logic.{_≢_}
-use Prim.Native.Nat.{ℕ, _+_, _-_, _*_, _%_, _^_, _<_, _≤_}
-use native.Mathlib.Nat.{zero-div}
-use native.Mathlib.Decide.{decLt}
+use Prim.Native.Nat.{ℕ, _+_, _*_, _/_, _%_, _^_, _<_}
 use native.Mathlib.Omega.{arith}
-use lib.Count.{trailingZeros}
-use lib.Dec.{eqb, ltb}
+use lib.Count.{trailingZeros, ones}
 use lib.ListN.{getD}
-use borrow.Author.Tests.{eqb-true, eqb-false, eq-eqb, ne-eqb, lt-ltb}
-use Rattle.bits.specs.Bits.{digit, bitOf}
-use Rattle.bits.specs.Search.{first}
-use Rattle.bits.proofs.Counts.{trailing-below, trailing-at, trailing-lt}
+use borrow.Author.Tests.{eqb-true, eq-eqb, ne-eqb, lt-ltb}
+use Rattle.bits.specs.Bits.{bitOf, two}
+use Rattle.bits.specs.Search.{count, isOne, Numbered}
+use Rattle.bits.proofs.Counts.{count-block, skip-block, hit-block}
 use Rattle.bits.proofs.Items.{bitOf-at}
-use Rattle.bits.proofs.Search.{NoneBelow, found, found-none, found-at, none-found}
-use Rattle.registers.specs.Resolver.{smallest, resolved}
+use Rattle.bits.proofs.Search.{NoneBelow, found, found-none, count-none, count-tells}
+use Rattle.registers.specs.Resolver.{smallest, responders, activity, resolved}
 
--- ---- a search by bytes
+-- ---- the smallest, by bytes
 
-abbrev isOne : List ℕ → ℕ → Bool
-isOne y k = eqb (bitOf y k) 1
-
--- no line below 8 i is 1
+-- no line of the bytes before byte i is 1
 abbrev pub NoneTo : List ℕ → ℕ → Type 0
-NoneTo y i = NoneBelow (isOne y) (8 * i)
+NoneTo y i = NoneBelow (isOne (bitOf y)) (8 * i)
 
-module _ (y : List ℕ) (i : ℕ) (before : NoneTo y i) where
-  -- number k from 8 i on is digit k - 8 i of byte i
-  within : (k : ℕ) → 8 * i ≤ k → k < 8 * i + 8 → bitOf y k ≡ digit (getD y i 0) (k - 8 * i)
-  within k l h =
-      let e : k ≡ 8 * i + (k - 8 * i) = omega arith in
-      ap (bitOf y) e ∙ bitOf-at y i (k - 8 * i) (omega arith)
-
-  zero-at : (k : ℕ) → 8 * i ≤ k → k < 8 * i + 8 → digit (getD y i 0) (k - 8 * i) ≡ 0 → isOne y k ≡ false
-  zero-at k l h e = ap (λ (x : ℕ). eqb x 1) (within k l h ∙ e)
-
+module _ (y : List ℕ) (i : ℕ) (bound : getD y i 0 < 2 ^ 8) (before : NoneTo y i) where
   -- a byte that is 0 is passed
   pub skip-byte : getD y i 0 ≡ 0 → NoneTo y (i + 1)
-  skip-byte e k h = go (decLt k (8 * i))
-    where
-      go : Dec (k < 8 * i) → isOne y k ≡ false
-      go (yes q) = before k q
-      go (no q) = zero-at k (omega arith) (omega arith) (ap (λ (x : ℕ). digit x (k - 8 * i)) e ∙ ap (λ (x : ℕ). x % 2) (zero-div (2 ^ (k - 8 * i))))
+  skip-byte e k h = skip-block (bitOf y) (8 * i) 8 (getD y i 0) bound (bitOf-at y i) before e k (omega arith)
 
-  -- a byte that is not has the smallest
-  pub hit-byte : i < 32 → 0 < getD y i 0 → getD y i 0 < 256 → 8 * i + trailingZeros 8 (getD y i 0) ≡ smallest (bitOf y)
+  -- one that is not has the smallest
+  pub hit-byte : i < 32 → 0 < getD y i 0 → 8 * i + trailingZeros 8 (getD y i 0) ≡ smallest (bitOf y)
   unfolding smallest
-  hit-byte hi p h =
-      let t : trailingZeros 8 (getD y i 0) < 8 = trailing-lt 8 (getD y i 0) p h in
-      found (isOne y) 256 (8 * i + trailingZeros 8 (getD y i 0)) (omega arith) (λ k q. go k q (decLt k (8 * i)))
-      (ap (λ (x : ℕ). eqb x 1) (bitOf-at y i (trailingZeros 8 (getD y i 0)) t ∙ trailing-at 8 (getD y i 0) t))
-    where
-      go : (k : ℕ) → k < 8 * i + trailingZeros 8 (getD y i 0) → Dec (k < 8 * i) → isOne y k ≡ false
-      go k q (yes u) = before k u
-      go k q (no u) =
-          zero-at k (omega arith) (omega (arith, trailing-lt 8 (getD y i 0) p h)) (trailing-below 8 (getD y i 0) (k - 8 * i) (omega arith))
+  hit-byte h p = hit-block (bitOf y) (8 * i) 8 (getD y i 0) bound (bitOf-at y i) before p 256 (omega arith)
 
--- where all 32 bytes were passed there is none
+-- where all 32 were passed there is none
 pub all-passed : (y : List ℕ) (i : ℕ) → i ≡ 32 → NoneTo y i → 256 ≡ smallest (bitOf y)
 unfolding smallest
-all-passed y i e before = found-none (isOne y) 256 (λ k h. before k (omega arith))
+all-passed y i e before = found-none (isOne (bitOf y)) 256 (λ k h. before k (omega arith))
 
--- ---- what the resolver's answer says: it is below 256 exactly where a line is 1, and then it is the smallest such line
+-- ---- the count, by bytes
 
-pub smallest-at : (y : ℕ → ℕ) → smallest y < 256 → y (smallest y) ≡ 1
-unfolding smallest
-smallest-at y h = eqb-true (y (first (λ k. eqb (y k) 1) 0 256)) 1 (found-at (λ k. eqb (y k) 1) 256 h)
+-- how many lines of the bytes before byte i are 1
+abbrev pub countTo : List ℕ → ℕ → ℕ
+countTo y i = count (isOne (bitOf y)) (8 * i)
 
-pub smallest-none : (y : ℕ → ℕ) (k : ℕ) → k < smallest y → y k ≢ 1
-unfolding smallest
-smallest-none y k h = eqb-false (y k) 1 (none-found (λ k. eqb (y k) 1) 256 k h)
+-- each byte adds its ones
+pub count-byte : (y : List ℕ) (i : ℕ) → getD y i 0 < 2 ^ 8 → countTo y i + ones (getD y i 0) ≡ countTo y (i + 1)
+count-byte y i bound =
+    let next : 8 * i + 8 ≡ 8 * (i + 1) = omega arith in
+    sym (count-block (bitOf y) (8 * i) 8 (getD y i 0) bound (bitOf-at y i)) ∙ ap (count (isOne (bitOf y))) next
+
+-- and that is the count of all 32
+pub all-counted : (y : List ℕ) (i n : ℕ) → i ≡ 32 → n ≡ countTo y i → n ≡ responders (bitOf y)
+unfolding responders
+all-counted y i n e c = c ∙ ap (countTo y) e
 
 -- ---- what a resolve delivers
 
-pub resolved-first : (y : ℕ → ℕ) (k : ℕ) → k < 256 → y k ≡ 1 → ((j : ℕ) → j < k → y j ≢ 1) → resolved y ≡ 1 ∷ k ∷ replicate 30 0
-unfolding resolved smallest
-resolved-first y k h one before =
-    let e : k ≡ smallest y = found (λ j. eqb (y j) 1) 256 k h (λ j q. ne-eqb (y j) 1 (before j q)) (eq-eqb (y k) 1 one) in
-    ap (λ (i : ℕ). cond (ltb i 256) (1 ∷ i ∷ replicate 30 0) (replicate 32 0)) (sym e)
-    ∙ ap (λ (t : Bool). cond t (1 ∷ k ∷ replicate 30 0) (replicate 32 0)) (lt-ltb k 256 h)
+-- the count is the number of lines with a 1
+pub responders-numbered : (y : ℕ → ℕ) → Numbered (λ k. y k ≡ 1) 256 (responders y)
+unfolding responders
+responders-numbered y = count-tells (λ k. y k ≡ 1) (isOne y) (λ k. eqb-true (y k) 1) (λ k. eq-eqb (y k) 1) 256
 
-pub resolved-none : (y : ℕ → ℕ) → ((k : ℕ) → k < 256 → y k ≢ 1) → resolved y ≡ replicate 32 0
-unfolding resolved smallest
+-- the item of the smallest responder s and the count c
+abbrev item-of : ℕ → ℕ → List ℕ
+item-of s c = activity s ∷ (two s ++ two c ++ replicate 27 0)
+
+-- as code puts it together, byte by byte
+pub resolved-is : (y : ℕ → ℕ) (s c a low high low′ high′ : ℕ) → s ≡ smallest y → c ≡ responders y
+    → a ≡ activity s → low ≡ s % 256 → high ≡ s / 256 → low′ ≡ c % 256 → high′ ≡ c / 256
+    → a ∷ low ∷ high ∷ low′ ∷ high′ ∷ replicate 27 0 ≡ resolved y
+unfolding resolved
+resolved-is y s c a low high low′ high′ es ec ea el eh el′ eh′ =
+    ap₂ (λ (x z : ℕ). x ∷ z ∷ high ∷ low′ ∷ high′ ∷ replicate 27 0) ea el
+    ∙ ap₂ (λ (x z : ℕ). activity s ∷ s % 256 ∷ x ∷ z ∷ high′ ∷ replicate 27 0) eh el′
+    ∙ ap (λ (x : ℕ). activity s ∷ s % 256 ∷ s / 256 ∷ c % 256 ∷ x ∷ replicate 27 0) eh′
+    ∙ ap₂ item-of es ec
+
+pub resolved-first : (y : ℕ → ℕ) (k : ℕ) → k < 256 → y k ≡ 1 → ((j : ℕ) → j < k → y j ≢ 1)
+    → resolved y ≡ 1 ∷ k ∷ 0 ∷ responders y % 256 ∷ responders y / 256 ∷ replicate 27 0
+unfolding smallest
+resolved-first y k h one before =
+    let e : k ≡ smallest y = found (isOne y) 256 k h (λ j q. ne-eqb (y j) 1 (before j q)) (eq-eqb (y k) 1 one) in
+    sym (resolved-is y k (responders y) 1 k 0 _ _ e refl (sym (ap (λ (t : Bool). cond t 1 0) (lt-ltb k 256 h))) (omega arith) (omega arith) refl refl)
+
+pub resolved-none : (y : ℕ → ℕ) → ((k : ℕ) → k < 256 → y k ≢ 1) → resolved y ≡ 0 ∷ 0 ∷ 1 ∷ 0 ∷ 0 ∷ replicate 27 0
+unfolding resolved smallest responders
 resolved-none y none =
-    let e : 256 ≡ smallest y = found-none (λ j. eqb (y j) 1) 256 (λ j q. ne-eqb (y j) 1 (none j q)) in
-    ap (λ (i : ℕ). cond (ltb i 256) (1 ∷ i ∷ replicate 30 0) (replicate 32 0)) (sym e)
+    let before : NoneBelow (isOne y) 256 = λ j q. ne-eqb (y j) 1 (none j q) in
+    ap₂ item-of (sym (found-none (isOne y) 256 before)) (count-none (isOne y) 256 before)

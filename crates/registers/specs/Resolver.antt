@@ -1,14 +1,23 @@
--- The resolver. Document 01, Instructions: "Resolve: delivers 32 bytes: 1 if any Y bit is set, else 0; the smallest set Y number, 0 if none; thirty zeros."
+-- The resolver. Document 02, Four, in place of document 01's sentence: "The resolved item becomes: byte 0 activity; bytes 1 and 2 the smallest responder, low byte first, 256 if there is none; bytes 3 and 4 the count of responders, 0 to 256; zeros after." A responder is a line whose bit of Y is 1. The count's low byte is first too (docs/DECISIONS.md).
 use mathlib.Core.Bool.{cond}
-use mathlib.Core.List.{List, _∷_, replicate}
+use mathlib.Core.List.{List, _∷_, _++_, replicate}
 use Prim.Native.Nat.{ℕ}
-use lib.Dec.{eqb, ltb}
-use Rattle.bits.specs.Search.{first}
+use lib.Dec.{ltb}
+use Rattle.bits.specs.Bits.{two}
+use Rattle.bits.specs.Search.{first, count, isOne}
 
--- The smallest of the 256 lines at which y is 1, or 256.
+-- "The smallest responder .. 256 if there is none": the smallest of the 256 lines at which y is 1.
 unfoldable pub smallest : (ℕ → ℕ) → ℕ
-smallest y = first (λ k. eqb (y k) 1) 0 256
+smallest y = first (isOne y) 0 256
+
+-- "The count of responders, 0 to 256."
+unfoldable pub responders : (ℕ → ℕ) → ℕ
+responders y = count (isOne y) 256
+
+-- "Activity": 1 if there is a smallest responder, else 0.
+abbrev pub activity : ℕ → ℕ
+activity smallest = cond (ltb smallest 256) 1 0
 
 -- What a resolve delivers, from the bits of Y.
 unfoldable pub resolved : (ℕ → ℕ) → List ℕ
-resolved y = cond (ltb (smallest y) 256) (1 ∷ smallest y ∷ replicate 30 0) (replicate 32 0)
+resolved y = activity (smallest y) ∷ (two (smallest y) ++ two (responders y) ++ replicate 27 0)

@@ -1,42 +1,75 @@
-// The resolver: is there a responder, and which is the first. Document 01, Instructions: Resolve.
+// The resolver: is there a responder, which is the smallest, and how many are there. Document 02, Four.
+use bits::twos::high;
+use bits::twos::low;
 ghost use mathlib.Core.Path.{_≡_};
-ghost use Prim.Native.Nat.{_<_, _≤_};
-ghost use lib.Count.{trailingZeros};
+ghost use Prim.Native.Nat.{_<_, _≤_, _^_};
+ghost use lib.Count.{trailingZeros, ones};
 ghost use Rattle.bits.specs.Bits.{bitOf};
-ghost use Rattle.registers.specs.Resolver.{smallest, resolved};
+ghost use Rattle.registers.specs.Resolver.{smallest, responders, activity, resolved};
 
-// How many digits of `b` stand below its lowest 1: 8 for 0. (A byte is below 256, which whoever reads one behind a reference learns here.)
-fn below_lowest(b: u8) -> usize
-    ensures { λ r. ⌜ (r ≡ trailingZeros 8 b) × (b < 256) × (r ≤ 8) ⌝ }
+// The smallest responder where there is none: no line has this number.
+const NONE: usize = 256;
+
+// How many digits of a byte stand below its lowest 1: 8 for 0. (A byte is below 2^8, which whoever reads one behind a reference learns here.)
+fn below_lowest(x: u8) -> usize
+    ensures { λ r. ⌜ (r ≡ trailingZeros 8 x) × (x < 2 ^ 8) × (r ≤ 8) ⌝ }
 {
-    u8::trailing_zeros(b) as usize
+    u8::trailing_zeros(x) as usize
 }
 
-// The smallest number of `y` that is 1, or 256: in the first byte that is not 0.
+// How many digits of a byte are 1.
+fn ones_of(x: u8) -> usize
+    ensures { λ r. ⌜ (r ≡ ones x) × (x < 2 ^ 8) × (r ≤ 8) ⌝ }
+{
+    u8::count_ones(x) as usize
+}
+
+// The smallest line that is 1, or none: in the first byte that is not 0.
 fn first_responder(y: &[u8; 32]) -> usize
-    ensures { λ r. ⌜ r ≡ smallest (bitOf (now (y .entry))) ⌝ }
+    ensures { λ r. ⌜ (r ≡ smallest (bitOf (now (y .entry)))) × (r ≤ 256) ⌝ }
 {
     let mut i: usize = 0;
     while i < 32 {
-        let b = y[i];
-        if b != 0 {
-            return 8 * i + below_lowest(b);
+        let x = y[i];
+        if x != 0 {
+            return 8 * i + below_lowest(x);
         }
         i += 1;
     }
-    256
+    NONE
+}
+
+// How many lines are 1: the ones of each byte, added up.
+fn count_responders(y: &[u8; 32]) -> usize
+    ensures { λ r. ⌜ (r ≡ responders (bitOf (now (y .entry)))) × (r ≤ 256) ⌝ }
+{
+    let mut n: usize = 0;
+    let mut i: usize = 0;
+    while i < 32 {
+        n += ones_of(y[i]);
+        i += 1;
+    }
+    n
+}
+
+// Byte 0 of the item, by the smallest responder.
+fn activity_of(first: usize) -> u8
+    ensures { λ r. ⌜ r ≡ activity first ⌝ }
+{
+    if first < NONE { 1 } else { 0 }
 }
 
 // What a resolve delivers.
 pub fn resolve(y: &[u8; 32]) -> [u8; 32]
     ensures { λ r. ⌜ r ≡ resolved (bitOf (now (y .entry))) ⌝ }
 {
-    let k = first_responder(y);
+    let count = count_responders(y);
+    let first = first_responder(y);
     let mut out = [0u8; 32];
-    if k < 256 {
-        out[0] = 1;
-        out[1] = k as u8;
-        return out;
-    }
+    out[0] = activity_of(first);
+    out[1] = low(first);
+    out[2] = high(first);
+    out[3] = low(count);
+    out[4] = high(count);
     out
 }

@@ -1,52 +1,58 @@
--- `acting::deliver`: the next part of the out buffer is lent, or nothing is. Assumes nothing.
+-- `acting::deliver`: by its kind. Assumes nothing.
 use mathlib.Core.Path.{sym, ap, _∙_}
+use mathlib.Core.Bool.{cond, _||_}
+use mathlib.Core.List.{List}
+use Prim.Native.Nat.{ℕ}
+use lib.Dec.{eqb}
 use denote.Ref.{now}
-use Rattle.module.specs.Act.{putPart}
-use Rattle.module.proofs.PartLaws.{part-put}
-use Rattle.module.proofs.ActLaws.{put-out, no-out}
+use borrow.Author.Tests.{ne-eqb}
+use Rattle.bits.specs.Bits.{bitOf}
+use Rattle.registers.specs.Resolver.{resolved}
+use Rattle.module.specs.Act.{putPart, outAfter}
 use borrow.Author.Needs.{needs}
-use native.Mathlib.Omega.{arith}
 use Rattle.module.proofs.acting.deliver.Statement.{statement}
 use Rattle.module.proofs.acting.deliver.Tie as tie
 
-mul-copy : tie.Need-mul-copy
-mul-copy c = let h = c .before .before .before .before .before .pre (sym (c .before .before .before .gives .ensures) ∙ c .before .before .if1 .taken) in omega arith
+-- what is put out, by the kind k
+abbrev put-by : List ℕ → ℕ → List ℕ → List ℕ → ℕ → List ℕ
+put-by out given f y k = cond (eqb k 4) (putPart out given f) (cond (eqb k 5) (putPart out given (resolved (bitOf y))) out)
 
-mul-copy-2 : tie.Need-mul-copy-2
-mul-copy-2 c = let h = c .before .before .before .before .before .pre (sym (c .before .before .before .gives .ensures) ∙ c .before .before .if1 .taken) in omega arith
-
-add-copy : tie.Need-add-copy
-add-copy c = let h = c .before .before .before .before .before .pre (sym (c .before .before .before .gives .ensures) ∙ c .before .before .if1 .taken) in omega arith
-
-part-copy-end : tie.Need-part-copy-end
-part-copy-end c = let h = c .before .before .before .before .before .pre (sym (c .before .before .before .gives .ensures) ∙ c .before .before .if1 .taken) in omega arith
+put-out-requires : tie.Need-put-out-requires
+put-out-requires c κs = c .before .before .before .before .pre (ap (λ (k : ℕ). eqb k 4 || eqb k 5) (c .before .if1 .taken))
 
 returns : tie.Need-returns
+unfolding outAfter
 returns c =
-    let a = c .before .before .before .before .before .before .before .before .before .args in
-    part-put (now (a .out)) (a .given) _
-    ∙ ap (putPart (now (a .out)) (a .given)) (c .before .before .copy .ensures)
-    ∙ put-out (a .i) (now (a .out)) (a .given) (now (a .f)) (now (a .y)) (sym (c .before .before .before .before .before .before .before .gives .ensures) ∙ c .before .before .before .before .before .before .if1 .taken) _ (c .before .before .before .before .before .outgoing .ensures)
+    let a = c .before .before .before .before .before .before .before .args in
+    c .before .before .put-out .ensures
+    ∙ sym (ap (put-by (now (a .out)) (a .given) (now (a .f)) (now (a .y))) (c .before .before .before .before .if1 .taken))
+
+put-out-requires-2 : tie.Need-put-out-requires-2
+put-out-requires-2 c κs =
+    c .before .before .before .before .before .before .before .before .pre (ap (λ (k : ℕ). eqb k 4 || eqb k 5) (c .before .before .before .if2 .taken))
 
 returns-2 : tie.Need-returns-2
+unfolding outAfter
 returns-2 c =
-    let a = c .before .before .before .args in
-    no-out (a .i) (now (a .out)) (a .given) (now (a .f)) (now (a .y)) (sym (c .before .gives .ensures) ∙ c .if1 .left)
+    let s = c .before .before .before .before .before in
+    let a = s .before .before .before .before .before .before .args in
+    c .before .before .put-out2 .ensures
+    ∙ ap (putPart (now (a .out)) (a .given)) (s .resolve .ensures)
+    ∙ sym (ap (put-by (now (a .out)) (a .given) (now (a .f)) (now (a .y))) (s .before .if2 .taken))
+
+returns-3 : tie.Need-returns-3
+unfolding outAfter
+returns-3 c = simp (ne-eqb _ _ (c .before .before .if1 .left), ne-eqb _ _ (c .if2 .left))
 
 pub deliver-spec : {M : Type 1} → statement M
 deliver-spec =
     tie.close
     (tie.spec
-    (λ c κs. search needs)
-    (λ c κs. search needs)
-    (λ c. search needs)
-    mul-copy
-    mul-copy-2
-    add-copy
-    (λ c. search needs)
-    (λ c. search needs)
-    part-copy-end
-    (λ c κs. search needs)
+    put-out-requires
     (λ c. search needs)
     returns
-    returns-2)
+    (λ c κs. search needs)
+    put-out-requires-2
+    (λ c. search needs)
+    returns-2
+    returns-3)

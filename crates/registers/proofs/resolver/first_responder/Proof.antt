@@ -17,33 +17,24 @@ abbrev μ-loop : tie.MeasureT-loop
 loop-holds : tie.Need-loop-holds Inv-loop μ-loop
 loop-holds c = (omega arith, λ k h. absurd (omega arith))
 
-mul-result : tie.Need-mul-result Inv-loop μ-loop
-mul-result c = omega arith
-
-add-result : tie.Need-add-result Inv-loop μ-loop
-add-result c = omega arith
-
 returns : tie.Need-returns Inv-loop μ-loop
 returns c =
     let l = c .before .before .before .before .loop in
-    ap (λ (k : ℕ). 8 * l .i + k) (c .below-lowest .ensures .0)
-    ∙ hit-byte (now (c .before .before .before .before .before .args .y)) (l .i) (l .inv .1) (omega arith) (omega arith) (c .below-lowest .ensures .1)
-
-add-i : tie.Need-add-i Inv-loop μ-loop
-add-i c = omega arith
-
-loop-less : tie.Need-loop-less Inv-loop μ-loop
-loop-less c = omega arith
+    let e = c .below-lowest .ensures in (
+      ap (λ (k : ℕ). 8 * l .i + k) (e .0)
+          ∙ hit-byte (now (c .before .before .before .before .before .args .y)) (l .i) (e .1) (l .inv .1) (omega arith) (omega arith),
+      omega (arith, e .2),
+    )
 
 loop-again : tie.Need-loop-again Inv-loop μ-loop
 loop-again c =
     let l = c .before .before .before .loop in
-    (omega arith, skip-byte (now (c .before .before .before .before .args .y)) (l .i) (l .inv .1) (omega arith))
+    (omega arith, skip-byte (now (c .before .before .before .before .args .y)) (l .i) (omega arith) (l .inv .1) (omega arith))
 
 returns-2 : tie.Need-returns-2 Inv-loop μ-loop
 returns-2 c =
     let l = c .before .loop in
-    all-passed (now (c .before .before .args .y)) (l .i) (omega arith) (l .inv .1)
+    (all-passed (now (c .before .before .args .y)) (l .i) (omega arith) (l .inv .1), omega arith)
 
 pub first-responder-spec : {M : Type 1} → statement M
 first-responder-spec =
@@ -53,11 +44,11 @@ first-responder-spec =
     μ-loop
     loop-holds
     (λ c. search needs)
-    mul-result
+    (λ c. omega arith)
     (λ c κs. search needs)
-    add-result
+    (λ c. omega arith)
     returns
-    add-i
-    loop-less
+    (λ c. omega arith)
+    (λ c. omega arith)
     loop-again
     returns-2)
