@@ -115,6 +115,7 @@ fi
 export room=$work
 # shellcheck source=tests/compiler.sh
 . "$here/tests/compiler.sh"
+one='' # the process of the first, by hold
 for name in one two; do "$compiler" -std=gnu11 -Wall -Wextra -Werror -O2 -shared -fPIC -nostdlib -DNAME="\"$name\"" -o "$work/$name.so" "$here/tests/program/pause.c" || die "tests/program/pause.c does not build"; done
 hold() { # NAME: starts a run in the folder, and comes back when it has made its new file and written nothing
     rm -f "$work/$1".{reached,go,fail}
