@@ -58,9 +58,9 @@
  * The source item makes one pass, flip and then shift. Logic joins it to X and Y; set M puts it into M; a store writes line P's bit
  * where line P points under mode and address; a masked store writes line P's bit there exactly if bit P of M is 1, where P is the
  * line after the flip: M does not go through the network; deliver puts the item into the next 32 bytes of the out buffer. Resolve
- * delivers an item of its own, of the responders, which are the lines whose bit of Y is 1: byte 0 is 1 if there is one, else 0; bytes
- * 1 and 2 are the smallest responder, 256 if there is none; bytes 3 and 4 are how many there are, 0 to 256; the other 27 are 0. Both
- * numbers have their low byte first: STARAN_SMALLEST_RESPONDER and STARAN_RESPONDERS read them. */
+ * delivers an item of its own, about the responders, the lines whose bit of Y is 1: byte 0 is 1 if there is one, else 0; bytes 1 and
+ * 2 are the smallest responder, 256 if there is none; bytes 3 and 4 are how many there are, 0 to 256; the other 27 are 0. Both
+ * numbers have their low byte first: STARAN_SMALLEST_RESPONDER and STARAN_RESPONDER_COUNT read them. */
 #ifndef STARAN_H
 #define STARAN_H
 
@@ -184,10 +184,11 @@ enum {
 #define STARAN_DELIVER_FROM(source, flip, shift) STARAN_INSTRUCTION(STARAN_KIND_DELIVER, source, 0, 0, 0, flip, shift, 0)
 #define STARAN_RESOLVE STARAN_INSTRUCTION(STARAN_KIND_RESOLVE, 0, 0, 0, 0, 0, 0, 0)
 
-/* What a resolve says, from its 32 bytes: whether there is a responder; the smallest, STARAN_NO_RESPONDER if there is none; how many. */
+/* What a resolve says, from its 32 bytes, of uint8_t: whether there is a responder; the smallest, 0 to 255, or STARAN_NO_RESPONDER; how
+ * many there are. The two numbers read `item` twice. */
 #define STARAN_ACTIVITY(item) ((item)[0])
 #define STARAN_SMALLEST_RESPONDER(item) ((item)[1] + 256 * (item)[2])
-#define STARAN_RESPONDERS(item) ((item)[3] + 256 * (item)[4])
+#define STARAN_RESPONDER_COUNT(item) ((item)[3] + 256 * (item)[4])
 #define STARAN_NO_RESPONDER 256
 
 /* The register record that a step is lent: the same 96 bytes in the same order as a run's registers. */
@@ -207,7 +208,8 @@ typedef char staran_register_record_is_96_bytes[sizeof(staran_registers) == STAR
 
 /* The version of the library that is linked: 65,536 times the major number, plus the minor. It takes nothing and changes nothing.
  *
- * A later version may write longer answers or a longer register record, or read an instruction otherwise: see docs/CHANGELOG.md. So a
+ * A later version may write longer answers or a longer register record, read an instruction otherwise or deliver other bytes: see
+ * docs/CHANGELOG.md. So a
  * program that was compiled with one version and is linked with another asks before its first call that
  * staran_version() == STARAN_VERSION.
  * Stack: at most 64 bytes. */

@@ -40,8 +40,9 @@ old() { head -c 5000 /dev/urandom >"$work/old"; cp "$work/old" "$work/f/after.pi
 same() { cmp -s "$work/f/after.pic" "$work/f/before.pic"; judge "$1" $?; }
 
 zeros=$(printf '%064d' 0)
-all=0100000001${zeros#??????????} none=0000010000${zeros#??????????} # what a resolve delivers of a full Y and of an empty one (document 02, Four)
-done_lines="r 0 0 2 0 1\n$all\n"
+item() { printf %s "$1${zeros#??????????}"; } # FIVE BYTES: a resolved item (document 02, Four)
+all_respond=$(item 0100000001) none_responds=$(item 0000010000)
+done_lines="r 0 0 2 0 1\n$all_respond\n"
 
 # ---- the document's example, and absent files
 fresh; says "the document's example" "$done_lines"
@@ -85,8 +86,10 @@ fresh; blocks list run.lst 000200000000001F FF00000000000000; old; says "a kind 
 fresh; blocks list run.lst 02030000FF000000; says "a store without a mode" "r 7 0 0 0 0\n"; none "a refused run makes no after.pic"
 fresh; blocks list run.lst 0404000000000000; says "items too few" "r 12 0 0 0 0\n"
 fresh; blocks list run.lst "$(times 257 0500000000000000)"; says "the out buffer too short for 257" "r 13 256 0 0 0\n"
-fresh; blocks list run.lst "$(times 256 0500000000000000)"; says "256 items fit, and none responds" "r 0 0 256 0 256\n$(times 256 "$none")\n"
+fresh; blocks list run.lst "$(times 256 0500000000000000)"; says "256 items fit, and none responds" "r 0 0 256 0 256\n$(times 256 "$none_responds")\n"
 fresh; blocks list run.lst 0404000000000000; blocks items in.itm "0123456789abcdef${zeros#????????????????}"; says "an item goes out as it came in" "r 0 0 1 1 1\n0123456789abcdef${zeros#????????????????}\n"
+
+fresh; blocks list run.lst 000400000000001A 0500000000000000; blocks items in.itm "08$(printf '%048d' 0)01$(printf '%012d' 0)"; says "stations 3 and 200 respond" "r 0 0 2 1 1\n$(item 0103000200)\n"
 
 # ---- what cannot be opened or read
 for name in before.pic:p run.lst:l in.itm:i; do

@@ -1,21 +1,21 @@
 /* An example of the library for C: the highest of the stations below 200 m, by two searches.
  *
  * Each word of the array is one station, its height in millimetres in a field of 32 bits. The list for less marks in Y the stations below 200 m, all at
- * once; the list for greatest keeps the highest of them. The marks are delivered, and the resolver says which station is the first of them, and how many
- * there are: two stations are equally high, so that both are marked. At last a number is tried that the field cannot hold, and refused. docs/LISTS.md has
- * the lists. */
+ * once; the list for greatest keeps the highest of them. The marks are delivered, and the resolver says which station is the smallest of them, and how
+ * many there are: two stations are equally high, so that both are marked. No station is below 150 m, and the resolver says none. At last a number is tried
+ * that the field cannot hold, and refused. docs/LISTS.md has the lists. */
 #include "staran.h"
 
 #include <stdio.h>
 #include <string.h>
 
-enum { STATIONS = 256, WIDTH = 32, HEIGHT = 0, LIMIT = 200000 };
+enum { STATIONS = 256, WIDTH = 32, HEIGHT = 0, LIMIT = 200000, LOWEST = 150000 };
 
 static uint8_t memory[STARAN_MEMORY_BYTES], registers[STARAN_REGISTERS_BYTES], out[2 * STARAN_ITEM_BYTES];
 static const uint8_t *const resolved = out + STARAN_ITEM_BYTES;
 
 /* The office's numbers: from 150 m on, in some order; stations 122 and 141 are both at 199.950 m. */
-static uint32_t height_of(uint32_t station) { return station == 141 ? 199950 : 150000 + station * 6967 % 100003; }
+static uint32_t height_of(uint32_t station) { return station == 141 ? 199950 : LOWEST + station * 6967 % 100003; }
 
 static uint32_t run(const char *what, const uint8_t *list, size_t list_length, const uint8_t *items, size_t items_length)
 {
@@ -50,16 +50,16 @@ static uint32_t deliver_marks(void)
 /* Compares the marks with what a loop over the stations finds, and the resolver's numbers with the marks; prints how many there are. */
 static int wrong_marks(uint32_t lowest, uint32_t limit)
 {
-    int marks = 0, wrong = 0, first = STARAN_NO_RESPONDER;
+    int marks = 0, wrong = 0, smallest = STARAN_NO_RESPONDER;
     for (uint32_t w = 0; w < STATIONS; w++) {
         if (marks == 0 && marked(w))
-            first = (int)w;
+            smallest = (int)w;
         marks += marked(w);
         wrong += marked(w) != (height_of(w) >= lowest && height_of(w) < limit);
     }
     printf("%-34s %d stations, %d of them wrongly or not at all\n", "marked:", marks, wrong);
-    printf("%-34s %d stations, the first is %d\n", "the resolver says:", STARAN_RESPONDERS(resolved), STARAN_SMALLEST_RESPONDER(resolved));
-    return wrong + (STARAN_RESPONDERS(resolved) != marks) + (STARAN_SMALLEST_RESPONDER(resolved) != first) + (STARAN_ACTIVITY(resolved) != (marks > 0));
+    printf("%-34s %d stations, the smallest is %d\n", "the resolver says:", STARAN_RESPONDER_COUNT(resolved), STARAN_SMALLEST_RESPONDER(resolved));
+    return wrong + (STARAN_RESPONDER_COUNT(resolved) != marks) + (STARAN_SMALLEST_RESPONDER(resolved) != smallest) + (STARAN_ACTIVITY(resolved) != (marks > 0));
 }
 
 int main(void)
@@ -94,6 +94,12 @@ int main(void)
     for (uint32_t w = 0; w < STATIONS; w++)
         if (marked(w))
             printf("station %3u, %u mm\n", (unsigned)w, (unsigned)height_of(w));
+
+    /* The same list with other items: none is below the lowest. */
+    staran_less_list(HEIGHT, WIDTH, LOWEST, less, sizeof less, items, sizeof items, two);
+    wrong += two[0] != STARAN_DONE || run("stations below 150 m:", less, two[1], items, two[2]) != STARAN_DONE;
+    wrong += deliver_marks() != STARAN_DONE;
+    wrong += wrong_marks(0, LOWEST);
 
     /* 2^17 mm is less than 200 m: a field of 17 bits cannot hold the limit. */
     staran_less_list(HEIGHT, 17, LIMIT, less, sizeof less, items, sizeof items, two);

@@ -1,4 +1,4 @@
-/* Holds the header's names to bytes and numbers that stand here as they stand in document 01 and, of the searches, in docs/LISTS.md, from C and from C++:
+/* Holds the header's names to bytes and numbers that stand here as they stand in document 01, in document 02 (Four, the resolved item) and, of the searches, in docs/LISTS.md, from C and from C++:
  * tests/c/run builds and runs it.
  * Says each name that does not hold, then every number with its meaning, for tests/c/run to compare with docs/numbers.tsv. */
 #include "staran.h"
@@ -127,18 +127,19 @@ static void functions(void)
 }
 
 /* What the macros read out of a resolved item: none, station 0 alone, station 255 alone, all; the printed line's bytes are document 02's, Four. */
-static void resolved(const char *what, uint8_t first, uint8_t last, uint8_t others, const char *digits, int activity, int smallest, int count)
+static void resolved(const char *what, uint8_t byte0, uint8_t byte31, uint8_t others, const char *digits, int activity, int smallest, int count)
 {
     const uint8_t list[] = {STARAN_RESOLVE};
     uint32_t answer[STARAN_RUN_NUMBERS];
     char item[2 * STARAN_ITEM_BYTES + 1];
     memset(registers + 64, others, 32);
-    registers[64] |= first;
-    registers[95] |= last;
+    registers[64] |= byte0;
+    registers[95] |= byte31;
+    memset(out, 0xA5, sizeof out);
     staran_run(memory, sizeof memory, registers, sizeof registers, list, sizeof list, out, 0, out, sizeof out, answer);
     snprintf(item, sizeof item, "%s%054d", digits, 0);
     bytes(what, out, STARAN_ITEM_BYTES, item);
-    hold(what, answer[0] == STARAN_DONE && STARAN_ACTIVITY(out) == activity && STARAN_SMALLEST_RESPONDER(out) == smallest && STARAN_RESPONDERS(out) == count);
+    hold(what, answer[0] == STARAN_DONE && STARAN_ACTIVITY(out) == activity && STARAN_SMALLEST_RESPONDER(out) == smallest && STARAN_RESPONDER_COUNT(out) == count);
     memset(registers + 64, 0, 32);
 }
 

@@ -103,7 +103,7 @@ static void logic(uint8_t x[restrict 32], uint8_t y[restrict 32], const uint8_t 
     memcpy(y, ny, ITEM);
 }
 
-static unsigned first_responder(const uint8_t y[32])
+static unsigned smallest_responder(const uint8_t y[32])
 {
     for (unsigned i = 0; i < ITEM; i++)
         if (y[i] != 0)
@@ -122,11 +122,11 @@ static unsigned count_responders(const uint8_t y[32])
 /* Activity; the smallest responder, or 256; how many there are: both low byte first. */
 static void resolve(const uint8_t y[32], uint8_t out[32])
 {
-    unsigned count = count_responders(y), first = first_responder(y);
+    unsigned count = count_responders(y), smallest = smallest_responder(y);
     memset(out, 0, ITEM);
-    out[0] = first < 256;
-    out[1] = (uint8_t)first;
-    out[2] = (uint8_t)(first >> 8);
+    out[0] = smallest < STARAN_NO_RESPONDER;
+    out[1] = (uint8_t)smallest;
+    out[2] = (uint8_t)(smallest >> 8);
     out[3] = (uint8_t)count;
     out[4] = (uint8_t)(count >> 8);
 }

@@ -136,14 +136,14 @@ unfolding count
 count-none f zero none = refl
 count-none f (suc n) none = ap₂ (λ (x : ℕ) (t : Bool). x + cond t 1 0) (count-none f n (λ j h. none j (omega arith))) (none n (omega arith))
 
--- ---- what a count says: the numbers below n at which the test holds, told off
+-- ---- what a count says: the numbers below n at which the test holds, numbered
 
 module _ (P : ℕ → Type 0) (n c : ℕ) (m : Numbered P n c) where
-  -- n has not the property: the same are told
-  told-same : (P n → ⊥) → Numbered P (suc n) c
-  told-same u =
+  -- n has not the property: the numbers stay
+  numbered-same : (P n → ⊥) → Numbered P (suc n) c
+  numbered-same u =
       record {
-        told = m .told;
+        nth = m .nth;
         below = λ j h. omega (arith, m .below j h);
         has = m .has;
         rising = m .rising;
@@ -154,22 +154,22 @@ module _ (P : ℕ → Type 0) (n c : ℕ) (m : Numbered P n c) where
       lower k h p (yes q) = absurd (u (subst P q p))
       lower k h p (no q) = omega arith
 
-  -- n has it: it is told last
+  -- n has it: it gets the next
   with-last : ℕ → ℕ
-  with-last j = cond (ltb j c) (m .told j) n
+  with-last j = cond (ltb j c) (m .nth j) n
 
-  before-last : (j : ℕ) → j < c → m .told j ≡ with-last j
+  before-last : (j : ℕ) → j < c → m .nth j ≡ with-last j
   unfolding with-last
-  before-last j h = sym (ap (λ (t : Bool). cond t (m .told j) n) (lt-ltb j c h))
+  before-last j h = sym (ap (λ (t : Bool). cond t (m .nth j) n) (lt-ltb j c h))
 
   the-last : (j : ℕ) → c ≤ j → n ≡ with-last j
   unfolding with-last
-  the-last j h = sym (ap (λ (t : Bool). cond t (m .told j) n) (le-ltb j c h))
+  the-last j h = sym (ap (λ (t : Bool). cond t (m .nth j) n) (le-ltb j c h))
 
-  told-last : P n → Numbered P (suc n) (c + 1)
-  told-last p =
+  numbered-last : P n → Numbered P (suc n) (c + 1)
+  numbered-last p =
       record {
-        told = with-last;
+        nth = with-last;
         below = λ j h. under j (decLt j c);
         has = λ j h. has j (decLt j c);
         rising = λ i j l h. rising i j l h (decLt j c);
@@ -196,18 +196,45 @@ module _ (P : ℕ → Type 0) (n c : ℕ) (m : Numbered P n c) where
 
 module _ (P : ℕ → Type 0) (f : ℕ → Bool) (holds : (k : ℕ) → f k ≡ true → P k) (tested : (k : ℕ) → P k → f k ≡ true) where
   -- a test of the property counts the numbers that have it
-  pub count-tells : (n : ℕ) → Numbered P n (count f n)
+  pub count-numbers : (n : ℕ) → Numbered P n (count f n)
   unfolding count
-  count-tells zero =
+  count-numbers zero =
       record {
-        told = λ j. 0;
+        nth = λ j. 0;
         below = λ j h. absurd (omega arith);
         has = λ j h. absurd (omega arith);
         rising = λ i j l h. absurd (omega arith);
         each = λ k h p. absurd (omega arith);
       }
-  count-tells (suc n) = go (f n) refl (count-tells n)
+  count-numbers (suc n) = go (f n) refl (count-numbers n)
     where
       go : (b : Bool) → f n ≡ b → Numbered P n (count f n) → Numbered P (suc n) (count f n + cond b 1 0)
-      go true e m = told-last P n (count f n) m (holds n e)
-      go false e m = subst (Numbered P (suc n)) (sym (add-zero (count f n))) (told-same P n (count f n) m (λ p. true≢false (sym (tested n p) ∙ e)))
+      go true e m = numbered-last P n (count f n) m (holds n e)
+      go false e m = subst (Numbered P (suc n)) (sym (add-zero (count f n))) (numbered-same P n (count f n) m (λ p. true≢false (sym (tested n p) ∙ e)))
+
+-- ---- and there is one such count
+
+module _ (P : ℕ → Type 0) (n c d : ℕ) (m : Numbered P n c) (l : Numbered P n d) where
+  -- in another numbering a number is no smaller
+  no-smaller : (j : ℕ) → j < c → (i : ℕ) × (i < d) × (l .nth i ≡ m .nth j) × (j ≤ i)
+  no-smaller zero h = let t = l .each (m .nth 0) (m .below 0 h) (m .has 0 h) in (t .0, t .1, t .2, omega arith)
+  no-smaller (suc j) h = go (no-smaller j (omega arith)) (l .each (m .nth (suc j)) (m .below (suc j) h) (m .has (suc j) h))
+    where
+      go : (i : ℕ) × (i < d) × (l .nth i ≡ m .nth j) × (j ≤ i) → (k : ℕ) × (k < d) × (l .nth k ≡ m .nth (suc j))
+          → (k : ℕ) × (k < d) × (l .nth k ≡ m .nth (suc j)) × (suc j ≤ k)
+      go p t = (t .0, t .1, t .2, later (decLt (p .0) (t .0)) (ℕ-discrete (t .0) (p .0)))
+        where
+          later : Dec (p .0 < t .0) → Dec (t .0 ≡ p .0) → suc j ≤ t .0
+          later (yes q) e = omega (arith, p .3)
+          later (no u) (yes e) = absurd (omega (arith, m .rising j (suc j) (omega arith) h, p .2, t .2, ap (l .nth) e))
+          later (no u) (no v) = absurd (omega (arith, m .rising j (suc j) (omega arith) h, p .2, t .2, l .rising (t .0) (p .0) (omega arith) (p .1)))
+
+  numbered-le : c ≤ d
+  numbered-le = go c refl
+    where
+      go : (k : ℕ) → k ≡ c → c ≤ d
+      go zero e = omega arith
+      go (suc k) e = let t = no-smaller k (omega arith) in omega (arith, t .1, t .3)
+
+pub numbered-once : (P : ℕ → Type 0) (n c d : ℕ) → Numbered P n c → Numbered P n d → c ≡ d
+numbered-once P n c d m l = omega (arith, numbered-le P n c d m l, numbered-le P n d c l m)

@@ -38,6 +38,6 @@ item f = pack f 32
 abbrev pub flipped : List ℕ → ℕ → ℕ → ℕ
 flipped l f k = bitOf l (bitXor k f)
 
--- A number below 65,536 as two bytes, low first.
+-- The two bytes of a number below 65,536. Document 01, Blocks on disk: "two bytes low first"; document 02, Four: "low byte first".
 abbrev pub two : ℕ → List ℕ
 two x = x % 256 ∷ x / 256 ∷ []

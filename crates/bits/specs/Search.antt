@@ -18,10 +18,10 @@ count f (suc n) = count f n + cond (f n) 1 0
 abbrev pub isOne : (ℕ → ℕ) → ℕ → Bool
 isOne f k = eqb (f k) 1
 
--- What a count says: exactly c of the numbers below n have the property P. They can be told off from 0 to c - 1, rising, each of them once and no other: `told j` is the one told j-th.
+-- What a count says: exactly c of the numbers below n have the property P. They can be numbered from 0 to c - 1, rising, each of them once and no other: `nth j` is the one with number j. No other c does it (`numbered-once` of proofs/Search).
 pub record Numbered (P : ℕ → Type 0) (n c : ℕ) : Type 0 where
-  pub told : ℕ → ℕ
-  pub below : (j : ℕ) → j < c → told j < n
-  pub has : (j : ℕ) → j < c → P (told j)
-  pub rising : (i j : ℕ) → i < j → j < c → told i < told j
-  pub each : (k : ℕ) → k < n → P k → (j : ℕ) × (j < c) × (told j ≡ k)
+  pub nth : ℕ → ℕ
+  pub below : (j : ℕ) → j < c → nth j < n
+  pub has : (j : ℕ) → j < c → P (nth j)
+  pub rising : (i j : ℕ) → i < j → j < c → nth i < nth j
+  pub each : (k : ℕ) → k < n → P k → (j : ℕ) × (j < c) × (nth j ≡ k)

@@ -4,7 +4,7 @@ pub mod copies;
 pub mod flips;
 pub mod lanes;
 pub mod quarters;
-pub mod twos;
+pub mod two_bytes;
 
 ghost use mathlib.Core.Path.{_≡_};
 ghost use Rattle.bits.specs.Steps.{mixed};

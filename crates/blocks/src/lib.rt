@@ -3,8 +3,8 @@
 //
 // These are inner functions: the length of a block and its place are the caller's to judge.
 use bits::copies::copy;
-use bits::twos::high;
-use bits::twos::low;
+use bits::two_bytes::high;
+use bits::two_bytes::low;
 ghost use mathlib.Core.Path.{_≡_};
 ghost use Prim.Native.Nat.{_+_, _%_, _/_, _<_, _≤_};
 ghost use lib.ListN.{length, take, drop, replicate};

@@ -16,7 +16,7 @@ use Rattle.registers.specs.declared.Registers.{Registers}
 use Rattle.registers.specs.Rows.{registersOf, bytesOf}
 use Rattle.registers.specs.Logic.{logicOf}
 use Rattle.registers.proofs.LogicLaws.{logic-X, logic-Y, choice-X, choice-Y}
-use Rattle.registers.proofs.ResolverLaws.{resolved-first, resolved-none, responders-numbered}
+use Rattle.registers.proofs.ResolverLaws.{resolved-first, resolved-none, responders-numbered, responders-once, responders-le}
 use Rattle.judge.specs.declared.Answer.{Answer}
 use Rattle.judge.specs.Judge.{judged}
 use Rattle.judge.proofs.Accepted.{run-done}
@@ -84,6 +84,8 @@ demand-two =
             resolves = resolved-first;
             resolvesNone = resolved-none;
             counts = responders-numbered;
+            countsOnce = responders-once;
+            countsMost = responders-le;
           };
       sources = λ i mem items r taken.
           let from = passed-source i mem items r taken in

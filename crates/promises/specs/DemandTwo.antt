@@ -19,7 +19,7 @@ use Rattle.network.specs.Answer.{passedItem}
 use Rattle.registers.specs.declared.Registers.{Registers}
 use Rattle.registers.specs.Rows.{registersOf, bytesOf, withM}
 use Rattle.registers.specs.Logic.{functionBit, newX, newY, logicOf}
-use Rattle.registers.specs.Resolver.{responders, resolved}
+use Rattle.registers.specs.Resolver.{responderCount, resolved}
 use Rattle.judge.specs.declared.Instruction.{Instruction}
 use Rattle.judge.specs.Judge.{instructionAt, takes, gives, done, faultOf, judged}
 use Rattle.module.specs.Act.{State, modeOf, partAt, putPart, sourceItem, passedBy, acted}
@@ -84,12 +84,14 @@ pub record Logic : Type 0 where
   pub lineX : (r : Registers) (l : List ℕ) (t k : ℕ) → k < 256 → bitOf (logicOf r l t .x) k ≡ newX t (bitOf (r .x) k) (bitOf (r .y) k) (bitOf l k)
   pub lineY : (r : Registers) (l : List ℕ) (t k : ℕ) → k < 256 → bitOf (logicOf r l t .y) k ≡ newY t (bitOf (r .y) k) (bitOf l k)
   pub keepsM : (r : Registers) (l : List ℕ) (t : ℕ) → logicOf r l t .m ≡ r .m
-  -- document 02, Four: "byte 0 activity; bytes 1 and 2 the smallest responder, low byte first, 256 if there is none; bytes 3 and 4 the count of responders, 0 to 256; zeros after". The item where line k is the smallest responder, and the item where there is none
+  -- document 02, Four: "byte 0 activity; bytes 1 and 2 the smallest responder, low byte first, 256 if there is none; bytes 3 and 4 the count of responders, 0 to 256; zeros after". The item where line k is the smallest responder, and the item where there is none; the count has its low byte first as well
   pub resolves : (y : ℕ → ℕ) (k : ℕ) → k < 256 → y k ≡ 1 → ((j : ℕ) → j < k → y j ≢ 1)
-      → resolved y ≡ 1 ∷ k ∷ 0 ∷ responders y % 256 ∷ responders y / 256 ∷ replicate 27 0
+      → resolved y ≡ 1 ∷ k ∷ 0 ∷ responderCount y % 256 ∷ responderCount y / 256 ∷ replicate 27 0
   pub resolvesNone : (y : ℕ → ℕ) → ((k : ℕ) → k < 256 → y k ≢ 1) → resolved y ≡ 0 ∷ 0 ∷ 1 ∷ 0 ∷ 0 ∷ replicate 27 0
-  -- and the count is the number of lines whose Y bit is 1
-  pub counts : (y : ℕ → ℕ) → Numbered (λ k. y k ≡ 1) 256 (responders y)
+  -- the count is the number of lines whose Y bit is 1, and no other number is; it is at most 256
+  pub counts : (y : ℕ → ℕ) → Numbered (λ k. y k ≡ 1) 256 (responderCount y)
+  pub countsOnce : (y : ℕ → ℕ) (c : ℕ) → Numbered (λ k. y k ≡ 1) 256 c → responderCount y ≡ c
+  pub countsMost : (y : ℕ → ℕ) → responderCount y ≤ 256
 
 -- ---- an instruction
 

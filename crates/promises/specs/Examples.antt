@@ -1,9 +1,7 @@
 -- The starred examples of document 01 as one table, in the document's order: its sentences, and of what each is; sums and differences are those of a run of the list that a builder wrote. Then the office's examples of document 02, Three and Four. All are proved in proofs/Examples.antt, and assume nothing.
 use mathlib.Core.Path.{_≡_}
-use mathlib.Core.Bool.{cond}
 use mathlib.Core.List.{List, [], _∷_, _++_}
 use Prim.Native.Nat.{ℕ, _-_, _*_, _%_, _<_, _≤_}
-use lib.Dec.{eqb}
 use lib.ListN.{length, take, drop, replicate}
 use Rattle.bits.specs.Bits.{bitOf, item}
 use Rattle.memory.specs.Access.{chipOf}
@@ -80,10 +78,10 @@ pub record EverySecond : Type 0 where
   pub stays : (i : Instruction) (items : List ℕ) (s : State) → Mirrors i s
       → (w b : ℕ) → w < 256 → b < 256 → (w % 2 ≡ 0 → b ≡ i .addr → ⊥) → table (cell (acted i items s .mem)) w b ≡ table (cell (s .mem)) w b
 
--- Document 02, Four: "Operators read "0" as station 0 when nothing answered." The two items, which differ in every byte that says something; and "document 01's printed item line then starts 0100000001 and goes on in zeros": what the program prints of a full Y, "r 0 0 2 0 1" and the item's 64 digits.
+-- Document 02, Four: "Operators read "0" as station 0 when nothing answered." The two items, which differ in all three things said, activity, smallest and count; and "document 01's printed item line then starts 0100000001 and goes on in zeros": what the program prints of a full Y, "r 0 0 2 0 1" and the item's 64 digits.
 pub record SaysNone : Type 0 where
-  pub nothing : resolved (λ k. 0) ≡ 0 ∷ 0 ∷ 1 ∷ 0 ∷ 0 ∷ replicate 27 0
-  pub stationZero : resolved (λ k. cond (eqb k 0) 1 0) ≡ 1 ∷ 0 ∷ 0 ∷ 1 ∷ 0 ∷ replicate 27 0
+  pub nothing : resolved (bitOf (replicate 32 0)) ≡ 0 ∷ 0 ∷ 1 ∷ 0 ∷ 0 ∷ replicate 27 0
+  pub stationZero : resolved (bitOf (1 ∷ replicate 31 0)) ≡ 1 ∷ 0 ∷ 0 ∷ 1 ∷ 0 ∷ replicate 27 0
   pub printedItem : printed 114 0 0 2 0 1 (resolved (bitOf (replicate 32 255)))
       ≡ (114 ∷ 32 ∷ 48 ∷ 32 ∷ 48 ∷ 32 ∷ 50 ∷ 32 ∷ 48 ∷ 32 ∷ 49 ∷ 10 ∷ [])
       ++ (48 ∷ 49 ∷ 48 ∷ 48 ∷ 48 ∷ 48 ∷ 48 ∷ 48 ∷ 48 ∷ 49 ∷ (replicate 54 48 ++ (10 ∷ [])))

@@ -27,8 +27,8 @@ use Rattle.bits.proofs.lanes.keep_lane as keep_lane
 use Rattle.bits.proofs.quarters.quarters_of as quarters_of
 use Rattle.bits.proofs.quarters.lines_of as lines_of
 use Rattle.bits.proofs.quarters.mix as mix_quarter
-use Rattle.bits.proofs.twos.low as low
-use Rattle.bits.proofs.twos.high as high
+use Rattle.bits.proofs.two_bytes.low as low
+use Rattle.bits.proofs.two_bytes.high as high
 use Rattle.memory.proofs.load as load
 use Rattle.memory.proofs.store as store
 use Rattle.memory.proofs.store_masked as store_masked

@@ -1,11 +1,11 @@
 // The resolver: is there a responder, which is the smallest, and how many are there. Document 02, Four.
-use bits::twos::high;
-use bits::twos::low;
+use bits::two_bytes::high;
+use bits::two_bytes::low;
 ghost use mathlib.Core.Path.{_≡_};
 ghost use Prim.Native.Nat.{_<_, _≤_, _^_};
 ghost use lib.Count.{trailingZeros, ones};
 ghost use Rattle.bits.specs.Bits.{bitOf};
-ghost use Rattle.registers.specs.Resolver.{smallest, responders, activity, resolved};
+ghost use Rattle.registers.specs.Resolver.{smallest, responderCount, activity, resolved};
 
 // The smallest responder where there is none: no line has this number.
 const NONE: usize = 256;
@@ -25,7 +25,7 @@ fn ones_of(x: u8) -> usize
 }
 
 // The smallest line that is 1, or none: in the first byte that is not 0.
-fn first_responder(y: &[u8; 32]) -> usize
+fn smallest_responder(y: &[u8; 32]) -> usize
     ensures { λ r. ⌜ (r ≡ smallest (bitOf (now (y .entry)))) × (r ≤ 256) ⌝ }
 {
     let mut i: usize = 0;
@@ -41,7 +41,7 @@ fn first_responder(y: &[u8; 32]) -> usize
 
 // How many lines are 1: the ones of each byte, added up.
 fn count_responders(y: &[u8; 32]) -> usize
-    ensures { λ r. ⌜ (r ≡ responders (bitOf (now (y .entry)))) × (r ≤ 256) ⌝ }
+    ensures { λ r. ⌜ (r ≡ responderCount (bitOf (now (y .entry)))) × (r ≤ 256) ⌝ }
 {
     let mut n: usize = 0;
     let mut i: usize = 0;
@@ -52,11 +52,11 @@ fn count_responders(y: &[u8; 32]) -> usize
     n
 }
 
-// Byte 0 of the item, by the smallest responder.
-fn activity_of(first: usize) -> u8
-    ensures { λ r. ⌜ r ≡ activity first ⌝ }
+// Byte 0 of the item, by the smallest responder `s`.
+fn activity_of(s: usize) -> u8
+    ensures { λ r. ⌜ r ≡ activity s ⌝ }
 {
-    if first < NONE { 1 } else { 0 }
+    if s < NONE { 1 } else { 0 }
 }
 
 // What a resolve delivers.
@@ -64,11 +64,11 @@ pub fn resolve(y: &[u8; 32]) -> [u8; 32]
     ensures { λ r. ⌜ r ≡ resolved (bitOf (now (y .entry))) ⌝ }
 {
     let count = count_responders(y);
-    let first = first_responder(y);
+    let s = smallest_responder(y);
     let mut out = [0u8; 32];
-    out[0] = activity_of(first);
-    out[1] = low(first);
-    out[2] = high(first);
+    out[0] = activity_of(s);
+    out[1] = low(s);
+    out[2] = high(s);
     out[3] = low(count);
     out[4] = high(count);
     out

@@ -1,12 +1,12 @@
--- `registers::resolver::first_responder`: no line of the bytes passed is 1, and the first byte that is not 0 has the smallest. Assumes nothing.
+-- `registers::resolver::smallest_responder`: no line of the bytes passed is 1, and the first byte that is not 0 has the smallest. Assumes nothing.
 use mathlib.Core.Path.{ap, _∙_}
 use Prim.Native.Nat.{ℕ, _≤_, _-_, _*_, _+_}
 use denote.Ref.{now}
 use Rattle.registers.proofs.ResolverLaws.{NoneTo, skip-byte, hit-byte, all-passed}
 use borrow.Author.Needs.{needs}
 use native.Mathlib.Omega.{arith}
-use Rattle.registers.proofs.resolver.first_responder.Statement.{statement}
-use Rattle.registers.proofs.resolver.first_responder.Tie as tie
+use Rattle.registers.proofs.resolver.smallest_responder.Statement.{statement}
+use Rattle.registers.proofs.resolver.smallest_responder.Tie as tie
 
 abbrev Inv-loop : tie.InvT-loop
 Inv-loop y i₀ i = (i ≤ 32) × NoneTo y i
@@ -36,8 +36,8 @@ returns-2 c =
     let l = c .before .loop in
     (all-passed (now (c .before .before .args .y)) (l .i) (omega arith) (l .inv .1), omega arith)
 
-pub first-responder-spec : {M : Type 1} → statement M
-first-responder-spec =
+pub smallest-responder-spec : {M : Type 1} → statement M
+smallest-responder-spec =
     tie.close
     (tie.spec
     Inv-loop
