@@ -1,7 +1,7 @@
 -- Laws of a search from the front and of a count. Assumes nothing.
 use mathlib.Core.Path.{_≡_, refl, sym, ap, ap₂, subst, _∙_}
 use mathlib.Core.Bool.{Bool, true, false, cond, true≢false}
-use Prim.Native.Nat.{ℕ, zero, suc, _+_, _<_, _≤_}
+use Prim.Native.Nat.{ℕ, zero, suc, _+_, _-_, _<_, _≤_}
 use native.Mathlib.Nat.{add-zero, add-suc, add-assoc}
 use native.Mathlib.Decide.{decLt, ℕ-discrete}
 use native.Mathlib.Numerals.{add-one}
@@ -9,6 +9,7 @@ use native.Mathlib.Omega.{arith}
 use lib.Dec.{ltb}
 use borrow.Author.Tests.{lt-ltb, le-ltb}
 use Rattle.bits.specs.Search.{first, count, Numbered}
+use Rattle.bits.proofs.Binary.{Bit, off, on, bit-lt}
 
 -- ---- what is found
 
@@ -136,6 +137,31 @@ unfolding count
 count-none f zero none = refl
 count-none f (suc n) none = ap₂ (λ (x : ℕ) (t : Bool). x + cond t 1 0) (count-none f n (λ j h. none j (omega arith))) (none n (omega arith))
 
+-- where the test holds at one number at most, the count is 1 or 0; and where it holds at one below n, it is 1
+module _ (f : ℕ → Bool) (once : (i j : ℕ) → i < j → f i ≡ true → f j ≡ true → ⊥) where
+  pub count-bit : (n : ℕ) → Bit (count f n)
+  unfolding count
+  count-bit zero = off
+  count-bit (suc n) = go (f n) refl (count-bit n)
+    where
+      before : f n ≡ true → NoneBelow f n
+      before e j h = not-at (f j) refl
+        where
+          not-at : (b : Bool) → f j ≡ b → b ≡ false
+          not-at true q = absurd (once j n h q e)
+          not-at false q = refl
+
+      go : (b : Bool) → f n ≡ b → Bit (count f n) → Bit (count f n + cond b 1 0)
+      go true e ih = subst (λ (x : ℕ). Bit (x + 1)) (sym (count-none f n (before e))) on
+      go false e ih = subst Bit (sym (add-zero (count f n))) ih
+
+  pub count-one : (n i : ℕ) → i < n → f i ≡ true → count f n ≡ 1
+  count-one n i h e =
+      let k : i + 1 + (n - (i + 1)) ≡ n = omega arith in
+      let s = ap (count f) (sym k) ∙ count-append f (i + 1) (n - (i + 1)) in
+      let t = count-more f i ∙ ap (λ (b : Bool). count f i + cond b 1 0) e in
+      omega (arith, bit-lt (count-bit n), s, t)
+
 -- ---- what a count says: the numbers below n at which the test holds, numbered
 
 module _ (P : ℕ → Type 0) (n c : ℕ) (m : Numbered P n c) where
@@ -238,3 +264,26 @@ module _ (P : ℕ → Type 0) (n c d : ℕ) (m : Numbered P n c) (l : Numbered P
 
 pub numbered-once : (P : ℕ → Type 0) (n c d : ℕ) → Numbered P n c → Numbered P n d → c ≡ d
 numbered-once P n c d m l = omega (arith, numbered-le P n c d m l, numbered-le P n d c l m)
+
+-- number k of a numbering is the one that has k before it
+module _ (P : ℕ → Type 0) (f : ℕ → Bool) (holds : (k : ℕ) → f k ≡ true → P k) (tested : (k : ℕ) → P k → f k ≡ true) where
+  pub numbered-before : (n c : ℕ) (m : Numbered P n c) (j : ℕ) → j < c → count f (m .nth j) ≡ j
+  numbered-before n c m j h = numbered-once P (m .nth j) (count f (m .nth j)) j (count-numbers P f holds tested (m .nth j)) before
+    where
+      earlier : (k : ℕ) → k < m .nth j → (i : ℕ) × (i < c) × (m .nth i ≡ k) → (i : ℕ) × (i < j) × (m .nth i ≡ k)
+      earlier k l (i, q, e) = (i, under (decLt i j) (ℕ-discrete i j), e)
+        where
+          under : Dec (i < j) → Dec (i ≡ j) → i < j
+          under (yes r) d = r
+          under (no u) (yes d) = absurd (omega (arith, ap (m .nth) d))
+          under (no u) (no v) = absurd (omega (arith, m .rising j i (omega arith) q))
+
+      before : Numbered P (m .nth j) j
+      before =
+          record {
+            nth = m .nth;
+            below = λ i l. m .rising i j l h;
+            has = λ i l. m .has i (omega arith);
+            rising = λ i k l q. m .rising i k l (omega arith);
+            each = λ k l p. earlier k l (m .each k (omega (arith, m .below j h)) p);
+          }

@@ -5,7 +5,7 @@ use native.Mathlib.Nat.{pow-suc, mod-lt}
 use native.Mathlib.Omega.{arith}
 use lib.Arith.{bin-ind, digits-div, digits-mod, lt-one}
 use lib.Pow.{pow-pos, split}
-use lib.Bits.{bitAnd, bitOr, bitXor, differ, and-step, or-step, xor-step, xor-zero-r, xor-self, xor-comm, xor-shr, and-shr, or-shr, xor-block, and-block}
+use lib.Bits.{bitAnd, bitOr, bitXor, differ, and-mask, and-step, or-step, xor-step, xor-zero-r, xor-self, xor-comm, xor-shr, and-shr, or-shr, xor-block, and-block}
 use Rattle.bits.proofs.Binary.{bit-lt, low-bit, differ-bit, min-bit, max-bit, differ-assoc, min-differ, differ-min}
 
 -- ---- the lowest digit and the rest
@@ -99,6 +99,16 @@ xor-and-not (suc n) m g hm hg =
 -- a mask and its complement split a number
 pub and-join : (n m g : ℕ) → m < 2 ^ n → g < 2 ^ n → bitXor (bitAnd (2 ^ n - 1 - m) g) (bitAnd m g) ≡ g
 and-join n m g hm hg = ap (λ (x : ℕ). bitXor x (bitAnd m g)) (sym (xor-and-not n m g hm hg)) ∙ xor-cancel g (bitAnd m g)
+
+-- across all eight digits a number is what it lacks of 255: the mirror of 256 lines
+pub xor-mirror : (k : ℕ) → k < 256 → bitXor k 255 ≡ 255 - k
+xor-mirror k h =
+    let e : k % 2 ^ 8 ≡ k = omega arith in
+    xor-comm k 255
+    ∙ ap (bitXor 255) (sym (and-mask k 8 ∙ e))
+    ∙ xor-and-not 8 k 255 h (omega arith)
+    ∙ and-mask (255 - k) 8
+    ∙ omega arith
 
 -- ---- the k low digits and the rest apart
 
