@@ -48,7 +48,7 @@ one-bounds last most fault bytes list h size = go (ℕ-discrete fault 0)
         let e = ap (λ (b : BuiltLeft). b .answer .count) (one-unwritten fault bytes list (λ z. u (sym n ∙ z))) in
         record { number = omega (arith, n); count = omega (arith, e) }
 
-two-bounds : (last most mostItems fault : ℕ) (bytes itemBytes list items : List ℕ) → fault ≤ last
+pub two-bounds : (last most mostItems fault : ℕ) (bytes itemBytes list items : List ℕ) → fault ≤ last
     → (fault ≡ 0 → (length bytes ≤ most) × (length itemBytes ≤ mostItems))
     → BoundedTwo last most mostItems (builtTwo fault bytes itemBytes list items .answer)
 two-bounds last most mostItems fault bytes itemBytes list items h size = go (ℕ-discrete fault 0)

@@ -13,7 +13,8 @@ use Rattle.bits.proofs.Digits.{digitsOf-lt, digitsOf-digit}
 use Rattle.bits.proofs.Tests.{all}
 use Rattle.registers.specs.Logic.{newX, newY}
 use Rattle.registers.proofs.LogicLaws.{newY-bit}
-use Rattle.builders.specs.Searches.{takeBit, differs, unequal, below, moveX, started, searchRound, searchRounds, searchList}
+use Rattle.builders.specs.Lists.{takeY}
+use Rattle.builders.specs.Searches.{differs, unequal, below, moveX, started, searchRound, searchRounds, searchList}
 use Rattle.builders.specs.Word.{Word, sourceBit, afterBit, actedWord, folded, ranWord}
 use Rattle.builders.proofs.Folds.{folded-append, folded-rounds}
 use Rattle.builders.proofs.Adder.{at-bits}
@@ -43,7 +44,7 @@ digit-more false p u w hu hw bit-on bit-off m = off (λ h. omega arith)
 -- ---- one round: X and Y after it, from old X and Y, the word's bit b and the number's d
 
 abbrev copied : ℕ → ℕ → ℕ
-copied y d = newY (takeBit .logic) y d
+copied y d = newY (takeY .logic) y d
 
 abbrev differing : ℕ → ℕ → ℕ
 differing d b = newY (differs 0 .logic) d b
@@ -131,7 +132,7 @@ module _ (less : Bool) (a n number : ℕ) (o : ℕ → ℕ) (v₀ : Word) (low :
       (record {
         bits = i .bits;
         keepsM = i .keepsM;
-        bitY = newY-bit (differs 0 .logic) _ (v .bits (a + k)) (newY-bit (takeBit .logic) (v .y) (o (v .taken)) (i .bitY));
+        bitY = newY-bit (differs 0 .logic) _ (v .bits (a + k)) (newY-bit (takeY .logic) (v .y) (o (v .taken)) (i .bitY));
         count = omega (arith, i .count);
         mark =
             subst (Mark (Compares less (v₀ .bits (a + k) * 2 ^ k + digitsOf (λ j. v₀ .bits (a + j)) k) (digit number k * 2 ^ k + digitsOf (digit number) k)))

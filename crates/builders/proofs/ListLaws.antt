@@ -1,9 +1,9 @@
 -- Laws of lists of instructions and of items as bytes: their length, one behind the other, and what is read back. Assumes nothing.
 use mathlib.Core.Path.{_≡_, refl, sym, ap, ap₂, _∙_}
 use mathlib.Core.Bool.{Bool}
-use mathlib.Core.List.{List, [], _∷_, _++_, append-assoc}
+use mathlib.Core.List.{List, [], _∷_, _++_, append-assoc, append-nil}
 use Prim.Native.Nat.{ℕ, zero, suc, _+_, _-_, _*_, _<_}
-use native.Mathlib.Nat.{one-mul}
+use native.Mathlib.Nat.{add-zero, add-suc, one-mul}
 use native.Mathlib.Decide.{ℕ-discrete}
 use native.Mathlib.Omega.{arith}
 use lib.ListN.{length, length-append, getD, take, drop}
@@ -26,6 +26,15 @@ pub encoded-append : (l r : List Instruction) → encoded (l ++ r) ≡ encoded l
 unfolding encoded
 encoded-append [] r = refl
 encoded-append (i ∷ l) r = ap (λ (z : List ℕ). bytesOf i ++ z) (encoded-append l r)
+
+-- the first k rounds, and those behind them
+pub rounds-apart : {A : Type 0} (g : ℕ → List A) (k n : ℕ) → rounds g (k + n) ≡ rounds g k ++ rounds (λ j. g (k + j)) n
+unfolding rounds
+rounds-apart g k zero = ap (rounds g) (add-zero k) ∙ sym (append-nil (rounds g k))
+rounds-apart g k (suc n) =
+    ap (rounds g) (add-suc k n)
+    ∙ ap (λ (l : List _). l ++ g (k + n)) (rounds-apart g k n)
+    ∙ append-assoc (rounds g k) (rounds (λ j. g (k + j)) n) (g (k + n))
 
 -- ---- what is read back
 

@@ -37,7 +37,7 @@ clear-of s a n e = go (ℕ-discrete s a) (decLe (a + n) s) (decLe (s + n) a)
         let t : crosses s a n ≡ true = simp (ne-eqb s a p, lt-ltb s (a + n) l, lt-ltb a (s + n) m) in
         absurd (true≢false (sym t ∙ e))
 
-and-left : (a b : Bool) → a ≡ false → (a && b) ≡ false
+pub and-left : (a b : Bool) → a ≡ false → (a && b) ≡ false
 and-left a b e = ap (λ (x : Bool). x && b) e
 
 of-clear : (s a n : ℕ) → Clear s a n → crosses s a n ≡ false

@@ -1,6 +1,6 @@
 -- Lists of instructions and of items as bytes, and the instructions that lists on fields are made of. Document 01, Instructions.
 use mathlib.Core.List.{List, [], _∷_, _++_}
-use Prim.Native.Nat.{ℕ, zero, suc}
+use Prim.Native.Nat.{ℕ, zero, suc, _+_, _*_}
 use Rattle.bits.specs.Bits.{item}
 use Rattle.judge.specs.declared.Instruction.{Instruction}
 use Rattle.judge.specs.Judge.{instructionAt}
@@ -18,6 +18,10 @@ logicFrom s t = instruction 0 s 0 0 0 0 0 t
 abbrev pub logicAt : ℕ → ℕ → Instruction
 logicAt g t = instruction 0 0 1 0 g 0 0 t
 
+-- Y takes the next item.
+abbrev pub takeY : Instruction
+takeY = logicFrom 4 (16 * 1 + 10)
+
 -- The store of a register to bit g of every word.
 abbrev pub storeAt : ℕ → ℕ → Instruction
 storeAt s g = instruction 2 s 1 0 g 0 0 0
@@ -32,7 +36,7 @@ unfoldable pub encoded : List Instruction → List ℕ
 encoded [] = []
 encoded (i ∷ l) = bytesOf i ++ encoded l
 
--- What a list does for bit 0, then for bit 1, and so on to bit n - 1; or the bytes of items 0 to n - 1.
+-- What a list does for 0, then for 1, and so on to n - 1: bits of a field, or rounds of a bit; or the bytes of items 0 to n - 1.
 unfoldable pub rounds : {A : Type 0} → (ℕ → List A) → ℕ → List A
 rounds g zero = []
 rounds g (suc n) = rounds g n ++ g n

@@ -7,7 +7,7 @@ use lib.ListN.{length}
 use Rattle.bits.specs.Bits.{digit}
 use Rattle.bits.specs.Rows.{Row, row, numberOf}
 use Rattle.judge.specs.declared.Instruction.{Instruction}
-use Rattle.builders.specs.Lists.{instruction, logicFrom, logicAt, encoded, rounds, itemsOf}
+use Rattle.builders.specs.Lists.{instruction, logicFrom, logicAt, takeY, encoded, rounds, itemsOf}
 use Rattle.builders.specs.Field.{wrongWidth, beyond}
 use Rattle.builders.specs.Building.{BuiltLeft, builtWith, BuiltTwoLeft, builtTwo}
 
@@ -19,10 +19,6 @@ setX = logicFrom 2 (16 * 0 + 15)
 
 abbrev pub clearX : Instruction
 clearX = logicFrom 2 (16 * 0 + 0)
-
--- "take the number as outside items": Y takes the number's next bit, which the item has on every line.
-abbrev pub takeBit : Instruction
-takeBit = logicFrom 4 (16 * 1 + 10)
 
 -- Y is 1 where bit g of the word is another than the number's.
 abbrev pub differs : ℕ → Instruction
@@ -49,8 +45,9 @@ abbrev pub decided : Bool → ℕ → Instruction
 decided true g = below g
 decided false g = unequal
 
+-- "take the number as outside items": Y takes the number's next bit, which the item has on every line.
 abbrev pub searchRound : Bool → ℕ → List Instruction
-searchRound less g = takeBit ∷ differs g ∷ decided less g ∷ []
+searchRound less g = takeY ∷ differs g ∷ decided less g ∷ []
 
 -- The field starts at a and has n bits.
 abbrev pub searchRounds : Bool → ℕ → ℕ → List Instruction

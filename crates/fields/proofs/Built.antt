@@ -1,15 +1,25 @@
 -- What a builder wrote, for whoever runs it: where its number is 0, its answer has the lengths, and the bytes that it counts are its list's, and its items'. Assumes nothing.
 use mathlib.Core.Path.{_≡_, refl, ap, ap₂, _∙_}
+use mathlib.Core.Bool.{false}
 use mathlib.Core.List.{List, _++_}
-use Prim.Native.Nat.{ℕ}
-use lib.ListN.{length, drop}
+use Prim.Native.Nat.{ℕ, _+_, _*_, _≤_}
+use native.Mathlib.Omega.{arith}
+use lib.ListN.{length, drop, length-append}
 use lib.Seq.{take-at}
-use Rattle.module.specs.Run.{Lent}
+use Rattle.registers.specs.Rows.{registersOf}
+use Rattle.judge.specs.declared.Instruction.{Instruction}
+use Rattle.judge.specs.Judge.{unfit}
+use Rattle.module.specs.Act.{acted}
+use Rattle.module.specs.Run.{Lent, begun, ranBy}
+use Rattle.builders.specs.Lists.{encoded, Each}
+use Rattle.builders.specs.Word.{folded, takenBy}
 use Rattle.builders.specs.declared.Built.{Built}
 use Rattle.builders.specs.declared.BuiltTwo.{BuiltTwo}
 use Rattle.builders.specs.Building.{builtWith, BuiltTwoLeft, builtTwo}
 use Rattle.fields.specs.Value.{listOf, runOf}
 use Rattle.fields.specs.Marks.{lentWith, runOfTwo}
+use Rattle.fields.specs.Closing.{stateAfter}
+use Rattle.fields.proofs.Runs.{Quiet, leftBy, ran-quiet}
 
 -- ---- a list
 
@@ -42,3 +52,23 @@ module _ (bytes itemBytes list items : List ℕ) where
       ap (λ (x : ℕ). runOfTwo (built x) lent) e
       ∙ ap₂ (λ (l i : List ℕ). runOf l (lentWith (i ++ lent .items) lent))
       (take-at bytes (drop (length bytes) list) (length bytes) refl) (take-at itemBytes (drop (length itemBytes) items) (length itemBytes) refl)
+
+  -- and after its first k instructions
+  pub two-after : (fault : ℕ) → fault ≡ 0 → (lent : Lent (List ℕ)) (k : ℕ)
+      → stateAfter (built fault) lent k ≡ ranBy bytes (itemBytes ++ lent .items) (begun lent (registersOf (lent .registers))) k
+  unfolding builtTwo
+  two-after fault e lent k =
+      ap (λ (x : ℕ). stateAfter (built x) lent k) e
+      ∙ ap₂ (λ (l i : List ℕ). ranBy l (i ++ lent .items) (begun lent (registersOf (lent .registers))) k)
+      (take-at bytes (drop (length bytes) list) (length bytes) refl) (take-at itemBytes (drop (length itemBytes) items) (length itemBytes) refl)
+
+-- a run of quiet instructions, to its end: the fold of the list, on its items and those behind them
+pub two-ran : (l : List Instruction) → Each Quiet l → length l ≤ 4096 → (itemBytes list items : List ℕ) (fault : ℕ) → fault ≡ 0 → (lent : Lent (List ℕ))
+    → length (lent .memory) ≡ 8192 → length (lent .registers) ≡ 96 → unfit 32 (length itemBytes + length (lent .items)) ≡ false
+    → 32 * takenBy l ≤ length itemBytes
+    → runOfTwo (builtTwo fault (encoded l) itemBytes list items) lent
+    ≡ leftBy lent (folded (λ i. acted i (itemBytes ++ lent .items)) l (begun lent (registersOf (lent .registers)))) (length l) (takenBy l)
+two-ran l quiet few itemBytes list items fault e lent memory registers supplied enough =
+    let together = length-append itemBytes (lent .items) in
+    two-run (encoded l) itemBytes list items fault e lent
+    ∙ ran-quiet l quiet few (lentWith (itemBytes ++ lent .items) lent) memory registers (ap (unfit 32) together ∙ supplied) (omega (arith, together))

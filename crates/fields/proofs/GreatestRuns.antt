@@ -37,7 +37,7 @@ use Rattle.fields.proofs.LineLaws.{acted-at, ran-at, at-self}
 use Rattle.fields.proofs.Whole.{zero-item}
 use Rattle.fields.proofs.Runs.{Quiet, plain-quiet, taken-none}
 use Rattle.fields.proofs.Kept.{end-good, marks-logic, marks-map}
-use Rattle.fields.proofs.Spreading.{withX, spread-all}
+use Rattle.fields.proofs.OrFlips.{withX, any-all}
 use Rattle.fields.proofs.Topmost.{Top, Some, top-more, top-there}
 use Rattle.fields.proofs.Plain.{plain-from, plain-at}
 use Rattle.fields.proofs.Built.{answer-built, list-built}
@@ -125,7 +125,7 @@ module _ (items : List ℕ) (s₀ : State) (g : ℕ) (hg : g < 256) (v : ℕ →
         λ z. let e = has (z .0) .0 (sym (taken-at (z .0) (z .1) .bitX) ∙ z .2) in (z .0, z .1, e .0, e .1),
         λ z. (z .0, z .1, taken-at (z .0) (z .1) .bitX ∙ has (z .0) .1 (z .2, z .3)),
       )
-      (spread-all items s₁ .marks p hp)
+      (any-all items s₁ .marks p hp)
     where
       has : (q : ℕ) → (newX (takeMarked g .logic) 0 (bitOf (s .regs .y) q) (v q % 2) ≡ 1) ↔ ((bitOf (s .regs .y) q ≡ 1) × (v q % 2 ≡ 1))
       has q = mark-iff (take-mark (bitOf-bit (s .regs .y) q) (low-bit (v q)))
@@ -140,7 +140,7 @@ module _ (items : List ℕ) (s₀ : State) (g : ℕ) (hg : g < 256) (v : ℕ →
       subst (λ (b : ℕ). At p s₃ (unmarked p (functionBit 4 (bitOf (s₂ .regs .x) p) b))) (low p)
       (ran-at p hp (without g ∷ unmark ∷ []) items s₂ _
       (more (plain-at (without g .logic) refl g hg .local) (more (plain-from (unmark .logic) refl .local) none))
-      (spread-all items s₁ .same p _ hp (taken-at p hp)))
+      (any-all items s₁ .same p _ hp (taken-at p hp)))
 
   round-line : (p : ℕ) → p < 256 → At p s₃ (withY (bitOf (s₃ .regs .y) p) (wordOf p s₀))
   round-line p hp =

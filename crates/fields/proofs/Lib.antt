@@ -6,9 +6,16 @@ pub mod Runs
 pub mod Plain
 pub mod Built
 pub mod Kept
-pub mod Spreading
+pub mod OrFlips
 pub mod Topmost
+pub mod Carried
+pub mod MoveSteps
+pub mod Closing
+pub mod SpreadBack
 pub mod Sums
 pub mod SumRuns
 pub mod SearchRuns
 pub mod GreatestRuns
+pub mod ClosingLists
+pub mod ClosingRuns
+pub mod SpreadingRuns

@@ -9,6 +9,7 @@ use borrow.Author.Tests.{eqb-true, eq-eqb, ltb-false, le-ltb, not-false}
 use lib.Dec.{eqb, ltb}
 use lib.ListN.{length}
 use Rattle.bits.specs.Search.{count}
+use Rattle.bits.proofs.Search.{count-none}
 use Rattle.registers.specs.Rows.{registersOf, bytesOf}
 use Rattle.judge.specs.declared.Instruction.{Instruction}
 use Rattle.judge.specs.declared.Lengths.{Lengths}
@@ -45,12 +46,6 @@ pub plain-quiet : (i : Instruction) → Plain i → Quiet i
 plain-quiet i h = record { gives-none = h .gives-none; formed = h .formed }
 
 -- ---- counts
-
-count-none : (f : ℕ → Bool) (n : ℕ) → ((k : ℕ) → k < n → f k ≡ false) → count f n ≡ 0
-unfolding count
-count-none f zero h = refl
-count-none f (suc n) h =
-    ap₂ (λ (x : ℕ) (t : Bool). x + cond t 1 0) (count-none f n (λ k l. h k (omega arith))) (h n (omega arith))
 
 -- what holds at k is counted beyond those before it
 count-beyond : (f : ℕ → Bool) (k n : ℕ) → k < n → f k ≡ true → count f k + 1 ≤ count f n

@@ -19,9 +19,9 @@ use Rattle.judge.specs.Steps.{fits}
 use Rattle.judge.proofs.FormLaws.{formed-by}
 use Rattle.module.specs.Act.{State, acted}
 use Rattle.module.specs.Run.{Lent, begun}
-use Rattle.builders.specs.Lists.{logicFrom, logicAt, encoded, Each, none, more}
+use Rattle.builders.specs.Lists.{logicFrom, logicAt, takeY, encoded, Each, none, more}
 use Rattle.builders.specs.Field.{Field}
-use Rattle.builders.specs.Searches.{takeBit, started, decided, moveX, searchRound, searchRounds, searchList, equalList, lessList, numberItems}
+use Rattle.builders.specs.Searches.{started, decided, moveX, searchRound, searchRounds, searchList, equalList, lessList, numberItems}
 use Rattle.builders.specs.Searches.{searchLength, itemsLength, searchFault, searchBuilt, equalBuilt, lessBuilt}
 use Rattle.builders.specs.Word.{Word, folded, ranWord, takenBy}
 use Rattle.builders.proofs.Folds.{each-append, each-rounds, each-map}
@@ -57,13 +57,13 @@ fit-from t choice = fit-plain (logicFrom 2 t) refl (plain-from t choice)
 fit-at : (t : ℕ) → ltb 4 (t / 16) ≡ false → (g : ℕ) → g < 256 → Fit (logicAt g t)
 fit-at t choice g h = fit-plain (logicAt g t) refl (plain-at t choice g h)
 
-fit-take : Fit takeBit
+fit-take : Fit takeY
 unfolding fits wrongKind wrongSource lacksTag wrongTag idleAccess wrongPass wrongLogic
 fit-take =
     record {
       logic = refl;
       local = local 0 4 0 0 26 (omega arith);
-      quiet = record { gives-none = refl; formed = formed-by takeBit (ap (λ (p : Bool). not p || false || false) none-permitted) refl refl };
+      quiet = record { gives-none = refl; formed = formed-by takeY (ap (λ (p : Bool). not p || false || false) none-permitted) refl refl };
     }
 
 fit-started : (less : Bool) → Fit (started less)

@@ -3,3 +3,4 @@ pub mod Line
 pub mod Items
 pub mod Value
 pub mod Marks
+pub mod Closing

@@ -34,9 +34,12 @@ greatestRun a n list = runOf (listOf (greatestBuilt a n list))
 
 -- ---- marks
 
--- Word w is marked in Y by these bytes of registers.
+-- Word w is marked by these 32 bytes; by Y, in these bytes of registers.
+abbrev pub MarkedBy : List ℕ → ℕ → Type 0
+MarkedBy marks w = bitOf marks w ≡ 1
+
 abbrev pub Marked : List ℕ → ℕ → Type 0
-Marked registers w = bitOf (registersOf registers .y) w ≡ 1
+Marked registers = MarkedBy (registersOf registers .y)
 
 -- Word w is marked, and no marked word has more in the field.
 abbrev pub Greatest : ℕ → ℕ → Lent (List ℕ) → ℕ → Type 0

@@ -16,13 +16,15 @@ use Rattle.module.proofs.RunLaws.{ran-answer}
 use Rattle.module.proofs.StepLaws.{stepped-answer}
 use Rattle.builders.specs.Sums.{sumBuilt, differenceBuilt}
 use Rattle.builders.specs.Searches.{searchBuilt, equalBuilt, lessBuilt, greatestBuilt}
+use Rattle.closing.specs.Closing.{closingBuilt, spreadingBuilt}
 use Rattle.builders.specs.Building.{BuiltLeft as Buffer, BuiltTwoLeft as Buffers}
 use Rattle.builders.proofs.Bounds.{Bounded as Bounded2, BoundedTwo, sum-bounds, difference-bounds, search-bounds, greatest-bounds}
+use Rattle.closing.proofs.Bounds.{closing-bounds, spreading-bounds}
 use Rattle.contents.specs.declared.Moved.{Moved}
 use Rattle.contents.specs.Content.{targetFits, ContentLeft, contentRead, contentWritten}
 use Rattle.contents.proofs.Bounds.{Bounded as Bounded3, read-bounds, write-bounds, write-content-bounds}
 use Rattle.pictures.specs.Picture.{pictureFits, PictureLeft, pictureRead, pictureWritten}
-use Rattle.library.specs.Left.{five, three, runLeft, stepLeft, PassLeft, passLeft, BufferLeft, builtLeft, sumLeft, differenceLeft, greatestLeft, TwoLeft, builtTwoLeft, equalLeft, lessLeft, movedLeft, readLeft, writeLeft, writePictureLeft, TargetsLeft, readPictureLeft}
+use Rattle.library.specs.Left.{five, three, runLeft, stepLeft, PassLeft, passLeft, BufferLeft, builtLeft, sumLeft, differenceLeft, greatestLeft, TwoLeft, builtTwoLeft, equalLeft, lessLeft, closingLeft, spreadingLeft, movedLeft, readLeft, writeLeft, writePictureLeft, TargetsLeft, readPictureLeft}
 
 -- ---- the array
 
@@ -107,12 +109,17 @@ built-two-left : (b c : Buffers) (w : List ℕ) → b ≡ c → w ≡ b .answer 
     → _≡_ {A = TwoLeft} (record { list = b .list; items = b .items; answer = w }) (builtTwoLeft c)
 built-two-left b c w e d = ap (λ (x : List ℕ). record { list = b .list; items = b .items; answer = x }) d ∙ ap builtTwoLeft e
 
+-- 4,944 bytes are the most of any such list, and 8,224 of its items
+small-two : (last most mostItems : ℕ) → most ≤ 4944 → mostItems ≤ 8224 → (b c : Buffers) → b ≡ c → BoundedTwo last most mostItems (c .answer)
+    → (b .answer .list ≤ 4944) × (b .answer .items ≤ 8224)
+small-two last most mostItems m i b c e h =
+    let s = subst (λ (x : Buffers). BoundedTwo last most mostItems (x .answer)) (sym e) h in
+    (omega (arith, s .list), omega (arith, s .items))
+
 -- either search
 pub search-small : (less : Bool) (a n number : ℕ) (list items : List ℕ) (l : Buffers) → l ≡ searchBuilt less a n number list items
-    → (l .answer .list ≤ 1552) × (l .answer .items ≤ 2048)
-search-small less a n number list items l e =
-    let s = subst (λ (x : Buffers). BoundedTwo 34 1552 2048 (x .answer)) (sym e) (search-bounds less a n number list items) in
-    (s .list, s .items)
+    → (l .answer .list ≤ 4944) × (l .answer .items ≤ 8224)
+search-small less a n number list items l e = small-two 34 1552 2048 (omega arith) (omega arith) l _ e (search-bounds less a n number list items)
 
 module _ (a n number : ℕ) (list items : List ℕ) (l : Buffers) (w : List ℕ) where
   pub equal-left : l ≡ equalBuilt a n number list items → w ≡ l .answer .number ∷ l .answer .list ∷ l .answer .items ∷ []
@@ -124,6 +131,23 @@ module _ (a n number : ℕ) (list items : List ℕ) (l : Buffers) (w : List ℕ)
       → _≡_ {A = TwoLeft} (record { list = l .list; items = l .items; answer = w }) (lessLeft a n number list items)
   unfolding lessLeft
   less-left e d = built-two-left l (lessBuilt a n number list items) w e d
+
+module _ (a s n : ℕ) (marks list items : List ℕ) (l : Buffers) where
+  pub closing-small : l ≡ closingBuilt a s n marks list items → (l .answer .list ≤ 4944) × (l .answer .items ≤ 8224)
+  closing-small e = small-two 35 4944 288 (omega arith) (omega arith) l _ e (closing-bounds a s n marks list items)
+
+  pub closing-left : (w : List ℕ) → l ≡ closingBuilt a s n marks list items → w ≡ l .answer .number ∷ l .answer .list ∷ l .answer .items ∷ []
+      → _≡_ {A = TwoLeft} (record { list = l .list; items = l .items; answer = w }) (closingLeft a s n marks list items)
+  unfolding closingLeft
+  closing-left w e d = built-two-left l (closingBuilt a s n marks list items) w e d
+
+  pub spreading-small : l ≡ spreadingBuilt a s n marks list items → (l .answer .list ≤ 4944) × (l .answer .items ≤ 8224)
+  spreading-small e = small-two 35 4616 8224 (omega arith) (omega arith) l _ e (spreading-bounds a s n marks list items)
+
+  pub spreading-left : (w : List ℕ) → l ≡ spreadingBuilt a s n marks list items → w ≡ l .answer .number ∷ l .answer .list ∷ l .answer .items ∷ []
+      → _≡_ {A = TwoLeft} (record { list = l .list; items = l .items; answer = w }) (spreadingLeft a s n marks list items)
+  unfolding spreadingLeft
+  spreading-left w e d = built-two-left l (spreadingBuilt a s n marks list items) w e d
 
 -- ---- disk
 

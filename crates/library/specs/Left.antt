@@ -7,6 +7,7 @@ use Rattle.judge.specs.declared.Answer.{Answer as Verdict}
 use Rattle.module.specs.Run.{Lent, Left, ran, stepped}
 use Rattle.builders.specs.Sums.{sumBuilt, differenceBuilt}
 use Rattle.builders.specs.Searches.{equalBuilt, lessBuilt, greatestBuilt}
+use Rattle.closing.specs.Closing.{closingBuilt, spreadingBuilt}
 use Rattle.builders.specs.Building.{BuiltLeft as Built, BuiltTwoLeft as BuiltTwo}
 use Rattle.contents.specs.declared.Moved.{Moved}
 use Rattle.contents.specs.Content.{ContentLeft, contentRead, contentWritten}
@@ -89,6 +90,12 @@ equalLeft start n number list items = builtTwoLeft (equalBuilt start n number li
 
 unfoldable pub lessLeft : ℕ → ℕ → ℕ → List ℕ → List ℕ → TwoLeft
 lessLeft start n number list items = builtTwoLeft (lessBuilt start n number list items)
+
+unfoldable pub closingLeft : ℕ → ℕ → ℕ → List ℕ → List ℕ → List ℕ → TwoLeft
+closingLeft a s n marks list items = builtTwoLeft (closingBuilt a s n marks list items)
+
+unfoldable pub spreadingLeft : ℕ → ℕ → ℕ → List ℕ → List ℕ → List ℕ → TwoLeft
+spreadingLeft a s n marks list items = builtTwoLeft (spreadingBuilt a s n marks list items)
 
 -- ---- a picture that is read: two buffers are written
 

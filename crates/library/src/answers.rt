@@ -47,7 +47,7 @@ pub fn two(b: Built) -> [u32; 2]
 
 // Number, and the counts of the bytes of a list and of its items.
 pub fn two_counts(b: BuiltTwo) -> [u32; 3]
-    requires { ⌜ (b .list ≤ 1552) × (b .items ≤ 2048) ⌝ }
+    requires { ⌜ (b .list ≤ 4944) × (b .items ≤ 8224) ⌝ }
     ensures { λ r. ⌜ r ≡ b .number ∷ b .list ∷ b .items ∷ [] ⌝ }
 {
     [b.number as u32, b.list as u32, b.items as u32]

@@ -5,7 +5,7 @@ mod answers;
 
 use registers::Registers;
 ghost use mathlib.Core.Path.{_≡_};
-ghost use Rattle.library.specs.Left.{runLeft, stepLeft, passLeft, sumLeft, differenceLeft, equalLeft, lessLeft, greatestLeft, readLeft, writeLeft, readPictureLeft, writePictureLeft, version};
+ghost use Rattle.library.specs.Left.{runLeft, stepLeft, passLeft, sumLeft, differenceLeft, equalLeft, lessLeft, greatestLeft, closingLeft, spreadingLeft, readLeft, writeLeft, readPictureLeft, writePictureLeft, version};
 
 // A run of an instruction list.
 #[no_mangle]
@@ -154,6 +154,42 @@ pub extern "C" fn staran_greatest_list(start: u32, n: u32, list: &mut [u8], answ
     *answer = answers::two(r);
 }
 
+// The list that closes up a field of the marked words, with its items.
+#[no_mangle]
+pub extern "C" fn staran_closing_list(
+    a: u32,
+    s: u32,
+    n: u32,
+    marks: &[u8],
+    list: &mut [u8],
+    items: &mut [u8],
+    answer: &mut [u32; 3],
+)
+    ensures { λ _. ⌜ record { list = now (list .exit); items = now (items .exit); answer = now (answer .exit) }
+        ≡ closingLeft a s n (now (marks .entry)) (now (list .entry)) (now (items .entry)) ⌝ }
+{
+    let r = closing::closing_list(a, s, n, marks, list, items);
+    *answer = answers::two_counts(r);
+}
+
+// The list that spreads it back, with its items.
+#[no_mangle]
+pub extern "C" fn staran_spreading_list(
+    a: u32,
+    s: u32,
+    n: u32,
+    marks: &[u8],
+    list: &mut [u8],
+    items: &mut [u8],
+    answer: &mut [u32; 3],
+)
+    ensures { λ _. ⌜ record { list = now (list .exit); items = now (items .exit); answer = now (answer .exit) }
+        ≡ spreadingLeft a s n (now (marks .entry)) (now (list .entry)) (now (items .entry)) ⌝ }
+{
+    let r = closing::spreading_list(a, s, n, marks, list, items);
+    *answer = answers::two_counts(r);
+}
+
 // Reads the blocks of a list or of items.
 #[no_mangle]
 pub extern "C" fn staran_read_content(
@@ -219,7 +255,7 @@ pub extern "C" fn staran_write_picture(
 // The version of the library that is linked, to be held to the header's.
 #[no_mangle]
 pub extern "C" fn staran_version() -> u32
-    ensures { λ r. ⌜ r ≡ version 3 0 ⌝ }
+    ensures { λ r. ⌜ r ≡ version 3 1 ⌝ }
 {
-    196608
+    196609
 }

@@ -22,11 +22,13 @@ use Rattle.builders.proofs.sums.difference_list as difference_list
 use Rattle.builders.proofs.searches.equal_list as equal_list
 use Rattle.builders.proofs.searches.less_list as less_list
 use Rattle.builders.proofs.searches.greatest_list as greatest_list
+use Rattle.closing.proofs.closing_list as closing_list
+use Rattle.closing.proofs.spreading_list as spreading_list
 use Rattle.contents.proofs.read_content as read_content
 use Rattle.contents.proofs.write_content as write_content
 use Rattle.pictures.proofs.read_picture as read_picture
 use Rattle.pictures.proofs.write_picture as write_picture
-use Rattle.library.specs.Left.{sumLeft, differenceLeft, equalLeft, lessLeft, greatestLeft, readLeft, writeLeft, writePictureLeft}
+use Rattle.library.specs.Left.{sumLeft, differenceLeft, equalLeft, lessLeft, greatestLeft, closingLeft, spreadingLeft, readLeft, writeLeft, writePictureLeft}
 use Rattle.library.proofs.staran_run as staran_run
 use Rattle.library.proofs.staran_step as staran_step
 use Rattle.library.proofs.staran_pass as staran_pass
@@ -36,12 +38,14 @@ use Rattle.library.proofs.staran_difference_list as staran_difference_list
 use Rattle.library.proofs.staran_equal_list as staran_equal_list
 use Rattle.library.proofs.staran_less_list as staran_less_list
 use Rattle.library.proofs.staran_greatest_list as staran_greatest_list
+use Rattle.library.proofs.staran_closing_list as staran_closing_list
+use Rattle.library.proofs.staran_spreading_list as staran_spreading_list
 use Rattle.library.proofs.staran_read_content as staran_read_content
 use Rattle.library.proofs.staran_write_content as staran_write_content
 use Rattle.library.proofs.staran_read_picture as staran_read_picture
 use Rattle.library.proofs.staran_write_picture as staran_write_picture
 use Rattle.library.proofs.staran_version as staran_version
-use Rattle.promises.specs.Clauses.{Run, Step, Pass, SumList, DifferenceList, EqualList, LessList, GreatestList, ReadContent, WriteContent, ReadPicture, WritePicture, LibraryRun, LibraryStep, LibraryPass, LibraryBuffer, LibraryTwo, LibraryReadPicture, LibraryVersion}
+use Rattle.promises.specs.Clauses.{Run, Step, Pass, SumList, DifferenceList, EqualList, LessList, GreatestList, ClosingList, SpreadingList, ReadContent, WriteContent, ReadPicture, WritePicture, LibraryRun, LibraryStep, LibraryPass, LibraryBuffer, LibraryTwo, LibraryReadPicture, LibraryVersion}
 
 module _ {M : Type 1} (𝓤 : URA M) (H : Heap 𝓤) (A : Atoms 𝓤) (memory : Memory → SProp 𝓤) (runs : Routine → Fun 𝓤) where
   open Connectives (connectives 𝓤) using (⌜_⌝, ⊤ₛ)
@@ -93,6 +97,14 @@ module _ {M : Type 1} (𝓤 : URA M) (H : Heap 𝓤) (A : Atoms 𝓤) (memory : 
   pub greatest-list-clauses : Says greatest_list.ended (greatest_list.clauses 𝓤 H A memory runs) (λ κs a r e.
       ⌜ GreatestList (a .0) (a .1 .0) (now (a .1 .1 .0)) (now (e .1 .1 .0)) r ⌝)
   greatest-list-clauses κs a g r e = (refl, refl)
+
+  pub closing-list-clauses : Says closing_list.ended (closing_list.clauses 𝓤 H A memory runs) (λ κs a r e.
+      ⌜ ClosingList (a .0) (a .1 .0) (a .1 .1 .0) (now (a .1 .1 .1 .0)) (now (a .1 .1 .1 .1 .0)) (now (a .1 .1 .1 .1 .1 .0)) (now (e .1 .1 .1 .1 .0)) (now (e .1 .1 .1 .1 .1 .0)) r ⌝)
+  closing-list-clauses κs a g r e = (refl, refl)
+
+  pub spreading-list-clauses : Says spreading_list.ended (spreading_list.clauses 𝓤 H A memory runs) (λ κs a r e.
+      ⌜ SpreadingList (a .0) (a .1 .0) (a .1 .1 .0) (now (a .1 .1 .1 .0)) (now (a .1 .1 .1 .1 .0)) (now (a .1 .1 .1 .1 .1 .0)) (now (e .1 .1 .1 .1 .0)) (now (e .1 .1 .1 .1 .1 .0)) r ⌝)
+  spreading-list-clauses κs a g r e = (refl, refl)
 
   pub read-content-clauses : Says read_content.ended (read_content.clauses 𝓤 H A memory runs) (λ κs a r e.
       ⌜ ReadContent (a .0) (now (a .1 .0)) (now (a .1 .1 .0)) (now (e .1 .1 .0)) r ⌝)
@@ -149,6 +161,14 @@ module _ {M : Type 1} (𝓤 : URA M) (H : Heap 𝓤) (A : Atoms 𝓤) (memory : 
   pub library-greatest-list-clauses : Says staran_greatest_list.ended (staran_greatest_list.clauses 𝓤 H A memory runs) (λ κs a r e.
       ⌜ LibraryBuffer (greatestLeft (a .0) (a .1 .0) (now (a .1 .1 .0))) (now (e .1 .1 .0)) (now (e .1 .1 .1 .0)) ⌝)
   library-greatest-list-clauses κs a g r e = (refl, refl)
+
+  pub library-closing-list-clauses : Says staran_closing_list.ended (staran_closing_list.clauses 𝓤 H A memory runs) (λ κs a r e.
+      ⌜ LibraryTwo (closingLeft (a .0) (a .1 .0) (a .1 .1 .0) (now (a .1 .1 .1 .0)) (now (a .1 .1 .1 .1 .0)) (now (a .1 .1 .1 .1 .1 .0))) (now (e .1 .1 .1 .1 .0)) (now (e .1 .1 .1 .1 .1 .0)) (now (e .1 .1 .1 .1 .1 .1 .0)) ⌝)
+  library-closing-list-clauses κs a g r e = (refl, refl)
+
+  pub library-spreading-list-clauses : Says staran_spreading_list.ended (staran_spreading_list.clauses 𝓤 H A memory runs) (λ κs a r e.
+      ⌜ LibraryTwo (spreadingLeft (a .0) (a .1 .0) (a .1 .1 .0) (now (a .1 .1 .1 .0)) (now (a .1 .1 .1 .1 .0)) (now (a .1 .1 .1 .1 .1 .0))) (now (e .1 .1 .1 .1 .0)) (now (e .1 .1 .1 .1 .1 .0)) (now (e .1 .1 .1 .1 .1 .1 .0)) ⌝)
+  library-spreading-list-clauses κs a g r e = (refl, refl)
 
   pub library-read-content-clauses : Says staran_read_content.ended (staran_read_content.clauses 𝓤 H A memory runs) (λ κs a r e.
       ⌜ LibraryBuffer (readLeft (a .0) (now (a .1 .0)) (now (a .1 .1 .0))) (now (e .1 .1 .0)) (now (e .1 .1 .1 .0)) ⌝)

@@ -23,11 +23,14 @@ use Rattle.builders.specs.declared.BuiltTwo.{BuiltTwo}
 use Rattle.builders.specs.Lists.{encoded}
 use Rattle.builders.specs.Sums.{sumList, differenceList, listLength, fieldRows, fieldsFault, sumBuilt, differenceBuilt}
 use Rattle.builders.specs.Searches.{searchList, numberItems, greatestList, searchLength, itemsLength, greatestLength, searchRows, greatestRows, searchFault, greatestFault, searchBuilt, greatestBuilt}
+use Rattle.closing.specs.Closing.{closingList, closingItems, closingLength, closingItemsLength, closingBuilt, spreadingList, spreadingItems, spreadingLength, spreadingItemsLength, spreadingBuilt, movingRows, movingFault}
 use Rattle.builders.specs.Building.{BuiltLeft as Buffer, builtWith, BuiltTwoLeft as Buffers, builtTwo}
 use Rattle.builders.proofs.ListLaws.{sum-length, difference-length, search-length, number-length, greatest-length}
 use Rattle.builders.proofs.OneLaws.{one-number, one-count, one-unwritten}
 use Rattle.builders.proofs.TwoLaws.{two-number, two-counts, two-unwritten}
 use Rattle.builders.proofs.Refusals.{fault-row, sound, no-fault}
+use Rattle.closing.proofs.Lengths.{closing-length, closing-items-length, spreading-length, spreading-items-length}
+use Rattle.closing.proofs.Refusals.{moving-row, moving-sound, moving-no-fault}
 use Rattle.builders.proofs.SearchRefusals.{search-row, search-sound, search-no-fault, greatest-row, greatest-sound, greatest-no-fault}
 use Rattle.contents.specs.declared.Moved.{Moved}
 use Rattle.contents.specs.File.{contentOf, blocksOf}
@@ -36,9 +39,9 @@ use Rattle.contents.proofs.AnswerLaws.{changed-not, left-parts}
 use Rattle.contents.proofs.Numbers as blocks
 use Rattle.pictures.specs.Picture.{pictureOf, scrambled, pictureFits, pictureRead, pictureWritten}
 use Rattle.pictures.proofs.PictureLaws.{both-parts}
-use Rattle.library.specs.Left.{five, three, runLeft, stepLeft, PassLeft, passLeft, BufferLeft, sumLeft, differenceLeft, TwoLeft, builtTwoLeft, equalLeft, lessLeft, greatestLeft, readLeft, writeLeft, writePictureLeft, TargetsLeft, readPictureLeft}
-use Rattle.promises.specs.Clauses.{Run, Step, SumList, DifferenceList, GreatestList, ReadContent, WriteContent, ReadPicture, WritePicture, LibraryRun, LibraryStep, LibraryPass, LibraryBuffer, LibraryTwo, LibraryReadPicture}
-use Rattle.promises.specs.DemandOne.{AnswerTable, PassTable, ListTable, TwoTable, FieldsTable, SearchTable, GreatestTable, ReadTable, WriteTable, Kept, AllKept, DemandOne}
+use Rattle.library.specs.Left.{five, three, runLeft, stepLeft, PassLeft, passLeft, BufferLeft, sumLeft, differenceLeft, TwoLeft, builtTwoLeft, equalLeft, lessLeft, greatestLeft, closingLeft, spreadingLeft, readLeft, writeLeft, writePictureLeft, TargetsLeft, readPictureLeft}
+use Rattle.promises.specs.Clauses.{Run, Step, SumList, DifferenceList, GreatestList, ClosingList, SpreadingList, ReadContent, WriteContent, ReadPicture, WritePicture, LibraryRun, LibraryStep, LibraryPass, LibraryBuffer, LibraryTwo, LibraryReadPicture}
+use Rattle.promises.specs.DemandOne.{AnswerTable, PassTable, ListTable, TwoTable, FieldsTable, SearchTable, GreatestTable, MovingTable, ClosingTable, SpreadingTable, ReadTable, WriteTable, Kept, AllKept, DemandOne}
 
 -- ---- the tables, from the laws
 
@@ -199,6 +202,36 @@ greatest-meets start n list list′ r h =
     (greatest-sound start n (length list) _ refl, λ g. greatest-no-fault start n (length list) (g .0) (g .1))
     (encoded (greatestList start n)) list list′ r h (greatestLength n) (greatest-length start n)
 
+-- a closing or a spreading, with the lengths of its list and of its items
+moving-meets : (a s n : ℕ) (marks : List ℕ) (need supply : ℕ) (bytes itemBytes : List ℕ) → length bytes ≡ need → length itemBytes ≡ supply
+    → (list items list′ items′ : List ℕ) (r : BuiltTwo)
+    → _≡_ {A = Buffers} (record { answer = r; list = list′; items = items′ })
+    (builtTwo (movingFault a s n (length marks) (length list) (length items) need supply) bytes itemBytes list items)
+    → MovingTable a s n (length marks) (length list) (length items) need supply r × Kept (r .number) list list′ × Kept (r .number) items items′
+moving-meets a s n marks need supply bytes itemBytes l i list items list′ items′ r h =
+    built-two (movingRows a s n (length marks) (length list) (length items) need supply) _
+    (movingFault a s n (length marks) (length list) (length items) need supply)
+    (moving-row a s n (length marks) (length list) (length items) need supply) (
+      moving-sound a s n (length marks) (length list) (length items) need supply _ refl,
+      λ g. moving-no-fault a s n (length marks) (length list) (length items) need supply (g .0) (g .1) (g .2) (g .3),
+    )
+    bytes itemBytes list items list′ items′ r h need supply l i
+
+module _ (a s n : ℕ) (marks list items list′ items′ : List ℕ) where
+  closing-meets : (r : BuiltTwo) → ClosingList a s n marks list items list′ items′ r
+      → ClosingTable a s n (length marks) (length list) (length items) r × Kept (r .number) list list′ × Kept (r .number) items items′
+  unfolding closingBuilt
+  closing-meets r h =
+      moving-meets a s n marks (closingLength n) closingItemsLength (encoded (closingList a s n)) (closingItems marks) (closing-length a s n)
+      (closing-items-length marks) list items list′ items′ r h
+
+  spreading-meets : (r : BuiltTwo) → SpreadingList a s n marks list items list′ items′ r
+      → SpreadingTable a s n (length marks) (length list) (length items) r × Kept (r .number) list list′ × Kept (r .number) items items′
+  unfolding spreadingBuilt
+  spreading-meets r h =
+      moving-meets a s n marks (spreadingLength n) (spreadingItemsLength n) (encoded (spreadingList a s n)) (spreadingItems marks n) (spreading-length a s n)
+      (spreading-items-length marks n) list items list′ items′ r h
+
 -- what an entry leaves that reads, or writes, where its answer is one of the table
 module _ (r a : Moved) (new old after : List ℕ) where
   moved : (Table : Moved → Type 0) → Table a → _≡_ {A = ContentLeft} (record { answer = r; buffer = after }) (record { answer = a; buffer = changed a new old })
@@ -302,6 +335,25 @@ library-greatest start n list list′ answer′ h =
     let m = greatest-meets start n list list′ r (λ t. record { answer = r; list = h t .buffer }) in
     (r, ap (λ (l : BufferLeft). l .answer) h, m .0, m .1)
 
+module _ (a s n : ℕ) (marks list items list′ items′ answer′ : List ℕ) where
+  library-closing : LibraryTwo (closingLeft a s n marks list items) list′ items′ answer′
+      → (r : BuiltTwo) × (answer′ ≡ r .number ∷ r .list ∷ r .items ∷ []) × ClosingTable a s n (length marks) (length list) (length items) r
+      × Kept (r .number) list list′ × Kept (r .number) items items′
+  unfolding closingLeft
+  library-closing h =
+      let r = closingBuilt a s n marks list items .answer in
+      let m = closing-meets a s n marks list items list′ items′ r (λ t. record { answer = r; list = h t .list; items = h t .items }) in
+      (r, ap (λ (l : TwoLeft). l .answer) h, m .0, m .1, m .2)
+
+  library-spreading : LibraryTwo (spreadingLeft a s n marks list items) list′ items′ answer′
+      → (r : BuiltTwo) × (answer′ ≡ r .number ∷ r .list ∷ r .items ∷ []) × SpreadingTable a s n (length marks) (length list) (length items) r
+      × Kept (r .number) list list′ × Kept (r .number) items items′
+  unfolding spreadingLeft
+  library-spreading h =
+      let r = spreadingBuilt a s n marks list items .answer in
+      let m = spreading-meets a s n marks list items list′ items′ r (λ t. record { answer = r; list = h t .list; items = h t .items }) in
+      (r, ap (λ (l : TwoLeft). l .answer) h, m .0, m .1, m .2)
+
 library-read : (kind : ℕ) (bytes target target′ answer′ : List ℕ) → LibraryBuffer (readLeft kind bytes target) target′ answer′
     → (r : Moved) × (answer′ ≡ three r) × ReadTable kind bytes (targetFits kind bytes target) r × Kept (r .number) target target′
 unfolding readLeft
@@ -350,6 +402,8 @@ demand-one =
       equalList = search-meets false;
       lessList = search-meets true;
       greatestList = greatest-meets;
+      closingList = closing-meets;
+      spreadingList = spreading-meets;
       readContent = read-meets;
       writeContent = write-meets;
       readPicture = read-picture-meets;
@@ -362,6 +416,8 @@ demand-one =
       libraryEqualList = unfold equalLeft in library-search false;
       libraryLessList = unfold lessLeft in library-search true;
       libraryGreatestList = library-greatest;
+      libraryClosingList = library-closing;
+      librarySpreadingList = library-spreading;
       libraryReadContent = library-read;
       libraryWriteContent = library-write;
       libraryReadPicture = library-read-picture;

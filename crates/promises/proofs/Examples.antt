@@ -6,11 +6,11 @@ use Prim.Native.Nat.{ℕ, _+_, _-_, _*_, _/_, _%_, _<_}
 use native.Mathlib.Decide.{ℕ-discrete}
 use native.Mathlib.Omega.{arith}
 use borrow.Author.Tests.{eq-eqb, ne-eqb}
-use lib.Bits.{bitXor}
 use lib.Dec.{T, eqb, eqb→eq}
 use lib.ListN.{take, drop, replicate}
 use Rattle.bits.specs.Bits.{bitOf, flipped}
 use Rattle.bits.proofs.Tests.{all, all-at}
+use Rattle.bits.proofs.Xor.{xor-mirror}
 use Rattle.memory.specs.Table.{table}
 use Rattle.memory.specs.Memory.{cell}
 use Rattle.memory.proofs.Examples.{mode-seven, mode-zero, mode-all}
@@ -54,20 +54,13 @@ starred =
 
 -- ---- every second station, mirrored
 
--- 85 in every byte is a 1 at the even numbers, and 255 across a number is 255 less it: two tests, at each of the 256 stations
+-- 85 in every byte is a 1 at the even numbers: a test at each of the 256 stations
 second : ℕ → Bool
 second w = eqb (bitOf (replicate 32 85) w) (1 - w % 2)
-
-mirror : ℕ → Bool
-mirror w = eqb (bitXor w 255) (255 - w)
 
 seconds : T (all 256 second)
 unfolding second bitOf
 seconds = tt
-
-mirrors : T (all 256 mirror)
-unfolding mirror
-mirrors = tt
 
 module _ (i : Instruction) (items : List ℕ) (s : State) (m : Mirrors i s) where
   across : ℕ → ℕ
@@ -82,9 +75,8 @@ module _ (i : Instruction) (items : List ℕ) (s : State) (m : Mirrors i s) wher
   marked w hw = ap (λ (x : List ℕ). bitOf x w) (m .everySecond) ∙ eqb→eq _ _ (all-at 256 second seconds w hw)
 
   mirrored : (w : ℕ) → w < 256 → flipped (sourceItem i (s .mem) items (s .regs) (s .taken)) (i .flip) w ≡ across w
-  unfolding mirror across
-  mirrored w hw =
-      ap₂ (λ (x : List ℕ) (f : ℕ). flipped x f w) from-y (m .mirrored) ∙ ap (bitOf (s .regs .y)) (eqb→eq _ _ (all-at 256 mirror mirrors w hw))
+  unfolding across
+  mirrored w hw = ap₂ (λ (x : List ℕ) (f : ℕ). flipped x f w) from-y (m .mirrored) ∙ ap (bitOf (s .regs .y)) (xor-mirror w hw)
 
   station : (w b : ℕ) → w < 256 → b < 256
       → table (cell (acted i items s .mem)) w b ≡ cond (eqb (1 - w % 2) 1 && eqb b (i .addr)) (across w) (table (cell (s .mem)) w b)

@@ -4,5 +4,6 @@ pub mod DemandOne
 pub mod DemandTwo
 pub mod DemandThree
 pub mod DemandSearch
+pub mod DemandClosing
 pub mod Examples
 pub mod Uniqueness

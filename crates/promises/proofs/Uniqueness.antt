@@ -19,7 +19,7 @@ use Rattle.report.specs.Report.{printed}
 use Rattle.session.specs.declared.Counts.{Counts}
 use Rattle.session.specs.Session.{Outcome}
 use Rattle.session.specs.Shown.{Shown}
-use Rattle.promises.specs.Uniqueness.{Sight, OneOutcome, Same, Entries, Library, Program, OfBits, OfMemory, OfWords, OfNetwork, OfRegisters, OfJudge, OfBlocks, OfContents, Uniqueness}
+use Rattle.promises.specs.Uniqueness.{Sight, OneOutcome, Same, Entries, Library, Program, OfBits, OfMemory, OfWords, OfNetwork, OfRegisters, OfJudge, OfBuilders, OfBlocks, OfContents, Uniqueness}
 
 -- ---- the laws
 
@@ -81,6 +81,8 @@ module _ {M : Type 1} (𝓤 : URA M) (H : Heap 𝓤) (A : Atoms 𝓤) (memory : 
         equalList = equation 𝓤 _ (λ κs a g r e. refl);
         lessList = equation 𝓤 _ (λ κs a g r e. refl);
         greatestList = equation 𝓤 _ (λ κs a g r e. refl);
+        closingList = equation 𝓤 _ (λ κs a g r e. refl);
+        spreadingList = equation 𝓤 _ (λ κs a g r e. refl);
         readContent = equation 𝓤 _ (λ κs a g r e. refl);
         writeContent = equation 𝓤 _ (λ κs a g r e. refl);
         readPicture = equation 𝓤 _ (λ κs a g r e. refl);
@@ -99,6 +101,8 @@ module _ {M : Type 1} (𝓤 : URA M) (H : Heap 𝓤) (A : Atoms 𝓤) (memory : 
         equalList = equation 𝓤 _ (λ κs a g r e. refl);
         lessList = equation 𝓤 _ (λ κs a g r e. refl);
         greatestList = equation 𝓤 _ (λ κs a g r e. refl);
+        closingList = equation 𝓤 _ (λ κs a g r e. refl);
+        spreadingList = equation 𝓤 _ (λ κs a g r e. refl);
         readContent = equation 𝓤 _ (λ κs a g r e. refl);
         writeContent = equation 𝓤 _ (λ κs a g r e. refl);
         readPicture = equation 𝓤 _ (λ κs a g r e. refl);
@@ -183,6 +187,18 @@ module _ {M : Type 1} (𝓤 : URA M) (H : Heap 𝓤) (A : Atoms 𝓤) (memory : 
         shortage = equation 𝓤 _ (λ κs a g r e. refl);
       }
 
+  of-builders : OfBuilders 𝓤 H A memory runs
+  of-builders =
+      record {
+        wrongWidth = equation 𝓤 _ (λ κs a g r e. refl);
+        beyond = equation 𝓤 _ (λ κs a g r e. refl);
+        put = equation 𝓤 _ (λ κs a g r e. refl);
+        putItem = equation 𝓤 _ (λ κs a g r e. refl);
+        putLogicFrom = equation 𝓤 _ (λ κs a g r e. refl);
+        putLogicAt = equation 𝓤 _ (λ κs a g r e. refl);
+        putStoreAt = equation 𝓤 _ (λ κs a g r e. refl);
+      }
+
   of-blocks : OfBlocks 𝓤 H A memory runs
   of-blocks =
       record {
@@ -216,6 +232,7 @@ module _ {M : Type 1} (𝓤 : URA M) (H : Heap 𝓤) (A : Atoms 𝓤) (memory : 
         ofNetwork = of-network;
         ofRegisters = of-registers;
         ofJudge = of-judge;
+        ofBuilders = of-builders;
         ofBlocks = of-blocks;
         ofContents = of-contents;
       }

@@ -11,6 +11,7 @@ use Rattle.builders.specs.declared.Built.{Built}
 use Rattle.builders.specs.declared.BuiltTwo.{BuiltTwo}
 use Rattle.builders.specs.Sums.{sumBuilt, differenceBuilt}
 use Rattle.builders.specs.Searches.{equalBuilt, lessBuilt, greatestBuilt}
+use Rattle.closing.specs.Closing.{closingBuilt, spreadingBuilt}
 use Rattle.builders.specs.Building.{BuiltLeft as Buffer, BuiltTwoLeft as Buffers}
 use Rattle.contents.specs.declared.Moved.{Moved}
 use Rattle.contents.specs.Content.{ContentLeft, contentRead, contentWritten}
@@ -57,6 +58,16 @@ LessList start n number list items list′ items′ r =
 abbrev pub GreatestList : (start n : ℕ) (list list′ : List ℕ) → Built → Type 0
 GreatestList start n list list′ r = _≡_ {A = Buffer} (record { answer = r; list = list′ }) (greatestBuilt start n list)
 
+-- `closing::closing_list`
+abbrev pub ClosingList : (a s n : ℕ) (marks list items list′ items′ : List ℕ) → BuiltTwo → Type 0
+ClosingList a s n marks list items list′ items′ r =
+    _≡_ {A = Buffers} (record { answer = r; list = list′; items = items′ }) (closingBuilt a s n marks list items)
+
+-- `closing::spreading_list`
+abbrev pub SpreadingList : (a s n : ℕ) (marks list items list′ items′ : List ℕ) → BuiltTwo → Type 0
+SpreadingList a s n marks list items list′ items′ r =
+    _≡_ {A = Buffers} (record { answer = r; list = list′; items = items′ }) (spreadingBuilt a s n marks list items)
+
 -- ---- the disk
 
 -- `contents::read_content`
@@ -98,7 +109,7 @@ LibraryPass item flip code passed′ answer′ = _≡_ {A = PassLeft} (record { 
 abbrev pub LibraryBuffer : BufferLeft → (buffer′ answer′ : List ℕ) → Type 0
 LibraryBuffer l buffer′ answer′ = _≡_ {A = BufferLeft} (record { buffer = buffer′; answer = answer′ }) l
 
--- `staran_equal_list` and `staran_less_list`, which write a list and its items
+-- `staran_equal_list`, `staran_less_list`, `staran_closing_list` and `staran_spreading_list`, which write a list and its items
 abbrev pub LibraryTwo : TwoLeft → (list′ items′ answer′ : List ℕ) → Type 0
 LibraryTwo l list′ items′ answer′ = _≡_ {A = TwoLeft} (record { list = list′; items = items′; answer = answer′ }) l
 
@@ -107,6 +118,6 @@ abbrev pub LibraryReadPicture : (kind : ℕ) (bytes memory registers memory′ r
 LibraryReadPicture kind bytes memory registers memory′ registers′ answer′ =
     _≡_ {A = TargetsLeft} (record { memory = memory′; registers = registers′; answer = answer′ }) (readPictureLeft kind bytes memory registers)
 
--- `staran_version`: 3.0
+-- `staran_version`: 3.1
 abbrev pub LibraryVersion : ℕ → Type 0
-LibraryVersion r = r ≡ version 3 0
+LibraryVersion r = r ≡ version 3 1

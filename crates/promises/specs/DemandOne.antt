@@ -22,14 +22,15 @@ use Rattle.builders.specs.declared.BuiltTwo.{BuiltTwo}
 use Rattle.builders.specs.Field.{Field}
 use Rattle.builders.specs.Sums.{Fields, listLength, fieldRows}
 use Rattle.builders.specs.Searches.{searchLength, itemsLength, greatestLength, searchRows, greatestRows}
+use Rattle.closing.specs.Closing.{closingLength, closingItemsLength, spreadingLength, spreadingItemsLength, movingRows, FieldsApart}
 use Rattle.blocks.specs.Block.{blockBytes}
 use Rattle.contents.specs.declared.Moved.{Moved}
 use Rattle.contents.specs.File.{pictureBytes, contentOf, kindRight, sizeFits, blockCount}
 use Rattle.contents.specs.Content.{targetFits, contentFits}
 use Rattle.contents.specs.Numbers.{Answers, Sound, ReadRefused, writeRows}
 use Rattle.pictures.specs.Picture.{pictureFits}
-use Rattle.library.specs.Left.{five, three, sumLeft, differenceLeft, equalLeft, lessLeft, greatestLeft, readLeft, writeLeft, writePictureLeft}
-use Rattle.promises.specs.Clauses.{Run, Step, Pass, SumList, DifferenceList, EqualList, LessList, GreatestList, ReadContent, WriteContent, ReadPicture, WritePicture, LibraryRun, LibraryStep, LibraryPass, LibraryBuffer, LibraryTwo, LibraryReadPicture, LibraryVersion}
+use Rattle.library.specs.Left.{five, three, sumLeft, differenceLeft, equalLeft, lessLeft, greatestLeft, closingLeft, spreadingLeft, readLeft, writeLeft, writePictureLeft}
+use Rattle.promises.specs.Clauses.{Run, Step, Pass, SumList, DifferenceList, EqualList, LessList, GreatestList, ClosingList, SpreadingList, ReadContent, WriteContent, ReadPicture, WritePicture, LibraryRun, LibraryStep, LibraryPass, LibraryBuffer, LibraryTwo, LibraryReadPicture, LibraryVersion}
 
 -- ---- Network: "it gives 10 and a zero item where byte 6 is none of the 37, and otherwise 0 and the passed item"
 pub record PassTable (lines : List ℕ) (flip code : ℕ) (r : Passed) : Type 0 where
@@ -78,6 +79,17 @@ SearchTable start n number list items =
 -- Greatest, which has no number and no items.
 abbrev pub GreatestTable : (start n list : ℕ) → Built → Type 0
 GreatestTable start n list = ListTable (greatestRows start n list) (Field start n × (greatestLength n ≤ list)) (greatestLength n)
+
+-- Closing up and spreading: `marks`, `list` and `items` are the lengths of what is lent, `need` and `supply` those of the list and of its items. Document 02: "35 for marks that are not 32 bytes, 30 for a width not 1 to 32, 31, 32 where S meets A at all, 33 for either buffer, in that order"
+abbrev pub MovingTable : (a s n marks list items need supply : ℕ) → BuiltTwo → Type 0
+MovingTable a s n marks list items need supply =
+    TwoTable (movingRows a s n marks list items need supply) ((marks ≡ 32) × FieldsApart a s n × (need ≤ list) × (supply ≤ items)) need supply
+
+abbrev pub ClosingTable : (a s n marks list items : ℕ) → BuiltTwo → Type 0
+ClosingTable a s n marks list items = MovingTable a s n marks list items (closingLength n) closingItemsLength
+
+abbrev pub SpreadingTable : (a s n marks list items : ℕ) → BuiltTwo → Type 0
+SpreadingTable a s n marks list items = MovingTable a s n marks list items (spreadingLength n) (spreadingItemsLength n)
 
 -- ---- Blocks on disk: "Place is the block for 21 to 24, else 0"
 
@@ -137,6 +149,11 @@ pub record DemandOne : Type 0 where
       → SearchTable start n number (length list) (length items) r × Kept (r .number) list list′ × Kept (r .number) items items′
   pub greatestList : (start n : ℕ) (list list′ : List ℕ) (r : Built) → GreatestList start n list list′ r
       → GreatestTable start n (length list) r × Kept (r .number) list list′
+  -- `closing_list` and `spreading_list`
+  pub closingList : (a s n : ℕ) (marks list items list′ items′ : List ℕ) (r : BuiltTwo) → ClosingList a s n marks list items list′ items′ r
+      → ClosingTable a s n (length marks) (length list) (length items) r × Kept (r .number) list list′ × Kept (r .number) items items′
+  pub spreadingList : (a s n : ℕ) (marks list items list′ items′ : List ℕ) (r : BuiltTwo) → SpreadingList a s n marks list items list′ items′ r
+      → SpreadingTable a s n (length marks) (length list) (length items) r × Kept (r .number) list list′ × Kept (r .number) items items′
   -- `read_content`, of a list or items
   pub readContent : (kind : ℕ) (bytes target target′ : List ℕ) (r : Moved)
       → ReadContent kind bytes target target′ r
@@ -179,6 +196,13 @@ pub record DemandOne : Type 0 where
       × Kept (r .number) list list′ × Kept (r .number) items items′
   pub libraryGreatestList : (start n : ℕ) (list list′ answer′ : List ℕ) → LibraryBuffer (greatestLeft start n list) list′ answer′
       → (r : Built) × (answer′ ≡ r .number ∷ r .count ∷ []) × GreatestTable start n (length list) r × Kept (r .number) list list′
+  -- `staran_closing_list` and `staran_spreading_list`
+  pub libraryClosingList : (a s n : ℕ) (marks list items list′ items′ answer′ : List ℕ) → LibraryTwo (closingLeft a s n marks list items) list′ items′ answer′
+      → (r : BuiltTwo) × (answer′ ≡ r .number ∷ r .list ∷ r .items ∷ []) × ClosingTable a s n (length marks) (length list) (length items) r
+      × Kept (r .number) list list′ × Kept (r .number) items items′
+  pub librarySpreadingList : (a s n : ℕ) (marks list items list′ items′ answer′ : List ℕ) → LibraryTwo (spreadingLeft a s n marks list items) list′ items′ answer′
+      → (r : BuiltTwo) × (answer′ ≡ r .number ∷ r .list ∷ r .items ∷ []) × SpreadingTable a s n (length marks) (length list) (length items) r
+      × Kept (r .number) list list′ × Kept (r .number) items items′
   -- `staran_read_content`
   pub libraryReadContent : (kind : ℕ) (bytes target target′ answer′ : List ℕ) → LibraryBuffer (readLeft kind bytes target) target′ answer′
       → (r : Moved) × (answer′ ≡ three r) × ReadTable kind bytes (targetFits kind bytes target) r × Kept (r .number) target target′
@@ -194,5 +218,5 @@ pub record DemandOne : Type 0 where
   pub libraryWritePicture : (kind : ℕ) (memory registers out out′ answer′ : List ℕ) → LibraryBuffer (writePictureLeft kind memory registers out) out′ answer′
       → (r : Moved) × (answer′ ≡ three r) × WriteTable kind (pictureFits kind (length memory) (length registers)) pictureBytes (length out) r
       × Kept (r .number) out out′
-  -- `staran_version` has no number of the tables: 3.0, and nothing else
-  pub libraryVersion : (r : ℕ) → LibraryVersion r → r ≡ 196608
+  -- `staran_version` has no number of the tables: 3.1, and nothing else
+  pub libraryVersion : (r : ℕ) → LibraryVersion r → r ≡ 196609

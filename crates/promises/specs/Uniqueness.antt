@@ -56,6 +56,13 @@ use Rattle.judge.proofs.rows.takes as takes
 use Rattle.judge.proofs.rows.gives as gives
 use Rattle.judge.proofs.searches.tally as tally
 use Rattle.judge.proofs.searches.shortage as shortage
+use Rattle.builders.proofs.field.wrong_width as wrong_width
+use Rattle.builders.proofs.field.beyond as beyond
+use Rattle.builders.proofs.writing.put as put
+use Rattle.builders.proofs.writing.put_item as put_item
+use Rattle.builders.proofs.writing.put_logic_from as put_logic_from
+use Rattle.builders.proofs.writing.put_logic_at as put_logic_at
+use Rattle.builders.proofs.writing.put_store_at as put_store_at
 use Rattle.registers.specs.declared.Registers.{Registers}
 use Rattle.judge.specs.declared.Answer.{Answer}
 use Rattle.module.specs.Run.{Left}
@@ -68,6 +75,8 @@ use Rattle.builders.proofs.sums.difference_list as difference_list
 use Rattle.builders.proofs.searches.equal_list as equal_list
 use Rattle.builders.proofs.searches.less_list as less_list
 use Rattle.builders.proofs.searches.greatest_list as greatest_list
+use Rattle.closing.proofs.closing_list as closing_list
+use Rattle.closing.proofs.spreading_list as spreading_list
 use Rattle.blocks.proofs.two_at as two_at
 use Rattle.blocks.proofs.fault as block_fault
 use Rattle.blocks.proofs.seal as seal
@@ -94,6 +103,8 @@ use Rattle.library.proofs.staran_difference_list as staran_difference_list
 use Rattle.library.proofs.staran_equal_list as staran_equal_list
 use Rattle.library.proofs.staran_less_list as staran_less_list
 use Rattle.library.proofs.staran_greatest_list as staran_greatest_list
+use Rattle.library.proofs.staran_closing_list as staran_closing_list
+use Rattle.library.proofs.staran_spreading_list as staran_spreading_list
 use Rattle.library.proofs.staran_read_content as staran_read_content
 use Rattle.library.proofs.staran_write_content as staran_write_content
 use Rattle.library.proofs.staran_read_picture as staran_read_picture
@@ -143,6 +154,10 @@ module _ {M : Type 1} (𝓤 : URA M) (H : Heap 𝓤) (A : Atoms 𝓤) (memory : 
     pub lessList : OneOutcome 𝓤 less_list.ended (less_list.clauses 𝓤 H A memory runs) {O = Buffers} (λ κs r e. record { answer = r; list = now (e .1 .1 .1 .0); items = now (e .1 .1 .1 .1 .0) })
     -- `builders::searches::greatest_list`
     pub greatestList : OneOutcome 𝓤 greatest_list.ended (greatest_list.clauses 𝓤 H A memory runs) {O = Buffer} (λ κs r e. record { answer = r; list = now (e .1 .1 .0) })
+    -- `closing::closing_list`
+    pub closingList : OneOutcome 𝓤 closing_list.ended (closing_list.clauses 𝓤 H A memory runs) {O = Buffers} (λ κs r e. record { answer = r; list = now (e .1 .1 .1 .1 .0); items = now (e .1 .1 .1 .1 .1 .0) })
+    -- `closing::spreading_list`
+    pub spreadingList : OneOutcome 𝓤 spreading_list.ended (spreading_list.clauses 𝓤 H A memory runs) {O = Buffers} (λ κs r e. record { answer = r; list = now (e .1 .1 .1 .1 .0); items = now (e .1 .1 .1 .1 .1 .0) })
     -- `contents::read_content`
     pub readContent : OneOutcome 𝓤 read_content.ended (read_content.clauses 𝓤 H A memory runs) {O = ContentLeft} (λ κs r e. record { answer = r; buffer = now (e .1 .1 .0) })
     -- `contents::write_content`
@@ -164,6 +179,8 @@ module _ {M : Type 1} (𝓤 : URA M) (H : Heap 𝓤) (A : Atoms 𝓤) (memory : 
     pub equalList : OneOutcome 𝓤 staran_equal_list.ended (staran_equal_list.clauses 𝓤 H A memory runs) {O = TwoLeft} (λ κs r e. record { list = now (e .1 .1 .1 .0); items = now (e .1 .1 .1 .1 .0); answer = now (e .1 .1 .1 .1 .1 .0) })
     pub lessList : OneOutcome 𝓤 staran_less_list.ended (staran_less_list.clauses 𝓤 H A memory runs) {O = TwoLeft} (λ κs r e. record { list = now (e .1 .1 .1 .0); items = now (e .1 .1 .1 .1 .0); answer = now (e .1 .1 .1 .1 .1 .0) })
     pub greatestList : OneOutcome 𝓤 staran_greatest_list.ended (staran_greatest_list.clauses 𝓤 H A memory runs) {O = BufferLeft} (λ κs r e. record { buffer = now (e .1 .1 .0); answer = now (e .1 .1 .1 .0) })
+    pub closingList : OneOutcome 𝓤 staran_closing_list.ended (staran_closing_list.clauses 𝓤 H A memory runs) {O = TwoLeft} (λ κs r e. record { list = now (e .1 .1 .1 .1 .0); items = now (e .1 .1 .1 .1 .1 .0); answer = now (e .1 .1 .1 .1 .1 .1 .0) })
+    pub spreadingList : OneOutcome 𝓤 staran_spreading_list.ended (staran_spreading_list.clauses 𝓤 H A memory runs) {O = TwoLeft} (λ κs r e. record { list = now (e .1 .1 .1 .1 .0); items = now (e .1 .1 .1 .1 .1 .0); answer = now (e .1 .1 .1 .1 .1 .1 .0) })
     pub readContent : OneOutcome 𝓤 staran_read_content.ended (staran_read_content.clauses 𝓤 H A memory runs) {O = BufferLeft} (λ κs r e. record { buffer = now (e .1 .1 .0); answer = now (e .1 .1 .1 .0) })
     pub writeContent : OneOutcome 𝓤 staran_write_content.ended (staran_write_content.clauses 𝓤 H A memory runs) {O = BufferLeft} (λ κs r e. record { buffer = now (e .1 .1 .0); answer = now (e .1 .1 .1 .0) })
     pub readPicture : OneOutcome 𝓤 staran_read_picture.ended (staran_read_picture.clauses 𝓤 H A memory runs) {O = TargetsLeft} (λ κs r e. record { memory = now (e .1 .1 .0); registers = now (e .1 .1 .1 .0); answer = now (e .1 .1 .1 .1 .0) })
@@ -236,6 +253,16 @@ module _ {M : Type 1} (𝓤 : URA M) (H : Heap 𝓤) (A : Atoms 𝓤) (memory : 
     pub tally : OneOutcome 𝓤 tally.ended (tally.clauses 𝓤 H A memory runs) (λ κs r e. r)
     pub shortage : OneOutcome 𝓤 shortage.ended (shortage.clauses 𝓤 H A memory runs) (λ κs r e. r)
 
+  -- `builders`
+  pub record OfBuilders : Type 2 where
+    pub wrongWidth : OneOutcome 𝓤 wrong_width.ended (wrong_width.clauses 𝓤 H A memory runs) (λ κs r e. r)
+    pub beyond : OneOutcome 𝓤 beyond.ended (beyond.clauses 𝓤 H A memory runs) (λ κs r e. r)
+    pub put : OneOutcome 𝓤 put.ended (put.clauses 𝓤 H A memory runs) (λ κs r e. now (e .0))
+    pub putItem : OneOutcome 𝓤 put_item.ended (put_item.clauses 𝓤 H A memory runs) (λ κs r e. now (e .0))
+    pub putLogicFrom : OneOutcome 𝓤 put_logic_from.ended (put_logic_from.clauses 𝓤 H A memory runs) (λ κs r e. now (e .0))
+    pub putLogicAt : OneOutcome 𝓤 put_logic_at.ended (put_logic_at.clauses 𝓤 H A memory runs) (λ κs r e. now (e .0))
+    pub putStoreAt : OneOutcome 𝓤 put_store_at.ended (put_store_at.clauses 𝓤 H A memory runs) (λ κs r e. now (e .0))
+
   -- `blocks`
   pub record OfBlocks : Type 2 where
     pub twoAt : OneOutcome 𝓤 two_at.ended (two_at.clauses 𝓤 H A memory runs) (λ κs r e. r)
@@ -266,5 +293,6 @@ module _ {M : Type 1} (𝓤 : URA M) (H : Heap 𝓤) (A : Atoms 𝓤) (memory : 
     pub ofNetwork : OfNetwork
     pub ofRegisters : OfRegisters
     pub ofJudge : OfJudge
+    pub ofBuilders : OfBuilders
     pub ofBlocks : OfBlocks
     pub ofContents : OfContents

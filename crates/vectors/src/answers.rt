@@ -1,9 +1,17 @@
 // What a call answered, as numbers of the protocol.
+use bits::choices::one_if;
 
-// The first `count` numbers of `w`. The first `unfixed` bytes of the list are ones that no document fixes, and are not digested.
+// How many bytes at the front of the registers, of the list and of the items no document fixes: they are not digested.
+pub struct Unfixed {
+    pub registers: usize,
+    pub list: usize,
+    pub items: usize,
+}
+
+// The first `count` numbers of `w`, and what is not digested.
 pub struct Numbers {
     pub count: usize,
-    pub unfixed: usize,
+    pub unfixed: Unfixed,
     pub w: [u32; 16],
 }
 
@@ -22,7 +30,11 @@ pub(crate) fn five(a: u32, b: u32, c: u32, d: u32, e: u32) -> Numbers {
     w[4] = e;
     Numbers {
         count: 5,
-        unfixed: 0,
+        unfixed: Unfixed {
+            registers: 0,
+            list: 0,
+            items: 0,
+        },
         w: w,
     }
 }
@@ -43,8 +55,8 @@ pub(crate) fn of_builder(r: builders::Built) -> Numbers {
     five(r.number as u32, 0, narrow(r.count), 0, 0)
 }
 
-// The answer of a search's builder, and behind it the five numbers of its run.
-pub(crate) fn of_search(r: builders::BuiltTwo, run: Numbers) -> Numbers {
+// The answer of a builder of two buffers, and behind it the five numbers of its run.
+fn of_two(r: builders::BuiltTwo, run: Numbers, unfixed: Unfixed) -> Numbers {
     let v = run.w;
     let mut w = [0u32; 16];
     w[0] = r.number as u32;
@@ -57,9 +69,29 @@ pub(crate) fn of_search(r: builders::BuiltTwo, run: Numbers) -> Numbers {
     w[7] = v[4];
     Numbers {
         count: 8,
-        unfixed: r.list,
+        unfixed: unfixed,
         w: w,
     }
+}
+
+// That of a search: the list's bytes are its own.
+pub(crate) fn of_search(r: builders::BuiltTwo, run: Numbers) -> Numbers {
+    let unfixed = Unfixed {
+        registers: 0,
+        list: r.list,
+        items: 0,
+    };
+    of_two(r, run, unfixed)
+}
+
+// That of a closing or a spreading: the items are its own too, and where the run is done so are M, X and Y.
+pub(crate) fn of_closing(r: builders::BuiltTwo, run: Numbers, done: bool) -> Numbers {
+    let unfixed = Unfixed {
+        registers: 96 * one_if(done),
+        list: r.list,
+        items: r.items,
+    };
+    of_two(r, run, unfixed)
 }
 
 // The answer of an entry of the disk.

@@ -3,6 +3,7 @@ use super::answers::Numbers;
 use super::answers::five;
 use super::answers::of_builder;
 use super::answers::of_disk;
+use super::closings::call_closing;
 use super::records::byte;
 use super::records::parameter;
 use super::rooms::front;
@@ -187,5 +188,8 @@ pub(crate) fn call(record: &[u8], room: &mut [u8]) -> Numbers {
     if kind < 12 {
         return call_both(record, room, kind == 11);
     }
-    call_search(record, room, kind)
+    if kind < 15 {
+        return call_search(record, room, kind);
+    }
+    call_closing(record, room, kind == 16)
 }

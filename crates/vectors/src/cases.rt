@@ -3,6 +3,7 @@ ghost use mathlib.Core.Path.{_≡_};
 ghost use Prim.Native.Nat.{_<_};
 ghost use lib.ListN.{length};
 use super::answers::Numbers;
+use super::answers::Unfixed;
 use super::buffers::clamp;
 use super::buffers::digest;
 use super::buffers::fill;
@@ -133,13 +134,22 @@ fn write_numbers(answer: Numbers) {
     }
 }
 
-// How many bytes at the front of a buffer are not digested: of the list, number 2, those that no document fixes.
-fn left_out(which: usize, unfixed: usize) -> usize {
-    if which == 2 { unfixed } else { 0 }
+// How many bytes at the front of a buffer are not digested: of the registers, number 1, of the list and of the items those that no document fixes.
+fn left_out(which: usize, unfixed: Unfixed) -> usize {
+    if which == 1 {
+        return unfixed.registers;
+    }
+    if which == 2 {
+        return unfixed.list;
+    }
+    if which == 3 {
+        return unfixed.items;
+    }
+    0
 }
 
 // The digest of one buffer in the room written out.
-fn write_digest(record: &[u8], which: usize, room: &[u8], unfixed: usize, last: bool)
+fn write_digest(record: &[u8], which: usize, room: &[u8], unfixed: Unfixed, last: bool)
     requires { ⌜ length (now room) ≡ 131072 ⌝ }
 {
     let s = start_of(record, which);
@@ -149,7 +159,7 @@ fn write_digest(record: &[u8], which: usize, room: &[u8], unfixed: usize, last: 
 }
 
 // The digests of all buffers written out.
-fn write_digests(record: &[u8], room: &[u8], unfixed: usize)
+fn write_digests(record: &[u8], room: &[u8], unfixed: Unfixed)
     requires { ⌜ length (now room) ≡ 131072 ⌝ }
 {
     let count = buffers_of(record);

@@ -3,6 +3,7 @@ mod answers;
 mod buffers;
 mod calls;
 mod cases;
+mod closings;
 mod records;
 mod rooms;
 mod running;

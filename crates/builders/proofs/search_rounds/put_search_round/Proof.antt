@@ -6,7 +6,8 @@ use native.Mathlib.Omega.{arith}
 use denote.Ref.{now}
 use lib.ListN.{length}
 use borrow.Author.Needs.{needs}
-use Rattle.builders.specs.Searches.{takeBit, differs, decided}
+use Rattle.builders.specs.Lists.{takeY}
+use Rattle.builders.specs.Searches.{differs, decided}
 use Rattle.builders.proofs.PutLaws.{put-more}
 use Rattle.builders.proofs.search_rounds.put_search_round.Statement.{statement}
 use Rattle.builders.proofs.search_rounds.put_search_round.Tie as tie
@@ -22,8 +23,8 @@ returns c =
     let p₀ = c .before .before .before .before .before .before .before .before .before .before .put-logic-from in
     let p₁ = c .before .before .before .before .before .before .put-logic-at in
     let p₂ = c .before .before .put-decided in
-    put-more at (at + 2) (takeBit ∷ i₁ ∷ []) (i₂ ∷ []) xs (p₁ .last .0) (p₂ .last .0) h refl
-    (put-more at (at + 1) (takeBit ∷ []) (i₁ ∷ []) xs (p₀ .last .0) (p₁ .last .0) h refl (p₀ .ensures) (p₁ .ensures))
+    put-more at (at + 2) (takeY ∷ i₁ ∷ []) (i₂ ∷ []) xs (p₁ .last .0) (p₂ .last .0) h refl
+    (put-more at (at + 1) (takeY ∷ []) (i₁ ∷ []) xs (p₀ .last .0) (p₁ .last .0) h refl (p₀ .ensures) (p₁ .ensures))
     (p₂ .ensures)
 
 pub put-search-round-spec : {M : Type 1} → statement M

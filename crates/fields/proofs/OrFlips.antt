@@ -74,7 +74,7 @@ abbrev pub withX : ℕ → Word → Word
 withX x v = record { bits = v .bits; m = v .m; x = x; y = v .y; taken = v .taken }
 
 -- State t is s but for X, and its X is marked by what P says of each line.
-pub record Spread (P : ℕ → Type 0) (s t : State) : Type 0 where
+pub record AnyAt (P : ℕ → Type 0) (s t : State) : Type 0 where
   pub same : (p : ℕ) (v : Word) → p < 256 → At p s v → At p t (withX (bitOf (t .regs .x) p) v)
   pub marks : (p : ℕ) → p < 256 → Mark (P p) (bitOf (t .regs .x) p)
 
@@ -89,10 +89,10 @@ flip-at k h items s p v hp a =
     (acted-from p hp (orFlip k) items s v (wordOf (cameFrom (orFlip k) p) s) (sliced k h) a (at-self (cameFrom (orFlip k) p) s))
 
 module _ (items : List ℕ) (s : State) where
-  spread-more : (k : ℕ) (t : State) → k < 8 → Spread (λ p. Near (bitOf (s .regs .x)) p k) s t
-      → Spread (λ p. Near (bitOf (s .regs .x)) p (suc k)) s (folded (λ i. acted i items) (orFlipped k) t)
+  any-more : (k : ℕ) (t : State) → k < 8 → AnyAt (λ p. Near (bitOf (s .regs .x)) p k) s t
+      → AnyAt (λ p. Near (bitOf (s .regs .x)) p (suc k)) s (folded (λ i. acted i items) (orFlipped k) t)
   unfolding folded
-  spread-more k t h a =
+  any-more k t h a =
       record {
         same = λ p v hp l. let e = flip-at k h items t p _ hp (a .same p v hp l) in
             record { word = e .word; bitM = e .bitM; bitX = refl; bitY = e .bitY; count = e .count };
@@ -102,9 +102,9 @@ module _ (items : List ℕ) (s : State) where
             (mark-map (near-more (bitOf (s .regs .x)) p k) (mark-or (a .marks p hp) (a .marks q (xor-lt 8 p (2 ^ k) hp (pow-lt h)))));
       }
 
-  pub spread-all : Spread (λ p. (q : ℕ) × (q < 256) × (bitOf (s .regs .x) q ≡ 1)) s (folded (λ i. acted i items) (rounds orFlipped 8) s)
-  spread-all =
-      let e = folded-rounds (λ i. acted i items) orFlipped 8 (λ k. Spread (λ p. Near (bitOf (s .regs .x)) p k) s) spread-more 8 s (omega arith)
+  pub any-all : AnyAt (λ p. (q : ℕ) × (q < 256) × (bitOf (s .regs .x) q ≡ 1)) s (folded (λ i. acted i items) (rounds orFlipped 8) s)
+  any-all =
+      let e = folded-rounds (λ i. acted i items) orFlipped 8 (λ k. AnyAt (λ p. Near (bitOf (s .regs .x)) p k) s) any-more 8 s (omega arith)
       (record {
         same = λ p v hp l. record { word = l .word; bitM = l .bitM; bitX = refl; bitY = l .bitY; count = l .count };
         marks = λ p hp. mark-map (near-none (bitOf (s .regs .x)) p) (bit-mark (bitOf-bit (s .regs .x) p));
