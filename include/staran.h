@@ -75,7 +75,7 @@ extern "C" {
 
 /* The version of this header, and the linked library's: see staran_version. */
 #define STARAN_VERSION_MAJOR 3
-#define STARAN_VERSION_MINOR 0
+#define STARAN_VERSION_MINOR 1
 #define STARAN_VERSION (STARAN_VERSION_MAJOR * UINT32_C(65536) + STARAN_VERSION_MINOR)
 
 /* Lengths in bytes. */
@@ -95,6 +95,13 @@ extern "C" {
 #define STARAN_SEARCH_LIST_BYTES(n) (8 * (2 + 3 * (size_t)(n)))
 #define STARAN_SEARCH_ITEMS_BYTES(n) (32 * (size_t)(n))
 #define STARAN_GREATEST_LIST_BYTES(n) (8 * (1 + 11 * (size_t)(n)))
+
+/* The lengths of a closing and of a spreading of a field of width n, 1 to 32: of each list, and of its items. A closing has nine items,
+ * whatever the width. */
+#define STARAN_CLOSING_LIST_BYTES(n) (8 * (10 + 19 * (size_t)(n)))
+#define STARAN_CLOSING_ITEMS_BYTES 288
+#define STARAN_SPREADING_LIST_BYTES(n) (8 * (1 + 18 * (size_t)(n)))
+#define STARAN_SPREADING_ITEMS_BYTES(n) (32 * (1 + 8 * (size_t)(n)))
 
 /* The length of the blocks of a list or of items of n bytes, n at most 32,768: a block has 496 bytes of payload, and no content takes
  * one block. */
@@ -336,6 +343,50 @@ void staran_less_list(uint32_t start, uint32_t n, uint64_t number, uint8_t *list
  * To run it, lend staran_run the list with the length answer[1].
  * Stack: at most 64 bytes. */
 void staran_greatest_list(uint32_t start, uint32_t n, uint8_t *list, size_t list_length, uint32_t answer[STARAN_LIST_NUMBERS]);
+
+/* Builds the list of instructions, and its items, that, run, close up the marked words: field A of the first marked word goes to
+ * field S of word 0, that of the second to S of word 1 and so on, in the order of the words' numbers, and S of every other word becomes
+ * 0. No other bit of the memory changes, so A stays, and the out buffer is as it was. M, X and Y may hold anything before; what they
+ * hold after the run is not promised.
+ *
+ * a, s      the starts of the fields, which are the numbers of their least significant bits: any numbers of 32 bits
+ * n         the width of both: any number of 32 bits
+ * marks     32 bytes, else 35: an item with a 1 for each word that is marked, as a search leaves it in Y, the last 32 bytes of the
+ *           registers. Any marks are good; with none, S becomes 0 in every word
+ * list      any length; the list has 8 * (10 + 19n) bytes
+ * items     any length; the items have 288 bytes, nine items for every n and all marks
+ * answer    number, count of bytes written to list, count of bytes written to items
+ *
+ * Judged: 35 (marks_length is not 32); 30 (n is not 1 to 32); 31 (a + n or s + n is over 256, as whole numbers); 32 (S and A have a
+ * bit in common: also where they have the same start, unlike in a sum); 33 (list_length is under 8 * (10 + 19n), or items_length
+ * under 288).
+ * Done: the first bytes of list are the list and the first bytes of items its items, the counts are their lengths, and the bytes past
+ * them stay. Refused: both counts are 0, and list and items are as they were.
+ * To run it, lend staran_run the list with the length answer[1] and the items with the length answer[2]: the list takes the first nine
+ * items, in their order. Whole items behind those are no fault. The list depends on the fields alone and the items on the marks alone,
+ * so one list serves all marks.
+ * Stack: at most 256 bytes. */
+void staran_closing_list(uint32_t a, uint32_t s, uint32_t n, const uint8_t *marks, size_t marks_length, uint8_t *list,
+                         size_t list_length, uint8_t *items, size_t items_length, uint32_t answer[STARAN_LIST_AND_ITEMS_NUMBERS]);
+
+/* Builds the opposite, that, run, spreads S back: A of the first marked word becomes S of word 0, that of the second S of word 1 and
+ * so on. A of the words that are not marked and every other bit of the memory are as they were, so S stays, the out buffer is as it was,
+ * and with no marks no bit of the memory changes. M, X and Y may hold anything before; what they hold after the run is not promised. A
+ * closing and then a spreading by the same marks give each marked word its old A, whatever was written to A in between, if nothing was
+ * written to S.
+ *
+ * a, s, n   as in staran_closing_list
+ * marks     32 bytes, else 35
+ * list      any length; the list has 8 * (1 + 18n) bytes
+ * items     any length; the items have 32 * (1 + 8n) bytes, for all marks. For n = 31 and 32 they are 249 and 257 items: staran_run
+ *           takes up to 1,024, the program's in.itm has room for 248
+ * answer    number, count of bytes written to list, count of bytes written to items
+ *
+ * Judged, done, refused and run as a closing is, with these lengths in 33; the list takes the first 1 + 8n items. The list depends on
+ * the fields alone and the items on the marks and the width alone.
+ * Stack: at most 256 bytes. */
+void staran_spreading_list(uint32_t a, uint32_t s, uint32_t n, const uint8_t *marks, size_t marks_length, uint8_t *list,
+                           size_t list_length, uint8_t *items, size_t items_length, uint32_t answer[STARAN_LIST_AND_ITEMS_NUMBERS]);
 
 /* Reads the blocks of a list or of items.
  *

@@ -55,18 +55,21 @@ enum {
     STARAN_REFUSED_LENT_LENGTH = 26,
     /* writing: the output is shorter than the blocks */
     STARAN_REFUSED_OUTPUT_TOO_SHORT = 27,
-    /* builders of lists: the width n is not 1 to 64 */
+    /* builders of lists: the width n is not 1 to 64; for closing or spreading, not 1 to 32 */
     STARAN_REFUSED_WIDTH = 30,
     /* builders of lists: a start plus the width is over 256 */
     STARAN_REFUSED_FIELD_BEYOND = 31,
-    /* sum and difference lists: S overlaps A or B without having its start */
+    /* sum and difference lists, closing and spreading: for a sum or difference, S overlaps A or B without having its
+       start; for closing or spreading, S and A have a bit in common */
     STARAN_REFUSED_FIELDS_CROSS = 32,
     /* builders of lists: the list buffer is under 8(1 + 5n) bytes for a sum, 8(2 + 5n) for a difference, 8(2 + 3n)
-       for a search for equal or less, 8(1 + 11n) for greatest; or the items buffer is under 32n bytes, for equal or
-       less */
+       for a search for equal or less, 8(1 + 11n) for greatest, 8(10 + 19n) for closing, 8(1 + 18n) for spreading; or
+       the items buffer is under 32n bytes for equal or less, 288 for closing, 32(1 + 8n) for spreading */
     STARAN_REFUSED_LIST_TOO_SHORT = 33,
     /* searches for equal and less: the number is 2^n or more, n being the width */
-    STARAN_REFUSED_NUMBER_TOO_LARGE = 34
+    STARAN_REFUSED_NUMBER_TOO_LARGE = 34,
+    /* closing and spreading: the marks are not 32 bytes */
+    STARAN_REFUSED_MARKS_LENGTH = 35
 };
 
 /* What a number means, in words: when it is given. A number that is never given has a sentence too; the pointer is never null.
@@ -123,17 +126,21 @@ static inline const char *staran_meaning(uint32_t number)
     case STARAN_REFUSED_OUTPUT_TOO_SHORT:
         return "the output is shorter than the blocks";
     case STARAN_REFUSED_WIDTH:
-        return "the width n is not 1 to 64";
+        return "the width n is not 1 to 64; for closing or spreading, not 1 to 32";
     case STARAN_REFUSED_FIELD_BEYOND:
         return "a start plus the width is over 256";
     case STARAN_REFUSED_FIELDS_CROSS:
-        return "S overlaps A or B without having its start";
+        return "for a sum or difference, S overlaps A or B without having its start; for closing or spreading, S and"
+               " A have a bit in common";
     case STARAN_REFUSED_LIST_TOO_SHORT:
         return "the list buffer is under 8(1 + 5n) bytes for a sum, 8(2 + 5n) for a difference, 8(2 + 3n) for a "
-               "search for equal or less, 8(1 + 11n) for greatest; or the items buffer is under 32n bytes, for equal"
-               " or less";
+               "search for equal or less, 8(1 + 11n) for greatest, 8(10 + 19n) for closing, 8(1 + 18n) for "
+               "spreading; or the items buffer is under 32n bytes for equal or less, 288 for closing, 32(1 + 8n) for"
+               " spreading";
     case STARAN_REFUSED_NUMBER_TOO_LARGE:
         return "the number is 2^n or more, n being the width";
+    case STARAN_REFUSED_MARKS_LENGTH:
+        return "the marks are not 32 bytes";
     default:
         return "no such number is ever given";
     }

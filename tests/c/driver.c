@@ -2,8 +2,10 @@
  *     driver cases     replays the outside cases on standard input, and writes their answers
  *     driver lengths   calls every function with good and bad lengths, and counts
  *     driver searches  builds searches over a field, runs them, and counts
+ *     driver closing   builds lists that close up a field and spread it back, runs them, and counts
  *     driver unwritten makes calls that leave their buffers on buffers that cannot be written, and counts
  * The exit status is 0 where nothing failed. tests/c/run builds and runs it. */
+#include "closing.h"
 #include "lengths.h"
 #include "lent.h"
 #include "replay.h"
@@ -23,8 +25,10 @@ int main(int count, char **words)
         return lengths();
     if (count == 2 && strcmp(words[1], "searches") == 0)
         return searches();
+    if (count == 2 && strcmp(words[1], "closing") == 0)
+        return closing();
     if (count == 2 && strcmp(words[1], "unwritten") == 0)
         return unwritten();
-    fputs("usage: driver cases | driver lengths | driver searches | driver unwritten\n", stderr);
+    fputs("usage: driver cases | driver lengths | driver searches | driver closing | driver unwritten\n", stderr);
     return 2;
 }

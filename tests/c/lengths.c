@@ -332,6 +332,58 @@ static void greatest_lengths(void)
     function("greatest_list");
 }
 
+/* ---- closing and spreading: the same around every edge, with marks of other lengths, and both buffers */
+
+typedef void mover(uint32_t, uint32_t, uint32_t, const uint8_t *, size_t, uint8_t *, size_t, uint8_t *, size_t, uint32_t *);
+
+static const uint32_t move_widths[] = {0, 1, 2, 31, 32, 33, 64, 0x80000000u, 0xFFFFFFFFu};
+static const size_t marks_lengths[] = {32, 0, 1, 31, 33, 64, 65536};
+
+/* Starts of fields that meet in a bit or just not, and those around what a width allows, also modulo 2^32. */
+static uint32_t move_start(uint32_t n, size_t i)
+{
+    const uint32_t starts[] = {0, n - 1, n, 100, 256 - n, 257 - n, 0 - n, 0xFFFFFFFFu};
+    return starts[i];
+}
+enum { MOVE_STARTS = 8, PAIRS = MOVE_STARTS * MOVE_STARTS };
+
+static void move_once(const char *name, mover *build, int spreads, size_t pair, uint32_t n, size_t marks, size_t list, size_t items, int end)
+{
+    const uint32_t a = move_start(n, pair % MOVE_STARTS), s = move_start(n, pair / MOVE_STARTS);
+    uint32_t expected[3] = {0, 0, 0}, *answer;
+    check("%s: A %u, S %u, width %u, marks %zu, list %zu, items %zu", name, (unsigned)a, (unsigned)s, (unsigned)n, marks, list, items);
+    nothing_lent(end);
+    lend(FILE_BYTES, marks, end);
+    lend(LIST, list, end);
+    lend(ITEMS, items, end);
+    expected[0] = model_moving(spreads, a, s, n, buffers[FILE_BYTES].bytes, marks, buffers[LIST].expected, list, buffers[ITEMS].expected, items);
+    if (expected[0] == 0)
+        expected[1] = (uint32_t)model_moving_list(spreads, n), expected[2] = (uint32_t)model_moving_items(spreads, n);
+    answer = lend_answer(3, end);
+    build(a, s, n, WHOLE(FILE_BYTES), WHOLE(LIST), WHOLE(ITEMS), answer);
+    settle(answer, 3, expected);
+}
+
+/* Every width at lengths that are good; then some widths with every pair of starts and of lengths, and with every length of the marks. */
+static void move_lengths(const char *name, mover *build, int spreads)
+{
+    for (uint32_t n = 0; n <= 65; n++)
+        for (size_t i = 0; i < PAIRS * ENDS; i++)
+            move_once(name, build, spreads, i / ENDS, n, 32, model_moving_list(spreads, n), model_moving_items(spreads, n), (int)(i % ENDS));
+    for (size_t w = 0; w < COUNT(move_widths); w++) {
+        uint32_t n = move_widths[w];
+        size_t list = model_moving_list(spreads, n <= 256 ? n : 32), items = model_moving_items(spreads, n <= 256 ? n : 32);
+        for (size_t i = 0; i < PAIRS; i++) {
+            for (size_t l = 0; around(list, l) != SIZE_MAX; l++)
+                for (size_t k = 0; around(items, k) != SIZE_MAX; k++)
+                    move_once(name, build, spreads, i, n, 32, around(list, l), around(items, k), (int)((w + i + l + k) % ENDS));
+            for (size_t m = 0; m < COUNT(marks_lengths) * ENDS; m++)
+                move_once(name, build, spreads, i, n, marks_lengths[m / ENDS], around(list, 1 + i % 2), around(items, 1 + i / 2 % 2), (int)(m % ENDS));
+        }
+    }
+    function(name);
+}
+
 /* ---- disk: kinds, file lengths, targets, damaged blocks */
 
 static const size_t kinds[] = {0, 1, 2, 3, 4, 258, 65537, 65538, 65539, (size_t)1 << 32, ((size_t)1 << 32) + 1, ((size_t)1 << 32) + 2, ((size_t)1 << 32) + 3, SIZE_MAX};
@@ -570,6 +622,18 @@ static void refused_long(uint8_t *far, size_t long_by)
     LONG_CALL(equal_list(0, 64, 0, WHOLE(LIST), far, long_by + 2048, answer), 3, 33);
     LONG_CALL(less_list(0, 64, 0, WHOLE(LIST), far, long_by + 2048, answer), 3, 33);
     LONG_CALL(greatest_list(193, 64, far, long_by + 5640, answer), 2, 31);
+    lend(LIST, 4944, LAST);
+    lend(ITEMS, 8224, LAST);
+    LONG_CALL(closing_list(0, 32, 32, far, long_by + 32, WHOLE(LIST), WHOLE(ITEMS), answer), 3, 35);
+    LONG_CALL(spreading_list(0, 32, 32, far, long_by + 32, WHOLE(LIST), WHOLE(ITEMS), answer), 3, 35);
+    LONG_CALL(closing_list(0, 32, 33, far, 32, far, long_by, WHOLE(ITEMS), answer), 3, 30);
+    LONG_CALL(spreading_list(0, 31, 32, far, 32, WHOLE(LIST), far, long_by, answer), 3, 32);
+    lend(LIST, 4615, LAST);
+    lend(ITEMS, 287, LAST);
+    LONG_CALL(closing_list(0, 32, 32, far, 32, far, long_by + 4944, WHOLE(ITEMS), answer), 3, 33);
+    LONG_CALL(closing_list(0, 32, 32, far, 32, WHOLE(LIST), far, long_by + 288, answer), 3, 33);
+    LONG_CALL(spreading_list(0, 32, 32, far, 32, far, long_by + 4616, WHOLE(ITEMS), answer), 3, 33);
+    LONG_CALL(spreading_list(0, 32, 32, far, 32, WHOLE(LIST), far, long_by + 8224, answer), 3, 33);
     lend_bytes(FILE_BYTES, file, make_file(STARAN_CONTENT_PICTURE, 8288), LAST);
     LONG_CALL(read_picture(STARAN_CONTENT_PICTURE, WHOLE(FILE_BYTES), far, long_by + 8192, WHOLE(REGISTERS), answer), 3, 26);
     LONG_CALL(read_picture(STARAN_CONTENT_PICTURE, WHOLE(FILE_BYTES), WHOLE(MEMORY), far, long_by + 96, answer), 3, 26);
@@ -618,6 +682,31 @@ static void searched_long(uint8_t *far, size_t long_by, uint8_t *made)
     written_long(far, long_by, made, 5640);
 }
 
+/* A closing and a spreading in the same way. */
+static void moved_long(uint8_t *far, size_t long_by, uint8_t *made)
+{
+    lend(FILE_BYTES, 32, LAST);
+    for (int spreads = 0; spreads < 2; spreads++) {
+        const uint32_t list = (uint32_t)model_moving_list(spreads, 32), items = (uint32_t)model_moving_items(spreads, 32);
+        lend(LIST, 0, LAST);
+        lend(ITEMS, items, LAST);
+        model_moving(spreads, 224, 0, 32, WHOLE(FILE_BYTES), made, list, buffers[ITEMS].expected, items);
+        if (spreads)
+            LONG_CALL(spreading_list(224, 0, 32, WHOLE(FILE_BYTES), far, long_by, WHOLE(ITEMS), answer), 3, 0, list, items);
+        else
+            LONG_CALL(closing_list(224, 0, 32, WHOLE(FILE_BYTES), far, long_by + list - 1, WHOLE(ITEMS), answer), 3, 0, list, items);
+        written_long(far, long_by, made, list);
+        lend(LIST, list, LAST);
+        lend(ITEMS, 0, LAST);
+        model_moving(spreads, 224, 0, 32, WHOLE(FILE_BYTES), buffers[LIST].expected, list, made, items);
+        if (spreads)
+            LONG_CALL(spreading_list(224, 0, 32, WHOLE(FILE_BYTES), WHOLE(LIST), far, long_by + items - 1, answer), 3, 0, list, items);
+        else
+            LONG_CALL(closing_list(224, 0, 32, WHOLE(FILE_BYTES), WHOLE(LIST), far, long_by, answer), 3, 0, list, items);
+        written_long(far, long_by, made, items);
+    }
+}
+
 /* Where any length will do, a long one is no refusal. */
 static void done_long(uint8_t *far, size_t long_by)
 {
@@ -652,6 +741,7 @@ static void done_long(uint8_t *far, size_t long_by)
     LONG_CALL(difference_list(0, 64, 128, 64, far, long_by + 2575, answer), 2, 0, 2576);
     written_long(far, long_by, made, 2576);
     searched_long(far, long_by, made);
+    moved_long(far, long_by, made);
 }
 
 static void long_lengths(void)
@@ -683,6 +773,8 @@ int lengths(void)
     search_lengths("equal_list", staran_equal_list, 0);
     search_lengths("less_list", staran_less_list, 1);
     greatest_lengths();
+    move_lengths("closing_list", staran_closing_list, 0);
+    move_lengths("spreading_list", staran_spreading_list, 1);
     read_lengths();
     read_picture_lengths();
     damaged_blocks();

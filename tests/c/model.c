@@ -104,6 +104,133 @@ unsigned model_greatest(uint32_t start, uint32_t n, uint8_t *list, size_t list_l
     return 0;
 }
 
+/* ---- closing up and spreading */
+
+size_t model_moving_list(int spreads, uint32_t n) { return 8 * (spreads ? 1 + 18 * (size_t)n : 10 + 19 * (size_t)n); }
+size_t model_moving_items(int spreads, uint32_t n) { return 32 * (spreads ? 1 + 8 * (size_t)n : 9); }
+
+/* The masks of the eight rounds, of weight 1 first: each marked value starts at its own word, and goes down to the next free one by the digits of its way.
+ * A spreading takes it from there, by the highest digit first, up to its own. The mask of a round has the words at which values arrive in it. */
+static unsigned make_masks(int spreads, const uint8_t *marks, uint8_t masks[8][32])
+{
+    unsigned free_word = 0;
+    memset(masks, 0, 8 * 32);
+    for (unsigned w = 0; w < 256; w++) {
+        if (!bit(marks, w))
+            continue;
+        unsigned way = w - free_word, at = spreads ? free_word : w;
+        for (unsigned round = 0; round < 8; round++) {
+            unsigned t = spreads ? 7 - round : round;
+            if (way >> t & 1) {
+                at = spreads ? at + (1u << t) : at - (1u << t);
+                set(masks[t], at, 1);
+            }
+        }
+        free_word++;
+    }
+    return free_word;
+}
+
+static size_t put_bytes(uint8_t *list, size_t at, const uint8_t made[8])
+{
+    memcpy(list + at, made, 8);
+    return at + 8;
+}
+
+static void make_closing(uint32_t a, uint32_t s, uint32_t n, const uint8_t *marks, uint8_t *list, uint8_t *items)
+{
+    static const uint8_t take_mask[8] = {1, 4, 0, 0, 0, 0, 0, 0}, clear_x[8] = {0, 2, 0, 0, 0, 0, 0, 0};
+    uint8_t masks[8][32];
+    size_t at = 0;
+    unsigned marked = make_masks(0, marks, masks);
+    for (uint32_t k = 0; k < n; k++) {
+        const uint8_t take[8] = {0, 0, 1, 0, (uint8_t)(a + k), 0, 0, 10}, store[8] = {2, 2, 1, 0, (uint8_t)(s + k), 0, 0, 0};
+        at = put_bytes(list, at, take);
+        at = put_bytes(list, at, store);
+    }
+    for (unsigned t = 0; t < 8; t++) {
+        at = put_bytes(list, at, take_mask);
+        for (uint32_t k = 0; k < n; k++) {
+            const uint8_t take[8] = {0, 0, 1, 0, (uint8_t)(s + k), 255, (uint8_t)(128 + t), 10}, store[8] = {3, 2, 1, 0, (uint8_t)(s + k), 255, 0, 0};
+            at = put_bytes(list, at, take);
+            at = put_bytes(list, at, store);
+        }
+        memcpy(items + 32 * t, masks[t], 32);
+    }
+    at = put_bytes(list, at, take_mask);
+    at = put_bytes(list, at, clear_x);
+    for (uint32_t k = 0; k < n; k++) {
+        const uint8_t store[8] = {3, 2, 1, 0, (uint8_t)(s + k), 0, 0, 0};
+        at = put_bytes(list, at, store);
+    }
+    for (unsigned w = 0; w < 256; w++)
+        set(items + 32 * 8, w, w >= marked);
+}
+
+static void make_spreading(uint32_t a, uint32_t s, uint32_t n, const uint8_t *marks, uint8_t *list, uint8_t *items)
+{
+    static const uint8_t take_marks[8] = {1, 4, 0, 0, 0, 0, 0, 0}, take_mask[8] = {0, 4, 0, 0, 0, 0, 0, 0x1A};
+    uint8_t masks[8][32];
+    size_t at = put_bytes(list, 0, take_marks), item = 32;
+    make_masks(1, marks, masks);
+    memcpy(items, marks, 32);
+    for (uint32_t k = 0; k < n; k++) {
+        const uint8_t take[8] = {0, 0, 1, 0, (uint8_t)(s + k), 0, 0, 10}, store[8] = {3, 2, 1, 0, (uint8_t)(a + k), 0, 0, 0};
+        at = put_bytes(list, at, take);
+        for (unsigned round = 0; round < 8; round++) {
+            const uint8_t shift[8] = {0, 2, 0, 0, 0, 0, (uint8_t)(128 + 7 - round), 0x3A};
+            at = put_bytes(list, at, take_mask);
+            at = put_bytes(list, at, shift);
+            memcpy(items + item, masks[7 - round], 32);
+            item += 32;
+        }
+        at = put_bytes(list, at, store);
+    }
+}
+
+unsigned model_moving(int spreads, uint32_t a, uint32_t s, uint32_t n, const uint8_t *marks, size_t marks_length, uint8_t *list, size_t list_length, uint8_t *items,
+                      size_t items_length)
+{
+    const uint64_t wide = n;
+    if (marks_length != 32)
+        return 35;
+    if (n < 1 || n > 32)
+        return 30;
+    if (a + wide > 256 || s + wide > 256)
+        return 31;
+    if (s < a + n && a < s + n)
+        return 32;
+    if (list_length < model_moving_list(spreads, n) || items_length < model_moving_items(spreads, n))
+        return 33;
+    (spreads ? make_spreading : make_closing)(a, s, n, marks, list, items);
+    return 0;
+}
+
+static void move_field(uint8_t *words, size_t from, size_t a, size_t to, size_t b, size_t n)
+{
+    for (size_t k = 0; k < n; k++)
+        set(words, 256 * to + b + k, bit(words, 256 * from + a + k));
+}
+
+void model_moved(int spreads, uint32_t a, uint32_t s, uint32_t n, const uint8_t marks[32], uint8_t *words)
+{
+    size_t next = 0;
+    for (size_t w = 0; w < 256; w++) {
+        if (!bit(marks, w))
+            continue;
+        if (spreads)
+            move_field(words, next, s, w, a, n);
+        else
+            move_field(words, w, a, next, s, n);
+        next++;
+    }
+    for (; !spreads && next < 256; next++)
+        for (size_t k = 0; k < n; k++)
+            set(words, 256 * next + s + k, 0);
+}
+
+/* ---- blocks and pictures */
+
 static uint32_t two(const uint8_t *b) { return b[0] + 256u * b[1]; }
 
 static void put_two(uint8_t *b, size_t n)

@@ -1,4 +1,4 @@
-/* What include/staran.h promises, worked out by the plainest means, for the checks of lengths.c to hold the library to. */
+/* What include/staran.h promises, worked out by the plainest means, for the checks to hold the library to. */
 #ifndef MODEL_H
 #define MODEL_H
 
@@ -16,6 +16,15 @@ unsigned model_search(int less, uint32_t start, uint32_t n, uint64_t number, uin
 
 /* The number of a refusal, or 0 and the list for greatest. */
 unsigned model_greatest(uint32_t start, uint32_t n, uint8_t *list, size_t list_length);
+
+/* The number of a refusal, or 0, the list and its items: `spreads` is 0 for a closing. And the lengths that these have. */
+unsigned model_moving(int spreads, uint32_t a, uint32_t s, uint32_t n, const uint8_t *marks, size_t marks_length, uint8_t *list, size_t list_length, uint8_t *items,
+                      size_t items_length);
+size_t model_moving_list(int spreads, uint32_t n);
+size_t model_moving_items(int spreads, uint32_t n);
+
+/* What its run makes of the words, in a picture's order: field by field, and no list at all. */
+void model_moved(int spreads, uint32_t a, uint32_t s, uint32_t n, const uint8_t marks[32], uint8_t *words);
 
 /* The blocks of a content, and their length. */
 size_t model_blocks(size_t kind, const uint8_t *content, size_t content_length, uint8_t *file);

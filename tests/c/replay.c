@@ -9,7 +9,7 @@
 #include <string.h>
 
 enum { RECORD = 1000, NUMBERS = 8, COUNT = 6, WORDS = NUMBERS + COUNT, REPEAT = 254, SEAL = 255 };
-enum { SUM_RUN = 10, DIFFERENCE_RUN, EQUAL_RUN, LESS_RUN, GREATEST_RUN, KINDS };
+enum { SUM_RUN = 10, DIFFERENCE_RUN, EQUAL_RUN, LESS_RUN, GREATEST_RUN, CLOSING_RUN, SPREADING_RUN, KINDS };
 
 /* A case, taken apart: every kind that is known here has COUNT buffers and at most four parameters. */
 typedef struct {
@@ -214,6 +214,12 @@ static unsigned call(const outside_case *c, int end, uint32_t words[WORDS])
         staran_greatest_list(p[0], p[1], WHOLE(LIST), a);
         memcpy(words, a, 8);
         return 1u << LIST;
+    case CLOSING_RUN:
+    case SPREADING_RUN:
+        a = lend_answer(3, end);
+        (kind == CLOSING_RUN ? staran_closing_list : staran_spreading_list)(p[0], p[1], p[2], WHOLE(FILE_BYTES), WHOLE(LIST), WHOLE(ITEMS), a);
+        memcpy(words, a, 12);
+        return 1u << LIST | 1u << ITEMS;
     default:
         a = lend_answer(3, end);
         staran_write_picture(STARAN_CONTENT_PICTURE, WHOLE(MEMORY), WHOLE(REGISTERS), WHOLE(FILE_BYTES), a);
@@ -265,10 +271,14 @@ static const char *run_case(const outside_case *c, int end, uint32_t words[WORDS
         return "the case is not one of the protocol";
     const char *wrong = disturbed(call(c, end, words));
     int kind = c->record[0];
-    size_t left_out = 0; /* the list of a search is not digested */
+    size_t left_out[COUNT] = {0}; /* of each buffer at its front what no document fixes, which is not digested */
     if (wrong == NULL && kind >= EQUAL_RUN && words[0] == 0) {
-        left_out = words[1];
         wrong = run_built(end, words[1], words + 3);
+        left_out[LIST] = words[1];
+        if (kind >= CLOSING_RUN) {
+            left_out[ITEMS] = words[2];
+            left_out[REGISTERS] = words[3] == 0 ? buffers[REGISTERS].length : 0;
+        }
     } else if (wrong == NULL && kind >= SUM_RUN && kind < EQUAL_RUN) {
         if (words[0] == 0)
             wrong = run_built(end, words[2], words);
@@ -276,7 +286,7 @@ static const char *run_case(const outside_case *c, int end, uint32_t words[WORDS
             words[2] = 0;
     }
     for (int k = 0; k < COUNT; k++)
-        words[numbers(c) + k] = digest(&buffers[k], k == LIST ? left_out : 0);
+        words[numbers(c) + k] = digest(&buffers[k], left_out[k]);
     return wrong;
 }
 

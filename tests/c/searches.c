@@ -2,6 +2,7 @@
 #include "searches.h"
 
 #include "checks.h"
+#include "draw.h"
 #include "lent.h"
 #include "model.h"
 #include "staran.h"
@@ -12,18 +13,6 @@ enum { WORDS = 256, FEW = 5 };
 
 static uint64_t values[WORDS]; /* the field of each word */
 static uint8_t marks[32];      /* the words that are marked in Y at the start */
-
-static uint64_t draw(void)
-{
-    static uint64_t x = 20260801;
-    x ^= x << 13;
-    x ^= x >> 7;
-    x ^= x << 17;
-    return x;
-}
-
-static int marked(const uint8_t *item, int w) { return item[w / 8] >> w % 8 & 1; }
-static void mark(uint8_t *item, int w) { item[w / 8] |= (uint8_t)(1 << w % 8); }
 
 /* ---- what is searched: each field holds one of a few values, so that many are equal, and some differ in one bit */
 
@@ -65,8 +54,7 @@ enum { MARKS = 4 };
 static void lend_array(uint32_t start, uint32_t n, int end)
 {
     static uint8_t words[STARAN_MEMORY_BYTES], memory[STARAN_MEMORY_BYTES];
-    for (size_t i = 0; i < sizeof words; i++)
-        words[i] = (uint8_t)draw();
+    draw_bytes(words, sizeof words);
     for (int w = 0; w < WORDS; w++)
         for (uint32_t k = 0; k < n; k++) {
             uint8_t *byte = &words[32 * w + (start + k) / 8], bit = (uint8_t)(1 << (start + k) % 8);

@@ -106,6 +106,24 @@ static void greatest(const char *name, uint32_t start, uint32_t n, size_t short_
     }
 }
 
+/* The marks' buffer cannot be written either. Where `list_short_by` or `items_short_by` is 1, the buffers are of the very lengths less that. */
+static void closings(const char *name, size_t marks, uint32_t a, uint32_t s, uint32_t n, size_t list_short_by, size_t items_short_by, uint32_t refused)
+{
+    const uint32_t expected[STARAN_LIST_AND_ITEMS_NUMBERS] = {refused, 0, 0};
+    for (int i = 0; i < 2 * ENDS; i++) {
+        const int end = i % ENDS, spreads = i / ENDS;
+        lend(FILE_BYTES, marks, end);
+        lend(LIST, (spreads ? STARAN_SPREADING_LIST_BYTES(n) : STARAN_CLOSING_LIST_BYTES(n)) - list_short_by, end);
+        lend(ITEMS, (spreads ? STARAN_SPREADING_ITEMS_BYTES(n) : STARAN_CLOSING_ITEMS_BYTES) - items_short_by, end);
+        uint32_t *answer = lend_answer(STARAN_LIST_AND_ITEMS_NUMBERS, end);
+        shut_rooms();
+        check("%s list that writes nothing: %s", spreads ? "spreading" : "closing", name);
+        (spreads ? staran_spreading_list : staran_closing_list)(a, s, n, WHOLE(FILE_BYTES), WHOLE(LIST), WHOLE(ITEMS), answer);
+        expect(answer, STARAN_LIST_AND_ITEMS_NUMBERS, expected);
+        open_rooms();
+    }
+}
+
 int unwritten(void)
 {
     instructions();
@@ -124,5 +142,14 @@ int unwritten(void)
     greatest("a width of 65", 0, 65, 0, STARAN_REFUSED_WIDTH);
     greatest("a field beyond the word", 193, 64, 0, STARAN_REFUSED_FIELD_BEYOND);
     greatest("a list too short", 0, 32, 1, STARAN_REFUSED_LIST_TOO_SHORT);
+    closings("marks of 31 bytes", 31, 0, 32, 32, 0, 0, STARAN_REFUSED_MARKS_LENGTH);
+    closings("no marks, and all else wrong", 0, 250, 250, 33, 1, 1, STARAN_REFUSED_MARKS_LENGTH);
+    closings("a width of 0", 32, 0, 32, 0, 0, 0, STARAN_REFUSED_WIDTH);
+    closings("a width of 33", 32, 0, 33, 33, 0, 0, STARAN_REFUSED_WIDTH);
+    closings("a field beyond the word", 32, 225, 32, 32, 0, 0, STARAN_REFUSED_FIELD_BEYOND);
+    closings("fields that meet", 32, 32, 63, 32, 0, 0, STARAN_REFUSED_FIELDS_CROSS);
+    closings("the same field", 32, 32, 32, 32, 0, 0, STARAN_REFUSED_FIELDS_CROSS);
+    closings("a list too short", 32, 0, 32, 32, 1, 0, STARAN_REFUSED_LIST_TOO_SHORT);
+    closings("items too short", 32, 0, 32, 32, 0, 1, STARAN_REFUSED_LIST_TOO_SHORT);
     return counted();
 }

@@ -1,5 +1,6 @@
 /* Makes one call of the library some times, on fixed buffers, so that its executed instructions can be counted:
  *     library TIMES CALL
+ *     library TIMES CALL MARKS                  a closing's or spreading's, with no word marked (none), words 1, 3, 5 and so on (second) or all (all)
  *     library TIMES list INSTRUCTION COUNT      a run of a list that has the instruction, in hex digits, COUNT times
  *     library TIMES none INSTRUCTION COUNT      the same with Y all zeros: no line responds
  * tests/count-library runs it. */
@@ -16,6 +17,8 @@ static uint8_t memory[STARAN_MEMORY_BYTES], registers[STARAN_REGISTERS_BYTES], o
 static uint8_t list[STARAN_SUM_LIST_BYTES(WIDTH)], many[LONGEST], content[LIST], target[LIST], file[STARAN_FILE_BYTES(LIST)], picture[STARAN_PICTURE_FILE_BYTES];
 static uint8_t equal[STARAN_SEARCH_LIST_BYTES(WIDTH)], less[STARAN_SEARCH_LIST_BYTES(WIDTH)], greatest[STARAN_GREATEST_LIST_BYTES(WIDTH)];
 static uint8_t searched[STARAN_SEARCH_ITEMS_BYTES(WIDTH)]; /* the items of equal and of less: the same number */
+static uint8_t marks[STARAN_ITEM_BYTES], closing[STARAN_CLOSING_LIST_BYTES(WIDTH)], closing_items[STARAN_CLOSING_ITEMS_BYTES];
+static uint8_t spreading[STARAN_SPREADING_LIST_BYTES(WIDTH)], spreading_items[STARAN_SPREADING_ITEMS_BYTES(WIDTH)];
 static staran_registers record;
 static uint8_t item[32], passed[32];
 static uint32_t answer[5];
@@ -23,6 +26,14 @@ static uint32_t answer[5];
 static void equal_list(void) { staran_equal_list(0, WIDTH, NUMBER, equal, sizeof equal, searched, sizeof searched, answer); }
 static void less_list(void) { staran_less_list(0, WIDTH, NUMBER, less, sizeof less, searched, sizeof searched, answer); }
 static void greatest_list(void) { staran_greatest_list(0, WIDTH, greatest, sizeof greatest, answer); }
+static void closing_list(void)
+{
+    staran_closing_list(0, 32, WIDTH, marks, sizeof marks, closing, sizeof closing, closing_items, sizeof closing_items, answer);
+}
+static void spreading_list(void)
+{
+    staran_spreading_list(0, 32, WIDTH, marks, sizeof marks, spreading, sizeof spreading, spreading_items, sizeof spreading_items, answer);
+}
 
 /* What the calls start from: no two neighbouring bytes are alike, and the files are whole. */
 static void prepare(void)
@@ -37,6 +48,8 @@ static void prepare(void)
     equal_list();
     less_list();
     greatest_list();
+    closing_list();
+    spreading_list();
     for (size_t i = 0; i < sizeof many; i++)
         many[i] = list[i % sizeof list];
     many[sizeof many - 1] = 0x50; /* a choice over 4, or byte 7 of a store: 11 in any kind */
@@ -58,26 +71,29 @@ static void run(const uint8_t *instructions, size_t length)
     staran_run(memory, sizeof memory, registers, sizeof registers, instructions, length, item, 0, out, sizeof out, answer);
 }
 
-static void run_search(const uint8_t *instructions, size_t length)
+static void run_with(const uint8_t *instructions, size_t length, const uint8_t *items, size_t items_length)
 {
-    staran_run(memory, sizeof memory, registers, sizeof registers, instructions, length, searched, sizeof searched, out, sizeof out, answer);
+    staran_run(memory, sizeof memory, registers, sizeof registers, instructions, length, items, items_length, out, sizeof out, answer);
 }
 
-static void run_equal(void) { run_search(equal, sizeof equal); }
-static void run_less(void) { run_search(less, sizeof less); }
+static void run_equal(void) { run_with(equal, sizeof equal, searched, sizeof searched); }
+static void run_less(void) { run_with(less, sizeof less, searched, sizeof searched); }
 static void run_greatest(void) { run(greatest, sizeof greatest); }
+static void run_closing(void) { run_with(closing, sizeof closing, closing_items, sizeof closing_items); }
+static void run_spreading(void) { run_with(spreading, sizeof spreading, spreading_items, sizeof spreading_items); }
 
-/* A search's call by its name, NULL where there is none: it is looked up once, before the calls that are counted. */
-static void (*search_named(const char *name))(void)
+/* A later call by its name, NULL where there is none: it is looked up once, before the calls that are counted. */
+static void (*later_named(const char *name))(void)
 {
     static const struct {
         const char *name;
         void (*call)(void);
-    } searches[] = {{"equal-list", equal_list}, {"run-equal", run_equal}, {"less-list", less_list}, {"run-less", run_less},
-                    {"greatest-list", greatest_list}, {"run-greatest", run_greatest}};
-    for (size_t i = 0; i < sizeof searches / sizeof *searches; i++)
-        if (strcmp(name, searches[i].name) == 0)
-            return searches[i].call;
+    } later[] = {{"equal-list", equal_list},         {"run-equal", run_equal},       {"less-list", less_list},       {"run-less", run_less},
+                 {"greatest-list", greatest_list},   {"run-greatest", run_greatest}, {"closing-list", closing_list}, {"run-closing", run_closing},
+                 {"spreading-list", spreading_list}, {"run-spreading", run_spreading}};
+    for (size_t i = 0; i < sizeof later / sizeof *later; i++)
+        if (strcmp(name, later[i].name) == 0)
+            return later[i].call;
     return NULL;
 }
 
@@ -128,13 +144,21 @@ static int call(const char *name, size_t length)
     return 1;
 }
 
+/* Each byte of the marks, or -1 for a word that says none. */
+static int mark_byte(const char *word)
+{
+    return strcmp(word, "all") == 0 ? 255 : strcmp(word, "second") == 0 ? 0xAA : strcmp(word, "none") == 0 ? 0 : -1;
+}
+
 int main(int count, char **words)
 {
     size_t length = 0;
-    if (count != 3 && count != 5) {
-        fputs("usage: library TIMES CALL [INSTRUCTION COUNT]\n", stderr);
+    if (count < 3 || count > 5 || (count == 4 && mark_byte(words[3]) < 0)) {
+        fputs("usage: library TIMES CALL [MARKS | INSTRUCTION COUNT]\n", stderr);
         return 2;
     }
+    if (count == 4)
+        memset(marks, mark_byte(words[3]), sizeof marks);
     prepare();
     if (count == 5)
         length = prepare_list(words[3], (size_t)atoi(words[4]));
@@ -143,10 +167,10 @@ int main(int count, char **words)
         words[2] = "list";
     }
     int times = atoi(words[1]);
-    void (*search)(void) = search_named(words[2]);
-    if (search != NULL) {
+    void (*later)(void) = later_named(words[2]);
+    if (later != NULL) {
         for (; times > 0; times--)
-            search();
+            later();
         return 0;
     }
     for (; times > 0; times--)

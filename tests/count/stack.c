@@ -9,10 +9,10 @@
 #include <string.h>
 
 #define COUNT(table) (sizeof(table) / sizeof *(table))
-enum { WIDEST = 64, BLOCK = STARAN_BLOCK_BYTES };
+enum { WIDEST = 64, WIDEST_MOVED = 32, BLOCK = STARAN_BLOCK_BYTES };
 
 static uint8_t memory[STARAN_MEMORY_BYTES], content[STARAN_MEMORY_BYTES], registers[STARAN_REGISTERS_BYTES], item[STARAN_ITEM_BYTES], passed[STARAN_ITEM_BYTES];
-static uint8_t list[STARAN_GREATEST_LIST_BYTES(WIDEST)], items[STARAN_SEARCH_ITEMS_BYTES(WIDEST)], blocks[STARAN_PICTURE_FILE_BYTES];
+static uint8_t list[STARAN_GREATEST_LIST_BYTES(WIDEST)], items[STARAN_SPREADING_ITEMS_BYTES(WIDEST_MOVED)], blocks[STARAN_PICTURE_FILE_BYTES];
 static staran_registers record;
 static uint32_t answer[5];
 
@@ -79,6 +79,37 @@ static void difference_list(size_t k) { CALL(staran_difference_list, SUM(k)); }
 static void equal_list(size_t k) { CALL(staran_equal_list, SEARCH(k)); }
 static void less_list(size_t k) { CALL(staran_less_list, SEARCH(k)); }
 static void greatest_list(size_t k) { CALL(staran_greatest_list, FIELD(k), LIST(k), answer); }
+
+/* ---- closing and spreading: done at two widths by four marks, then refused */
+
+enum { NO_MARKS, SECOND, ALL, ANY, MARKS };
+static uint8_t marks[MARKS][STARAN_ITEM_BYTES];
+static const struct {
+    size_t marks;
+    uint32_t a, s, n;
+    size_t marks_length, list, items;
+} moved[] = {{NO_MARKS, 0, 32, 32, 0, 0, 0},      {SECOND, 0, 32, 32, 0, 0, 0},
+             {ALL, 0, 32, 32, 0, 0, 0},           {ANY, 0, 32, 32, 0, 0, 0},
+             {NO_MARKS, 255, 0, 1, 0, 0, 0},      {SECOND, 255, 0, 1, 0, 0, 0},
+             {ALL, 255, 0, 1, 0, 0, 0},           {ANY, 255, 0, 1, 0, 0, 0},
+             {ANY, 0, 32, 32, 1, 0, 0},           {ANY, 0, 32, 32, STARAN_ITEM_BYTES, 0, 0},
+             {ANY, 0, 32, 0, 0, 0, 0},            {ANY, 0, 33, 33, 0, 0, 0},
+             {ANY, 225, 32, 32, 0, 0, 0},         {ANY, 0, 225, 32, 0, 0, 0},
+             {ANY, 0, 31, 32, 0, 0, 0},           {ANY, 32, 32, 32, 0, 0, 0},
+             {ANY, 0, 32, 32, 0, sizeof list, 0}, {ANY, 0, 32, 32, 0, 0, sizeof items}};
+
+static void make_marks(void)
+{
+    memset(marks[SECOND], 0xAA, STARAN_ITEM_BYTES);
+    memset(marks[ALL], 255, STARAN_ITEM_BYTES);
+    memcpy(marks[ANY], content, STARAN_ITEM_BYTES);
+}
+
+#define MOVED(k) \
+    moved[k].a, moved[k].s, moved[k].n, marks[moved[k].marks], STARAN_ITEM_BYTES - moved[k].marks_length, list, sizeof list - moved[k].list, items, \
+        sizeof items - moved[k].items, answer
+static void closing_list(size_t k) { CALL(staran_closing_list, MOVED(k)); }
+static void spreading_list(size_t k) { CALL(staran_spreading_list, MOVED(k)); }
 
 /* ---- files: what one of the two readers or writers takes, the other refuses. Kind 1 is a picture, 2 a list, 3 items */
 
@@ -159,6 +190,8 @@ static const struct {
     {"staran_equal_list", 8, equal_list, COUNT(searches), DONE | NUMBERS(30, 31) | NUMBERS(33, 34)},
     {"staran_less_list", 8, less_list, COUNT(searches), DONE | NUMBERS(30, 31) | NUMBERS(33, 34)},
     {"staran_greatest_list", 5, greatest_list, COUNT(searches), DONE | NUMBERS(30, 31) | NUMBERS(33, 33)},
+    {"staran_closing_list", 10, closing_list, COUNT(moved), DONE | NUMBERS(30, 33) | NUMBERS(35, 35)},
+    {"staran_spreading_list", 10, spreading_list, COUNT(moved), DONE | NUMBERS(30, 33) | NUMBERS(35, 35)},
     {"staran_read_content", 6, read_content, COUNT(reads), DONE | NUMBERS(20, 26)},
     {"staran_write_content", 6, write_content, COUNT(writes), DONE | NUMBERS(22, 22) | NUMBERS(26, 27)},
     {"staran_read_picture", 8, read_picture, COUNT(reads), DONE | NUMBERS(20, 26)},
@@ -173,6 +206,7 @@ int main(void)
         memory[i] = content[i] = (uint8_t)(i * 167 + i / 256 + 2);
     memcpy(registers, content, sizeof registers);
     make_instructions();
+    make_marks();
     make_files();
     for (size_t f = 0; f < COUNT(functions); f++) {
         size_t deepest = 0;

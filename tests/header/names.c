@@ -1,5 +1,5 @@
-/* Holds the header's names to bytes and numbers that stand here as they stand in document 01, in document 02 (Four, the resolved item) and, of the searches, in docs/LISTS.md, from C and from C++:
- * tests/c/run builds and runs it.
+/* Holds the header's names to bytes and numbers that stand here as they stand in document 01, in document 02 (Four, the resolved item) and, of the searches, the closing and
+ * the spreading, in docs/LISTS.md, from C and from C++: tests/c/run builds and runs it.
  * Says each name that does not hold, then every number with its meaning, for tests/c/run to compare with docs/numbers.tsv. */
 #include "staran.h"
 
@@ -101,6 +101,51 @@ static void searches(void)
                                            STARAN_LIST_AND_ITEMS_NUMBERS == 3 && STARAN_PASS_NUMBERS == 1);
 }
 
+/* The closing and the spreading of one bit, from bit 3 to bit 9 and back, by macros and built; words 2 and 3 are marked, which go to words 0 and 1, by 2 each. */
+static void closings(void)
+{
+#define CLOSE_ROUND(t) \
+    STARAN_SET_M_FROM(STARAN_SOURCE_OUTSIDE, STARAN_NO_FLIP, STARAN_NO_SHIFT), \
+        STARAN_LOGIC(STARAN_MODE_SLICE, 9, 255, STARAN_SHIFT(8, t), STARAN_CHOICE_X, STARAN_FUNCTION_ITEM), STARAN_MASKED_STORE(STARAN_SOURCE_X, STARAN_MODE_SLICE, 9, 255)
+    const uint8_t closing[] = {STARAN_LOGIC(STARAN_MODE_SLICE, 3, STARAN_NO_FLIP, STARAN_NO_SHIFT, STARAN_CHOICE_X, STARAN_FUNCTION_ITEM),
+                               STARAN_STORE(STARAN_SOURCE_X, STARAN_MODE_SLICE, 9, STARAN_NO_FLIP),
+                               CLOSE_ROUND(0), CLOSE_ROUND(1), CLOSE_ROUND(2), CLOSE_ROUND(3), CLOSE_ROUND(4), CLOSE_ROUND(5), CLOSE_ROUND(6), CLOSE_ROUND(7),
+                               STARAN_SET_M_FROM(STARAN_SOURCE_OUTSIDE, STARAN_NO_FLIP, STARAN_NO_SHIFT),
+                               STARAN_LOGIC_FROM(STARAN_SOURCE_X, STARAN_NO_FLIP, STARAN_NO_SHIFT, STARAN_CHOICE_X, STARAN_FUNCTION_CLEAR),
+                               STARAN_MASKED_STORE(STARAN_SOURCE_X, STARAN_MODE_SLICE, 9, STARAN_NO_FLIP)};
+#define SPREAD_ROUND(t) \
+    STARAN_LOGIC_FROM(STARAN_SOURCE_OUTSIDE, STARAN_NO_FLIP, STARAN_NO_SHIFT, STARAN_CHOICE_Y, STARAN_FUNCTION_ITEM), \
+        STARAN_LOGIC_FROM(STARAN_SOURCE_X, STARAN_NO_FLIP, STARAN_SHIFT(8, t), STARAN_CHOICE_X_WHERE_Y, STARAN_FUNCTION_ITEM)
+    const uint8_t spreading[] = {STARAN_SET_M_FROM(STARAN_SOURCE_OUTSIDE, STARAN_NO_FLIP, STARAN_NO_SHIFT),
+                                 STARAN_LOGIC(STARAN_MODE_SLICE, 9, STARAN_NO_FLIP, STARAN_NO_SHIFT, STARAN_CHOICE_X, STARAN_FUNCTION_ITEM),
+                                 SPREAD_ROUND(7), SPREAD_ROUND(6), SPREAD_ROUND(5), SPREAD_ROUND(4), SPREAD_ROUND(3), SPREAD_ROUND(2), SPREAD_ROUND(1), SPREAD_ROUND(0),
+                                 STARAN_MASKED_STORE(STARAN_SOURCE_X, STARAN_MODE_SLICE, 3, STARAN_NO_FLIP)};
+#undef CLOSE_ROUND
+#undef SPREAD_ROUND
+    const uint8_t marks[STARAN_ITEM_BYTES] = {0x0C};
+    uint8_t built[STARAN_CLOSING_LIST_BYTES(1)], items[STARAN_CLOSING_ITEMS_BYTES], expected[STARAN_CLOSING_ITEMS_BYTES] = {0};
+    uint32_t answer[STARAN_LIST_AND_ITEMS_NUMBERS];
+    staran_closing_list(3, 9, 1, marks, sizeof marks, built, sizeof built, items, sizeof items, answer);
+    expected[32 * 1] = 0x03;
+    memset(expected + 32 * 8, 255, 32);
+    expected[32 * 8] = 0xFC;
+    hold("a closing list by macros is the one built", answer[0] == STARAN_DONE && answer[1] == sizeof closing && memcmp(closing, built, sizeof closing) == 0);
+    hold("its items: at words 0 and 1 in the round of weight 2, and those from word 2 on", answer[2] == sizeof items && memcmp(expected, items, sizeof items) == 0);
+    bytes("its fifth instruction", closing + 32, 8, "0302010009FF0000");
+    bytes("its seventh instruction", closing + 48, 8, "0000010009FF810A");
+    staran_spreading_list(3, 9, 1, marks, sizeof marks, built, sizeof built, items, sizeof items, answer);
+    memset(expected, 0, sizeof expected);
+    expected[0] = 0x0C;
+    expected[32 * 7] = 0x0C;
+    hold("a spreading list by macros is the one built", answer[0] == STARAN_DONE && answer[1] == sizeof spreading && memcmp(spreading, built, sizeof spreading) == 0);
+    hold("its items: the marks, and again in the round of weight 2", answer[2] == STARAN_SPREADING_ITEMS_BYTES(1) && memcmp(expected, items, sizeof items) == 0);
+    bytes("its fourth instruction", spreading + 24, 8, "000200000000873A");
+    staran_closing_list(3, 9, 1, marks, 31, built, sizeof built, items, sizeof items, answer);
+    hold("marks of another length", answer[0] == STARAN_REFUSED_MARKS_LENGTH && STARAN_REFUSED_MARKS_LENGTH == 35);
+    hold("the longest closing", STARAN_CLOSING_LIST_BYTES(32) == 4944 && STARAN_CLOSING_ITEMS_BYTES == 288);
+    hold("the longest spreading", STARAN_SPREADING_LIST_BYTES(32) == 4616 && STARAN_SPREADING_ITEMS_BYTES(32) == 8224 && STARAN_SPREADING_ITEMS_BYTES(1) == 288);
+}
+
 /* A function of two bits by its meaning: what becomes of old 0, 0, 1, 1 by passed 0, 1, 0, 1. */
 static void function(const char *what, uint8_t number, const char *becomes)
 {
@@ -175,11 +220,12 @@ int main(void)
 {
     instructions();
     searches();
+    closings();
     functions();
     resolves();
     refusals();
     hold("the contents on disk", STARAN_CONTENT_PICTURE == 1 && STARAN_CONTENT_LIST == 2 && STARAN_CONTENT_ITEMS == 3);
-    hold("the linked version is the header's", staran_version() == STARAN_VERSION && STARAN_VERSION == 196608);
+    hold("the linked version is the header's", staran_version() == STARAN_VERSION && STARAN_VERSION == 196609);
     hold("a number that is never given", strcmp(staran_meaning(14), "no such number is ever given") == 0);
     for (uint32_t number = 0; number <= 100; number++)
         if (strcmp(staran_meaning(number), staran_meaning(14)) != 0)

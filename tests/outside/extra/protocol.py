@@ -1,6 +1,6 @@
 """The making of the buffers and the digest once more, from PROTOCOL.md alone: checks that page and
-the stored files against each other for every buffer that a call leaves as it was, and for the searches
-every word of the answer.
+the stored files against each other for every buffer that a call leaves as it was, and for the searches,
+for closing and for spreading every word of the answer.
 
     python3 extra/protocol.py ../../crates/vectors/stdin ../../crates/vectors/stdout
 """
@@ -77,6 +77,33 @@ def search(kind,p,B):
         y=sum(1<<w for w in range(256) if (v[w]==number if kind==12 else v[w]<number if kind==13 else w in was and v[w]==top)).to_bytes(32,'little')
         reg[32:96]=(bytes(32) if kind==14 else y)+y
     return [0,8*steps,32*taken]+([bad,0,0,0,0] if bad else [0,0,steps,taken,0])+[digest(b[8*steps:] if k==2 else b) for k,b in enumerate(B)]
+def closing(kind,p,B):
+    """Kinds 15 and 16 from the page's part on closing and spreading: all words of the answer."""
+    mem,reg,lst,itm,_,marks=B;a,s,n=p[:3]
+    steps,taken=(10+19*n,9) if kind==15 else (1+18*n,1+8*n)
+    common=max(a,s)<min(a,s)+n
+    no=35 if len(marks)!=32 else 30 if not 1<=n<=32 else 31 if max(a,s)+n>256 else 32 if common else 33 if len(lst)<8*steps or len(itm)<32*taken else 0
+    if no: return [no]+7*[0]+[digest(b) for b in B]
+    bad=1 if len(mem)!=8192 else 2 if len(reg)!=96 else 4 if len(itm)%32 or len(itm)>32768 else 0
+    if not bad:
+        # slice by slice, as numbers of 256 bits: bit w is that of word w
+        get=lambda b:sum((mem[32*(b^w)+b//8]>>b%8&1)<<w for w in range(256))
+        def put(b,slice):
+            for w in range(256):
+                at=32*(b^w)+b//8
+                mem[at]=mem[at]&~(1<<b%8)|(slice>>w&1)<<b%8
+        number=int.from_bytes(marks,'little')
+        for b in range(n):
+            old,from_,new,k=get(a+b),get(s+b),0,0
+            for w in range(256):
+                if number>>w&1:
+                    if kind==15: new|=(old>>w&1)<<k
+                    else: new|=(from_>>k&1)<<w
+                    k+=1
+            if kind==15: put(s+b,new)
+            else: put(a+b,old&~number|new)
+    left=[mem,reg if bad else b'',lst[8*steps:],itm[32*taken:],B[4],marks]
+    return [0,8*steps,32*taken]+([bad,0,0,0,0] if bad else [0,0,steps,taken,0])+[digest(b) for b in left]
 kept={0:[2,3,5],1:[2,3,5],2:[0,1,2,3,5],3:[0,1,2,3,5],4:[0,1,3,4,5],5:[0,1,3,4,5],6:[0,1,3,4,5],7:[2,3,4,5],8:[0,1,2,3,4],9:[0,1,2,3,4],10:[3,5],11:[3,5]}
 lines=open(sys.argv[1]).read().split('\n');ans=open(sys.argv[2]).read().split('\n')
 assert lines[-1]=='' and ans[-1]=='' and len(lines)==len(ans)
@@ -85,7 +112,7 @@ for k in range(0,len(lines)-1):
     kind,p,B=make(bytes.fromhex(lines[k]))
     w=[int(v,16) for v in ans[k].split(' ')];assert len(ans[k])==9*len(w)-1 and len(w)>=5+len(B)
     if kind>=12:
-        assert w==search(kind,p,B),k; checked+=len(B); continue
+        assert w==(search if kind<15 else closing)(kind,p,B),k; checked+=len(B); continue
     keep=kept[kind] if w[0]==0 else range(len(B))
     for b in keep:
         if kind in (2,3) and b==4: continue

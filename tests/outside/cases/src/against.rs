@@ -1,6 +1,7 @@
 //! Random cases given to a command for as long as asked, and the smallest differing case.
 
 use crate::case::*;
+use crate::closings;
 use crate::plan::Plan;
 use crate::words;
 use std::io::Write;
@@ -31,9 +32,10 @@ fn differs(command: &str, case: &Case) -> bool {
     ask(command, std::slice::from_ref(case)).first() != Some(&case.answer().line())
 }
 
-fn weight(case: &Case) -> (usize, usize, usize, u32) {
+fn weight(case: &Case) -> (usize, usize, usize, u32, u32) {
     let lengths: usize = case.lengths.iter().map(|&l| l as usize).sum();
-    (lengths, case.record().len(), 6 - case.zeros.count_ones() as usize, case.seed)
+    let marked = if case.way().is_some() { case.make()[MARKS].iter().map(|b| b.count_ones()).sum() } else { 0 };
+    (lengths, case.record().len(), 6 - case.zeros.count_ones() as usize, marked, case.seed)
 }
 
 /// Cases that are a little smaller and still keep the promises of the protocol.
@@ -91,7 +93,61 @@ fn smaller(case: &Case) -> Vec<Case> {
             all.push(one);
         }
     }
+    if case.way().is_some() {
+        all.extend(narrower(case));
+        all.extend(fewer_marked(case));
+    }
     all.retain(|c| c.record().len() <= LONGEST_RECORD);
+    all
+}
+
+/// A closing or spreading of fewer bits, with as much room more or less than it wants.
+fn narrower(case: &Case) -> Vec<Case> {
+    let mut all = vec![];
+    let n = case.p[2];
+    for new in [1, n / 2, n.saturating_sub(1)] {
+        if 1 <= new && new < n && n <= 32 {
+            let (was, wants) = (closings::room(case.kind, n), closings::room(case.kind, new));
+            let mut one = case.clone();
+            one.p[2] = new;
+            one.lengths[LIST] = case.lengths[LIST].saturating_sub(was.0 - wants.0);
+            one.lengths[ITEMS] = case.lengths[ITEMS].saturating_sub(was.1 - wants.1);
+            // patches into the list or the items may no longer fit
+            one.patches.retain(|p| p.target as usize != LIST && p.target as usize != ITEMS);
+            all.push(one);
+        }
+    }
+    all
+}
+
+/// The marks written out, without those of one half, of one byte, or of one bit.
+fn fewer_marked(case: &Case) -> Vec<Case> {
+    let marks = case.make()[MARKS].clone();
+    let mut all = vec![];
+    if marks.len() != 32 {
+        return all;
+    }
+    let mut without = |of: &dyn Fn(usize) -> bool| {
+        let mut fewer = marks.clone();
+        for word in (0..256).filter(|&word| of(word)) {
+            fewer[word / 8] &= !(1 << (word % 8));
+        }
+        if fewer != marks {
+            let mut one = case.clone();
+            one.zeros |= 1 << MARKS;
+            one.patches.retain(|p| p.target as usize != MARKS);
+            one.patch(MARKS, 0, &fewer);
+            all.push(one);
+        }
+    };
+    without(&|word| word < 128);
+    without(&|word| word >= 128);
+    for byte in 0..32 {
+        without(&|word| word / 8 == byte);
+    }
+    for bit in 0..256 {
+        without(&|word| word == bit);
+    }
     all
 }
 
@@ -100,7 +156,7 @@ fn shrink(command: &str, case: Case) -> Case {
     let mut tries = 0;
     'again: loop {
         let mut candidates = smaller(&best);
-        candidates.sort_by_key(weight);
+        candidates.sort_by_cached_key(weight);
         for one in candidates {
             // a literal list is a longer record at first, but fewer bytes lent
             let (a, b) = (weight(&one), weight(&best));

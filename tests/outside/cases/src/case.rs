@@ -7,6 +7,8 @@ pub const LIST: usize = 2;
 pub const ITEMS: usize = 3;
 pub const OUT: usize = 4;
 pub const FILE: usize = 5;
+/// The marks of a closing or spreading are in the file's buffer.
+pub const MARKS: usize = FILE;
 /// Not buffers: a patch that seals a block of the file, and one that repeats the memory's beginning.
 pub const SEAL: u8 = 255;
 pub const REPEAT: u8 = 254;
@@ -37,8 +39,10 @@ pub const DIFFERENCE_RUN: u8 = 11;
 pub const EQUAL_RUN: u8 = 12;
 pub const LESS_RUN: u8 = 13;
 pub const GREATEST_RUN: u8 = 14;
+pub const CLOSE_RUN: u8 = 15;
+pub const SPREAD_RUN: u8 = 16;
 
-pub const KINDS: [&str; 15] = [
+pub const KINDS: [&str; 17] = [
     "run",
     "step",
     "pass",
@@ -54,9 +58,11 @@ pub const KINDS: [&str; 15] = [
     "equal list, then run",
     "less list, then run",
     "greatest list, then run",
+    "closing list, then run",
+    "spreading list, then run",
 ];
 
-pub const BUFFERS: [&str; COUNT] = ["memory", "registers", "list", "items", "out", "file"];
+pub const BUFFERS: [&str; COUNT] = ["memory", "registers", "list", "items", "out", "file or marks"];
 
 #[derive(Clone, PartialEq, Eq, Debug)]
 pub struct Patch {
@@ -208,6 +214,9 @@ impl Case {
         if self.kind == GREATEST_RUN {
             assert!(self.p[2] == 0 && self.p[3] == 0);
         }
+        if self.way().is_some() {
+            assert!(self.p[3] == 0);
+        }
         assert!(self.patches.len() < 256);
         for patch in &self.patches {
             if patch.target == SEAL {
@@ -344,10 +353,32 @@ impl Case {
         }
     }
 
+    /// What a case of kinds 15 and 16 asks for.
+    pub fn way(&self) -> Option<emulator::Way> {
+        match self.kind {
+            CLOSE_RUN => Some(emulator::Way::Close),
+            SPREAD_RUN => Some(emulator::Way::Spread),
+            _ => None,
+        }
+    }
+
+    /// The fields of a case of kinds 15 and 16.
+    pub fn fields(&self) -> emulator::Fields {
+        emulator::Fields { a: self.p[0], s: self.p[1], width: self.p[2] }
+    }
+
+    /// Whether the answer has the builder's three numbers and the run's five.
+    fn eight(&self) -> bool {
+        self.search().is_some() || self.way().is_some()
+    }
+
     /// Calls the emulator: the numbers of the answer.
     pub fn call(&self, buffers: &mut Buffers) -> Vec<u32> {
         if let Some(search) = self.search() {
             return self.call_search(search, buffers);
+        }
+        if let Some(way) = self.way() {
+            return self.call_closing(way, buffers);
         }
         self.call_base(buffers).to_vec()
     }
@@ -360,6 +391,19 @@ impl Case {
         let mut words = vec![built.number, built.list, built.items];
         let run = match built.number {
             0 => numbers(emulator::run_prepared(search, start, width, memory, registers, items)),
+            _ => [0; NUMBERS],
+        };
+        words.extend(run);
+        words
+    }
+
+    /// A closing or spreading: the builder's three numbers, then the run's five.
+    fn call_closing(&self, way: emulator::Way, buffers: &mut Buffers) -> Vec<u32> {
+        let [memory, registers, list, items, _, marks] = buffers;
+        let built = emulator::closing::prepare(way, self.fields(), marks, list.len(), items.len());
+        let mut words = vec![built.number, built.list, built.items];
+        let run = match built.number {
+            0 => numbers(emulator::closing::run_prepared(way, self.fields(), marks, memory, registers, items)),
             _ => [0; NUMBERS],
         };
         words.extend(run);
@@ -410,18 +454,25 @@ impl Case {
     pub fn answer(&self) -> Reply {
         let mut buffers = self.make();
         let mut words = self.call(&mut buffers);
-        if self.search().is_some() {
-            // no document fixes the bytes of a search's list
+        if self.eight() {
+            // no document fixes the bytes of a search's list, nor of a closing's or spreading's
             buffers[LIST].drain(..words[1] as usize);
+        }
+        if self.way().is_some() {
+            // nor the bytes of its items, nor M, X and Y after its run
+            buffers[ITEMS].drain(..words[2] as usize);
+            if words[0] == 0 && words[3] == 0 {
+                buffers[REGISTERS].clear();
+            }
         }
         words.extend(buffers.iter().map(|b| digest(b)));
         Reply { words }
     }
 
-    /// The number and the place of its answer: the run's, where a search is built and run.
+    /// The number and the place of its answer: the run's, where a list is built and run.
     pub fn number_and_place(&self, reply: &Reply) -> (u32, u32) {
-        let at = if self.search().is_some() && reply.words[0] == 0 { 3 } else { 0 };
-        let place = if self.search().is_some() && at == 0 { 0 } else { reply.words[at + 1] };
+        let at = if self.eight() && reply.words[0] == 0 { 3 } else { 0 };
+        let place = if self.eight() && at == 0 { 0 } else { reply.words[at + 1] };
         (reply.words[at], place)
     }
 }
@@ -554,7 +605,7 @@ mod tests {
         let mut checked = 0;
         let asked: Vec<&str> = lines.iter().copied().filter(|l| l.len() > 70 && l.bytes().all(|c| c.is_ascii_hexdigit())).collect();
         let answered: Vec<&str> = lines.iter().copied().filter(|l| Reply::from_line(l).is_some()).collect();
-        assert_eq!((asked.len(), answered.len()), (11, 11));
+        assert_eq!((asked.len(), answered.len()), (15, 15));
         for (line, reply) in asked.iter().zip(&answered) {
             let case = Case::from_line(line).unwrap();
             case.check();
@@ -562,7 +613,7 @@ mod tests {
             assert_eq!(case.answer().line(), *reply);
             checked += 1;
         }
-        assert_eq!(checked, 11);
+        assert_eq!(checked, 15);
         let mut case = Case::new(RUN, 1);
         case.lengths[LIST] = 8;
         assert_eq!(case.make()[LIST], [0x21, 0x01, 0xc5, 0x4f, 0xd1, 0xd0, 0x1a, 0xb2]);

@@ -4,6 +4,7 @@
 mod case;
 mod plan;
 mod against;
+mod closings;
 mod masks;
 mod resolves;
 mod searches;

@@ -574,13 +574,14 @@ impl Plan {
         self.write_plain(asked, content, output)
     }
 
-    /// One random case of any family; one in eight is a search, one in sixteen a list of masked stores, one in
-    /// sixteen a list of resolves.
+    /// One random case of any family; one in eight is a search, one in eight a closing or spreading, one in sixteen a
+    /// list of masked stores, one in sixteen a list of resolves.
     fn random_case(&mut self) -> Case {
         match self.r.below(16) {
             0 | 1 => self.random_search(),
             2 => self.random_masks(),
             3 => self.random_resolves(),
+            4 | 5 => self.random_closing(),
             _ => {
                 let mut case = self.random_base();
                 self.vary_responders(&mut case);
@@ -636,7 +637,8 @@ impl Plan {
     // ---- the planned cases
 
     /// The stored cases: those of document 01, planned and this many random ones, then the searches, then the
-    /// masked stores, then the resolves. What a later document adds stands behind, so that the cases before it stay.
+    /// masked stores, then the resolves, then closing and spreading. What a later document adds stands behind, so
+    /// that the cases before it stay.
     pub fn stored(&mut self, random: usize) {
         self.planned();
         for _ in 0..random {
@@ -646,6 +648,7 @@ impl Plan {
         self.all_searches();
         self.all_masks();
         self.all_resolves();
+        self.all_closings();
     }
 
     fn planned(&mut self) {

@@ -1,6 +1,7 @@
 //! A case and a difference in words.
 
 use crate::case::*;
+use crate::closings;
 use crate::searches::{room, values};
 use std::collections::BTreeMap;
 use std::fmt::Write;
@@ -57,6 +58,7 @@ pub fn describe(case: &Case) -> String {
         }
         WRITE_PLAIN => writeln!(t, "kind asked {}", p[0]).unwrap(),
         EQUAL_RUN | LESS_RUN | GREATEST_RUN => describe_search(&mut t, case),
+        CLOSE_RUN | SPREAD_RUN => describe_closing(&mut t, case),
         _ => {}
     }
     for k in 0..COUNT {
@@ -93,6 +95,9 @@ pub fn describe(case: &Case) -> String {
             k if k as usize == LIST && (case.kind == RUN || case.kind == STEP) && at % 8 == 0 => {
                 writeln!(t, "patch: list from instruction {} on, {} bytes", at / 8, patch.bytes.len()).unwrap()
             }
+            k if k as usize == MARKS && case.way().is_some() => {
+                writeln!(t, "patch: marks byte {}: {}", at, hex(&patch.bytes)).unwrap()
+            }
             k if k as usize == FILE => {
                 writeln!(t, "patch: file byte {} (block {}, byte {}): {}", at, at / 512, at % 512, hex(&patch.bytes)).unwrap()
             }
@@ -126,6 +131,55 @@ fn describe_search(t: &mut String, case: &Case) {
     writeln!(t, "{} different values, the greatest first:", words.len()).unwrap();
     for (value, (all, marked)) in words.into_iter().rev().take(20) {
         writeln!(t, "  {} in {} words, {} of them marked in Y", value, all, marked).unwrap();
+    }
+}
+
+/// Numbers that follow each other as one, "3 to 7".
+fn runs(words: &[usize]) -> Vec<String> {
+    let mut all: Vec<(usize, usize)> = vec![];
+    for &word in words {
+        match all.last_mut() {
+            Some(run) if run.1 + 1 == word => run.1 = word,
+            _ => all.push((word, word)),
+        }
+    }
+    let said = |(first, last): (usize, usize)| if first == last { first.to_string() } else { format!("{} to {}", first, last) };
+    all.into_iter().map(said).collect()
+}
+
+fn describe_closing(t: &mut String, case: &Case) {
+    let [a, s, n, _] = case.p;
+    writeln!(t, "A starts at {}, S at {}, width {}", a, s, n).unwrap();
+    if 1 <= n && n <= 32 {
+        let (list, items) = closings::room(case.kind, n);
+        writeln!(t, "the list wants {} bytes, the items {}", list, items).unwrap();
+    }
+    let buffers = case.make();
+    if buffers[MARKS].len() != 32 {
+        writeln!(t, "the marks have {} bytes", buffers[MARKS].len()).unwrap();
+        return;
+    }
+    let marked = emulator::closing::marked(&buffers[MARKS]);
+    let runs = runs(&marked);
+    let more = if runs.len() > 30 { ", .." } else { "" };
+    writeln!(t, "marked words, {} in all: {}{}", marked.len(), runs[..runs.len().min(30)].join(", "), more).unwrap();
+    if case.number_and_place(&case.answer()).0 != 0 {
+        return;
+    }
+    let table = emulator::memory::Table::from_chips(&buffers[MEMORY]);
+    let value = |start: u32, word| emulator::searches::values(&table, start as usize, n as usize)[word];
+    for (k, &word) in marked.iter().enumerate().take(20) {
+        if case.kind == CLOSE_RUN {
+            writeln!(t, "  A of word {} is {}: into S of word {}, which is {}", word, value(a, word), k, value(s, k)).unwrap();
+        } else {
+            writeln!(t, "  S of word {} is {}: into A of word {}, which is {}", k, value(s, k), word, value(a, word)).unwrap();
+        }
+    }
+    if marked.len() > 20 {
+        writeln!(t, "  and so on").unwrap();
+    }
+    if case.kind == CLOSE_RUN && marked.len() < 256 {
+        writeln!(t, "  zero into S of the words from {} on", marked.len()).unwrap();
     }
 }
 

@@ -1,12 +1,13 @@
-//! An emulator of the array module of document 01 with document 02's One, Three and Four, written from documents
+//! An emulator of the array module of document 01 with document 02's One, Three, Four and Five, written from documents
 //! 01, 02, 001, 003 and 004 alone. It keeps everything unpacked: the memory is a table of words and bits, a register
 //! is 256 bools, an item on the lines is 256 bools. Lent bytes are unpacked at the start of a call and
 //! packed again at its end, and only if the call is done.
 //!
-//! Points that the documents leave open follow the readings A to G2; the comments name them.
+//! Points that the documents leave open follow the readings A to H; the comments name them.
 
 pub mod bits;
 pub mod blocks;
+pub mod closing;
 pub mod lists;
 pub mod machine;
 pub mod memory;
@@ -15,6 +16,7 @@ pub mod program;
 pub mod searches;
 
 pub use blocks::{read_picture, read_plain, write_picture, write_plain, Put};
+pub use closing::{Fields, Way};
 pub use lists::{difference_list, sum_list, Built};
 pub use machine::{run, step, Answer};
 pub use network::{pass, wired_pass};
