@@ -22,7 +22,7 @@ and `./staran why FOLDER` runs a folder and says what its number means there. In
 **Place** is counted from 0. It is the instruction for 5 to 13, the block for 21 to 24, and otherwise 0; of a step it is always 0.
 **Order**: the first number that applies is given. A run judges 1, 2, 3, 4; then each instruction in turn, 5 to 11 within it; then 12; then 13. A step
 judges 1, 3, 4 and so on. Reading judges the kind asked for (22), 20, then each block in turn, 21 to 24 within it, then 25, then 26; writing 22, 26, 27.
-A list's builder judges 30, 31, 32, 33.
+A list's builder judges 35, 30, 31, 32, 34, 33, in this order, those of them that it has.
 A refusal has 0 for all counts and changes nothing that was lent; the program then writes no after.pic.
 
 | No. | Name in C | Given by | When | What to do |
