@@ -42,8 +42,8 @@ static void put_closing_items(uint8_t *items, const uint8_t *marks)
     size_t count = 0;
     for (unsigned t = 0; t < 8; t++)
         arrivals(marks, t, t + 1, items + ITEM * t);
-    for (size_t w = 0; w < WORDS; w++)
-        count += (size_t)marked(marks, w);
+    for (size_t i = 0; i < ITEM; i++)
+        count += (size_t)__builtin_popcount(marks[i]);
     memset(items + ITEM * 8, 0, ITEM);
     for (; count < WORDS; count++)
         add_line(items + ITEM * 8, count);

@@ -1,10 +1,10 @@
 // The items of closing and spreading, from the marks: for each round the mask of the words at which values arrive.
-use bits::choices::one_if;
 use bits::copies::item_of;
 use builders::writing;
 ghost use mathlib.Core.Path.{_≡_};
 ghost use mathlib.Core.Bool.{cond};
 ghost use Prim.Native.Nat.{_+_, _-_, _*_, _/_, _%_, _^_, _<_, _≤_};
+ghost use lib.Count.{ones};
 ghost use lib.Dec.{eqb, ltb};
 ghost use lib.ListN.{length, getD, take, drop, set};
 ghost use Rattle.bits.specs.Bits.{digit, bitOf, item};
@@ -81,16 +81,23 @@ fn from_count(count: usize) -> [u8; 32]
     out
 }
 
-// How many words are marked.
+// How many digits of a byte are 1. (A byte is below 2^8, which whoever reads one behind a reference learns here.)
+fn ones_of(x: u8) -> usize
+    ensures { λ r. ⌜ (r ≡ ones x) × (x < 2 ^ 8) × (r ≤ 8) ⌝ }
+{
+    u8::count_ones(x) as usize
+}
+
+// How many words are marked: the ones of each byte, added up.
 fn marks_count(marks: &[u8]) -> usize
     requires { ⌜ length (now marks) ≡ 32 ⌝ }
     ensures { λ r. ⌜ (r ≡ rank (marked (now (marks .entry))) 256) × (r ≤ 256) ⌝ }
 {
     let mut count: usize = 0;
-    let mut w: usize = 0;
-    while w < 256 {
-        count += one_if(is_marked(marks, w));
-        w += 1;
+    let mut i: usize = 0;
+    while i < 32 {
+        count += ones_of(marks[i]);
+        i += 1;
     }
     count
 }

@@ -1,20 +1,19 @@
--- `closing::masks::marks_count`: the count is the rank of word w, by `rank-more`. Assumes nothing.
-use mathlib.Core.Path.{_≡_, refl, sym, ap, _∙_}
-use Prim.Native.Nat.{ℕ, _≤_, _-_, _+_}
+-- `closing::masks::marks_count`: after i bytes it is the count of their lines that are 1, by the resolver's `count-byte`. Assumes nothing.
+use mathlib.Core.Path.{_≡_, refl, ap, ap₂, _∙_}
+use Prim.Native.Nat.{ℕ, _≤_, _-_, _*_, _+_}
 use native.Mathlib.Omega.{arith}
 use borrow.Author.Needs.{needs}
 use denote.Ref.{now}
 use Rattle.bits.specs.Search.{count}
-use Rattle.closing.specs.Closing.{marked, rank}
-use Rattle.closing.proofs.MaskLaws.{rank-more}
+use Rattle.registers.proofs.ResolverLaws.{countTo, count-byte}
 use Rattle.closing.proofs.masks.marks_count.Statement.{statement}
 use Rattle.closing.proofs.masks.marks_count.Tie as tie
 
 abbrev Inv-loop : tie.InvT-loop
-Inv-loop marks count₀ w₀ count w = (w ≤ 256) × (count ≤ w) × (count ≡ rank (marked marks) w)
+Inv-loop marks count₀ i₀ n i = (i ≤ 32) × (n ≤ 8 * i) × (n ≡ countTo marks i)
 
 abbrev μ-loop : tie.MeasureT-loop
-μ-loop marks count₀ w₀ count w = 256 - w
+μ-loop marks count₀ i₀ n i = 32 - i
 
 loop-holds : tie.Need-loop-holds Inv-loop μ-loop
 unfolding count
@@ -22,17 +21,18 @@ loop-holds c = (omega arith, omega arith, refl)
 
 loop-again : tie.Need-loop-again Inv-loop μ-loop
 loop-again c =
-    let m = marked (now (c .before .before .before .before .before .args .marks)) in
     let l = c .before .before .before .loop in
-    let i = c .before .is-marked in
-    (omega arith, omega arith, ap (λ (x : ℕ). l .count + x) (c .one-if .ensures .0) ∙ rank-more m (l .w) (l .count) (i .result) (l .inv .2) (sym (i .ensures)))
+    let e = c .ones-of .ensures in (
+      omega arith,
+      omega (arith, e .2),
+      ap₂ (λ (a b : ℕ). a + b) (l .inv .2) (e .0) ∙ count-byte (now (c .before .before .before .before .before .args .marks)) (l .i) (e .1),
+    )
 
 returns : tie.Need-returns Inv-loop μ-loop
 returns c =
-    let m = marked (now (c .before .before .before .args .marks)) in
     let l = c .before .loop in
-    let e : l .w ≡ 256 = omega arith in
-    (l .inv .2 ∙ ap (rank m) e, omega arith)
+    let e : l .i ≡ 32 = omega arith in
+    (l .inv .2 ∙ ap (countTo (now (c .before .before .before .args .marks))) e, omega arith)
 
 pub marks-count-spec : {M : Type 1} → statement M
 marks-count-spec =
@@ -41,7 +41,7 @@ marks-count-spec =
     Inv-loop
     μ-loop
     loop-holds
-    (λ c κs. search needs)
+    (λ c. search needs)
     (λ c κs. search needs)
     (λ c. search needs)
     (λ c. search needs)
