@@ -74,8 +74,8 @@ extern "C" {
 #endif
 
 /* The version of this header, and the linked library's: see staran_version. */
-#define STARAN_VERSION_MAJOR 3
-#define STARAN_VERSION_MINOR 1
+#define STARAN_VERSION_MAJOR 4
+#define STARAN_VERSION_MINOR 0
 #define STARAN_VERSION (STARAN_VERSION_MAJOR * UINT32_C(65536) + STARAN_VERSION_MINOR)
 
 /* Lengths in bytes. */
@@ -109,11 +109,21 @@ extern "C" {
 
 /* How many numbers an answer has: of a run or a step, of reading or writing, of a list's builder, of a builder of a list with its
  * items, of a pass. */
-#define STARAN_RUN_NUMBERS 5
+#define STARAN_RUN_NUMBERS 6
 #define STARAN_DISK_NUMBERS 3
 #define STARAN_LIST_NUMBERS 2
 #define STARAN_LIST_AND_ITEMS_NUMBERS 3
 #define STARAN_PASS_NUMBERS 1
+
+/* Where each number of a run's or a step's answer stands: answer[STARAN_ANSWER_BYTE] is the byte. */
+enum {
+    STARAN_ANSWER_NUMBER = 0,
+    STARAN_ANSWER_PLACE = 1,
+    STARAN_ANSWER_BYTE = 2,
+    STARAN_ANSWER_STEPS = 3,
+    STARAN_ANSWER_TAKEN = 4,
+    STARAN_ANSWER_GIVEN = 5
+};
 
 /* Kinds of content on disk. */
 enum { STARAN_CONTENT_PICTURE = 1, STARAN_CONTENT_LIST = 2, STARAN_CONTENT_ITEMS = 3 };
@@ -215,10 +225,9 @@ typedef char staran_register_record_is_96_bytes[sizeof(staran_registers) == STAR
 
 /* The version of the library that is linked: 65,536 times the major number, plus the minor. It takes nothing and changes nothing.
  *
- * A later version may write longer answers or a longer register record, read an instruction otherwise or deliver other bytes: see
- * docs/CHANGELOG.md. So a
- * program that was compiled with one version and is linked with another asks before its first call that
- * staran_version() == STARAN_VERSION.
+ * A later version may read an instruction otherwise, deliver other bytes or give other numbers: see docs/CHANGELOG.md. An answer or a
+ * record that gets longer comes under another function name. So a program that was compiled with one version and is linked with
+ * another asks before its first call that staran_version() == STARAN_VERSION.
  * Stack: at most 64 bytes. */
 uint32_t staran_version(void);
 
@@ -229,21 +238,39 @@ uint32_t staran_version(void);
  * list        a multiple of 8 bytes, at most 32,768, else 3. The empty list is done
  * items       a multiple of 32 bytes, at most 32,768, else 4. Items that no instruction takes are no fault
  * out         any length
- * answer      number, place, steps, taken, given
+ * answer      number, place, byte, steps, taken, given: STARAN_ANSWER_NUMBER and so on say where
  *
- * Judged: 1, 2, 3, 4 (place 0); then 5 to 11 for each instruction in turn, in this order within it; then 12; then 13; all before the
- * first instruction acts. The place of 5 to 11 is the number of the instruction, counted from 0; that of 12 and 13 is the first
- * instruction that lacks its item or its 32 bytes of room.
- * Done: place 0; steps is the count of instructions, taken that of the items taken (source 4), given that of the items given (kinds 4
- * and 5). Memory and registers are as the instructions leave them; the first 32 * given bytes of out are the items given, and the
- * bytes past them stay.
+ * Judged: 1, 2, 3, 4; then for each instruction in turn 5, 6, 7, 8, 9, 18, 16, 17, 11, in this order within it; then 12; then 13; all
+ * before the first instruction acts. The place is the number of the instruction that is refused, counted from 0; for 12 and 13 that is
+ * the first that lacks its item or its 32 bytes of room; for 1 to 4 it is 0.
+ * The byte, 0 to 7, is the first of that instruction's bytes that is wrong by the number given:
+ *
+ *   5        byte 0
+ *   6        byte 1
+ *   7, 8     byte 2
+ *   9        the first of bytes 2, 3 and 4 that is not 0
+ *   18       byte 6 of a store; of a resolve the first of bytes 5 and 6 that is not 0
+ *   16, 17   byte 6
+ *   11       byte 7
+ *
+ * For all other numbers, also for 12 and 13, it is 0.
+ * Done: place and byte 0; steps is the count of instructions, taken that of the items taken (source 4), given that of the items given
+ * (kinds 4 and 5). Memory and registers are as the instructions leave them; the first 32 * given bytes of out are the items given, and
+ * the bytes past them stay.
  * Refused: steps, taken and given are 0, and memory, registers and out are as they were.
+ *
+ * The 4 in the name is the major version since which the answer is this one. Until 3.1 staran_run and staran_step wrote five numbers,
+ * number, place, steps, taken, given, to an array of five. So that no such array is written over, and no byte is read as the steps,
+ * they are gone: a program that was compiled for them does not link with this library, and its source finds them in this header no
+ * more. To bring it over, call staran_run_4 and staran_step_4, lend an array of STARAN_RUN_NUMBERS, and read it by the names
+ * STARAN_ANSWER_NUMBER to STARAN_ANSWER_GIVEN: behind the place comes the byte, and steps, taken and given stand one further on. 10
+ * is not given any more: where it was, there is 18, 16 or 17.
  * Stack: at most 1,536 bytes. */
-void staran_run(uint8_t *memory, size_t memory_length, uint8_t *registers, size_t registers_length, const uint8_t *list,
-                size_t list_length, const uint8_t *items, size_t items_length, uint8_t *out, size_t out_length,
-                uint32_t answer[STARAN_RUN_NUMBERS]);
+void staran_run_4(uint8_t *memory, size_t memory_length, uint8_t *registers, size_t registers_length, const uint8_t *list,
+                  size_t list_length, const uint8_t *items, size_t items_length, uint8_t *out, size_t out_length,
+                  uint32_t answer[STARAN_RUN_NUMBERS]);
 
-/* Takes one step, as an operator's console does: it answers, refuses and leaves its buffers as staran_run of the list of that one
+/* Takes one step, as an operator's console does: it answers, refuses and leaves its buffers as staran_run_4 of the list of that one
  * instruction does.
  *
  * memory        8,192 bytes, else 1
@@ -251,25 +278,26 @@ void staran_run(uint8_t *memory, size_t memory_length, uint8_t *registers, size_
  * instruction   exactly 8 bytes, else 3
  * items         a multiple of 32 bytes, at most 32,768, else 4; the step takes the first, if it takes one
  * out           any length; the step gives to its first 32 bytes, if it gives
- * answer        number, place, steps, taken, given
+ * answer        number, place, byte, steps, taken, given, as in staran_run_4
  *
- * Judged: 1, 3, 4, then 5 to 11, then 12, then 13. The place is always 0.
- * Done: steps is 1; taken and given are 0 or 1. Refused: all three are 0, and memory, registers and out are as they were.
+ * Judged: 1, 3, 4; then 5, 6, 7, 8, 9, 18, 16, 17, 11; then 12; then 13. The place is always 0; the byte is as in staran_run_4.
+ * Done: byte 0; steps is 1; taken and given are 0 or 1. Refused: steps, taken and given are 0, and memory, registers and out are as
+ * they were.
  * Stack: at most 1,664 bytes. */
-void staran_step(uint8_t *memory, size_t memory_length, staran_registers *registers, const uint8_t *instruction,
-                 size_t instruction_length, const uint8_t *items, size_t items_length, uint8_t *out, size_t out_length,
-                 uint32_t answer[STARAN_RUN_NUMBERS]);
+void staran_step_4(uint8_t *memory, size_t memory_length, staran_registers *registers, const uint8_t *instruction,
+                   size_t instruction_length, const uint8_t *items, size_t items_length, uint8_t *out, size_t out_length,
+                   uint32_t answer[STARAN_RUN_NUMBERS]);
 
 /* Passes an item through the network, in arithmetic form: line I goes to I xor flip, and then by the shift that code names (byte 6 of
  * an instruction).
  *
  * item     the item to pass
  * flip     any
- * code     0 for no shift, or 16p + m with m < p <= 8: 37 codes in all, else 10
+ * code     0 for no shift, or 16p + m with m < p <= 8: 37 codes in all, else 16 or 17
  * passed   the item passed
  * answer   number
  *
- * Judged: 10 alone.
+ * Judged: 16 (p is over 8); 17 (code is not 0, and m is not below p).
  * Done: passed is the item passed. Refused: passed is 32 zeros; it is written on every call.
  * Stack: at most 320 bytes. */
 void staran_pass(const uint8_t item[32], uint8_t flip, uint8_t code, uint8_t passed[32], uint32_t answer[STARAN_PASS_NUMBERS]);
@@ -316,7 +344,7 @@ void staran_difference_list(uint32_t a, uint32_t b, uint32_t s, uint32_t n, uint
  * 8 * (2 + 3n), or items_length under 32n).
  * Done: the first bytes of list are the list and the first bytes of items its items, the counts are their lengths, and the bytes past
  * them stay. Refused: both counts are 0, and list and items are as they were.
- * To run it, lend staran_run the list with the length answer[1] and the items with the length answer[2]: the list takes the first n
+ * To run it, lend staran_run_4 the list with the length answer[1] and the items with the length answer[2]: the list takes the first n
  * items, in their order. Whole items behind those are no fault. The list depends on the field alone and the items on the number and
  * the width alone, so one list serves every number.
  * Stack: at most 192 bytes. */
@@ -340,7 +368,7 @@ void staran_less_list(uint32_t start, uint32_t n, uint64_t number, uint8_t *list
  * Judged: 30 (n is not 1 to 64); 31 (start + n is over 256, as whole numbers); 33 (list_length is under 8 * (1 + 11n)).
  * Done: the first bytes of list are the list, the count is its length, and the bytes past it stay. Refused: the count is 0 and list is
  * as it was.
- * To run it, lend staran_run the list with the length answer[1].
+ * To run it, lend staran_run_4 the list with the length answer[1].
  * Stack: at most 64 bytes. */
 void staran_greatest_list(uint32_t start, uint32_t n, uint8_t *list, size_t list_length, uint32_t answer[STARAN_LIST_NUMBERS]);
 
@@ -362,7 +390,7 @@ void staran_greatest_list(uint32_t start, uint32_t n, uint8_t *list, size_t list
  * under 288).
  * Done: the first bytes of list are the list and the first bytes of items its items, the counts are their lengths, and the bytes past
  * them stay. Refused: both counts are 0, and list and items are as they were.
- * To run it, lend staran_run the list with the length answer[1] and the items with the length answer[2]: the list takes the first nine
+ * To run it, lend staran_run_4 the list with the length answer[1] and the items with the length answer[2]: the list takes the first nine
  * items, in their order. Whole items behind those are no fault. The list depends on the fields alone and the items on the marks alone,
  * so one list serves all marks.
  * Stack: at most 256 bytes. */
@@ -378,8 +406,8 @@ void staran_closing_list(uint32_t a, uint32_t s, uint32_t n, const uint8_t *mark
  * a, s, n   as in staran_closing_list
  * marks     32 bytes, else 35
  * list      any length; the list has 8 * (1 + 18n) bytes
- * items     any length; the items have 32 * (1 + 8n) bytes, for all marks. For n = 31 and 32 they are 249 and 257 items: staran_run
- *           takes up to 1,024, the program's in.itm has room for 248
+ * items     any length; the items have 32 * (1 + 8n) bytes, for all marks. For n = 31 and 32 they are 249 and 257 items:
+ *           staran_run_4 takes up to 1,024, the program's in.itm has room for 248
  * answer    number, count of bytes written to list, count of bytes written to items
  *
  * Judged, done, refused and run as a closing is, with these lengths in 33; the list takes the first 1 + 8n items. The list depends on

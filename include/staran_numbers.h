@@ -27,14 +27,19 @@ enum {
     STARAN_REFUSED_MODE_TAG = 8,
     /* run, step: memory is not touched, and byte 2, 3 or 4 is not 0 */
     STARAN_REFUSED_MODE_UNUSED = 9,
-    /* run, step, pass: byte 6 is none of the 37 shifts; it is not 0 on a store; byte 5 or 6 is not 0 on a resolve */
-    STARAN_REFUSED_SHIFT = 10,
     /* run, step: byte 7: the choice is over 4 in logic; it is not 0 in any other kind */
     STARAN_REFUSED_LOGIC = 11,
     /* run, step: the items are too few: the place is the first instruction that lacks one */
     STARAN_REFUSED_ITEMS_TOO_FEW = 12,
     /* run, step: the out buffer is too short: the place is the first instruction without room for its 32 bytes */
     STARAN_REFUSED_OUT_TOO_SHORT = 13,
+    /* run, step, pass: byte 6, 16p + m: p is over 8, a group of more than 256 lines */
+    STARAN_REFUSED_GROUP_TOO_WIDE = 16,
+    /* run, step, pass: byte 6, 16p + m, is not 0, and m is not below p */
+    STARAN_REFUSED_SHIFT_NOT_BELOW = 17,
+    /* run, step: a move that this kind may not make: byte 6, the shift, is not 0 on a store; byte 5, the flip, or
+       byte 6 is not 0 on a resolve */
+    STARAN_REFUSED_MOVE_BARRED = 18,
     /* reading: the file has no bytes, is not a multiple of 512, or is over 34,304; in the program also: before.pic
        is absent, a file cannot be read (standard error says why), before.pic is over 17 blocks, run.lst or in.itm
        over 16 */
@@ -97,14 +102,19 @@ static inline const char *staran_meaning(uint32_t number)
         return "memory is touched and byte 2, the mode tag, is over 1";
     case STARAN_REFUSED_MODE_UNUSED:
         return "memory is not touched, and byte 2, 3 or 4 is not 0";
-    case STARAN_REFUSED_SHIFT:
-        return "byte 6 is none of the 37 shifts; it is not 0 on a store; byte 5 or 6 is not 0 on a resolve";
     case STARAN_REFUSED_LOGIC:
         return "byte 7: the choice is over 4 in logic; it is not 0 in any other kind";
     case STARAN_REFUSED_ITEMS_TOO_FEW:
         return "the items are too few: the place is the first instruction that lacks one";
     case STARAN_REFUSED_OUT_TOO_SHORT:
         return "the out buffer is too short: the place is the first instruction without room for its 32 bytes";
+    case STARAN_REFUSED_GROUP_TOO_WIDE:
+        return "byte 6, 16p + m: p is over 8, a group of more than 256 lines";
+    case STARAN_REFUSED_SHIFT_NOT_BELOW:
+        return "byte 6, 16p + m, is not 0, and m is not below p";
+    case STARAN_REFUSED_MOVE_BARRED:
+        return "a move that this kind may not make: byte 6, the shift, is not 0 on a store; byte 5, the flip, or "
+               "byte 6 is not 0 on a resolve";
     case STARAN_REFUSED_FILE_LENGTH:
         return "the file has no bytes, is not a multiple of 512, or is over 34,304; in the program also: before.pic "
                "is absent, a file cannot be read (standard error says why), before.pic is over 17 blocks, run.lst or"

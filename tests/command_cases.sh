@@ -40,14 +40,14 @@ complains() {
     [ "$status" -eq "$want" ] && [ ! -s "$work/out" ] && grep -qF -- "$sentence" "$work/err" && ! grep -q 'Traceback' "$work/err"
     judge "$name" $?
 }
-done_line='r 0 0 2 0 1'
+done_line='r 0 0 0 2 0 1'
 
 # ---- exit statuses
 folder good
 folder bad 02030000FF000000
 gives "0 for a run that is done" 0 "$done_line" "$staran" good
-gives "1 for a run that is refused" 1 'r 7 0 0 0 0' "$staran" bad
-mkdir empty; gives "1 for a file that is refused" 1 'p 20 0 0 0 0' "$staran" empty
+gives "1 for a run that is refused" 1 'r 7 0 2 0 0 0' "$staran" bad
+mkdir empty; gives "1 for a file that is refused" 1 'p 20 0 0 0 0 0' "$staran" empty
 folder blocked; mkdir blocked/after.pic; complains "2 where after.pic cannot be written" 2 'after.pic: Is a directory' "$staran" blocked
 complains "2 where there is no folder" 2 'nowhere: no folder' "$staran" nowhere
 complains "2 for a file" 2 'no folder' "$staran" good/before.pic
@@ -88,11 +88,15 @@ gives "--version is the header's" 0 "staran $major.$minor" "$staran" --version
 grep -q "^## $major.$minor" "$here/docs/CHANGELOG.md"; judge "and the newest of docs/CHANGELOG.md" $?
 call "$staran" numbers; [ $status -eq 0 ] && [ "$(grep -cE '^ *[0-9]+  ' "$work/out")" -eq "$(grep -vc '^#' "$here/docs/numbers.tsv")" ]; judge "numbers: every row" $?
 call "$staran" numbers 7; [ $status -eq 0 ] && grep -q 'no mode was given' "$work/out" && [ "$(grep -cE '^ *[0-9]+  ' "$work/out")" -eq 1 ]; judge "numbers 7: one row" $?
+call "$staran" numbers 9; [ $status -eq 0 ] && grep -qx '     byte: the first of 2, 3 and 4 that is not 0' "$work/out"; judge "numbers 9: which byte is given" $?
 complains "numbers 14: there is none" 2 'the number 14 is never given' "$staran" numbers 14
+complains "numbers 10: it is not given any more" 2 'the number 10 is never given' "$staran" numbers 10
+timeout 60 "$staran" numbers >/dev/full 2>err; status=$?; : >out
+[ $status -eq 2 ] && grep -q 'No space left on device' err && ! grep -q 'never given\|parameter' err; judge "numbers: 2 for an output that takes nothing, with the reason" $?
 
 # ---- why
 call "$staran" why bad
-[ $status -eq 1 ] && [ "$(head -n 1 "$work/out")" = 'r 7 0 0 0 0' ] && grep -q 'no mode was given' "$work/out" && grep -q 'do: give the mode' "$work/out" &&
+[ $status -eq 1 ] && [ "$(head -n 1 "$work/out")" = 'r 7 0 2 0 0 0' ] && grep -q 'no mode was given' "$work/out" && grep -q 'do: give the mode' "$work/out" &&
     grep -q 'byte 2  00  mode tag: no mode is given.*<-- here' "$work/out" && grep -q 'byte 0  02  kind: store' "$work/out" && [ "$(grep -c 'here$' "$work/out")" -eq 1 ]
 judge "why: a store without a mode" $?
 folder damaged; printf '\001' | dd of=damaged/before.pic bs=1 seek=600 conv=notrunc status=none
@@ -100,21 +104,46 @@ call "$staran" why damaged; [ $status -eq 1 ] && grep -q '^Block 1' "$work/out" 
 call "$staran" why empty; [ $status -eq 1 ] && grep -q 'before.pic is not there' "$work/out"; judge "why: an absent picture" $?
 call "$staran" why good; [ $status -eq 0 ] && grep -q 'Done' "$work/out"; judge "why: a run that is done" $?
 complains "why: no folder" 2 'one folder' "$staran" why
-# the bytes that each number of 5 to 13 speaks of
-for row in '5:FF00000000000000:0' '6:0200010000000000:1' '8:0203020000000000:2' '9:0002000700000000:3' '10:0002000000000100:6' '10:0500000000010000:5' \
-    '11:0002000000000050:7' '12:0404000000000000:1' '7:0000000000000000:2'; do
-    IFS=: read -r number list byte <<<"$row"
+# NUMBER LIST BYTE SENTENCE: the byte that the program names is marked, and no other, and its line has the sentence
+while read -r number list byte sentence <&3; do
     folder each "$list"; call "$staran" why each
-    [ $status -eq 1 ] && [ "$(head -n 1 "$work/out")" = "r $number 0 0 0 0" ] && grep -q "^  byte $byte .*<-- here" "$work/out" && [ "$(grep -c 'here$' "$work/out")" -eq 1 ]
-    judge "why: $number in $list" $?
-done
+    [ $status -eq 1 ] && [ "$(head -n 1 "$work/out")" = "r $number 0 $byte 0 0 0" ] && grep -qF "$sentence   <-- here" <<<"$(grep "^  byte $byte " "$work/out")" &&
+        [ "$(grep -c 'here$' "$work/out")" -eq 1 ]
+    judge "why: $number in $list, byte $byte" $?
+done 3<<'ROWS'
+5 FF00000000000000 0 kind: there is no such one
+6 0200010000000000 1 source: memory
+7 0000000000000000 2 mode tag: no mode is given; this instruction touches memory and needs one
+8 0203020000000000 2 mode tag: there is no such tag; this instruction touches memory and needs one
+9 0002010700000000 2 mode tag: of no use, for memory is not touched: it must be 0
+9 040300FF0D000000 3 mode: of no use, for memory is not touched: it must be 0
+9 040300000D000000 4 address: of no use, for memory is not touched: it must be 0
+18 0203010009009000 6 shift: p is 9 and m is 0; a store may not shift: it must be 0
+18 0303010009001000 6 shift: p is 1 and m is 0; a masked store may not shift: it must be 0
+18 0500000000018800 5 flip: line I goes to I xor 1; a resolve may not flip: it must be 0
+18 0500000000008800 6 shift: p is 8 and m is 8; a resolve may not shift: it must be 0
+16 0002000000009F00 6 shift: p is 9 and m is 15; p is over 8, and a group has at most 256 lines
+17 0002000000008800 6 shift: p is 8 and m is 8; m is not below p
+17 0002000000000100 6 shift: p is 0 and m is 1; m is not below p
+11 0002000000000050 7 function 0: old and passed bit 00, 01, 10, 11 become 0, 0, 0, 0
+11 0203010009000001 7 logic: of no use in this kind: it must be 0
+ROWS
+folder each "$(yes 000200000000000A | head -n 57) 040300FF0D000000"; call "$staran" why each
+[ $status -eq 1 ] && [ "$(head -n 1 "$work/out")" = 'r 9 57 3 0 0 0' ] && grep -qx 'Instruction 57, counted from 0, at byte 456 of the list: 04 03 00 ff 0d 00 00 00' "$work/out"; judge "why: the instruction at the place" $?
+# with 12 and 13 no byte is wrong, and none is marked
+folder each 0404000000000000; call "$staran" why each
+[ $status -eq 1 ] && [ "$(head -n 1 "$work/out")" = 'r 12 0 0 0 0 0' ] && ! grep -q 'here$' "$work/out" && grep -qx 'No byte of it is wrong. The list takes 1 items.' "$work/out"; judge "why: 12, and no byte is marked" $?
+folder each "$(yes 0500000000000000 | head -n 257)"; call "$staran" why each
+[ $status -eq 1 ] && [ "$(head -n 1 "$work/out")" = 'r 13 256 0 0 0 0' ] && ! grep -q 'here$' "$work/out" && grep -qx 'No byte of it is wrong. The list gives 257 items.' "$work/out"; judge "why: 13, and no byte is marked" $?
+# what the program said is shown, and nothing judged again: another byte is marked if another is named
+call "$here/tools/why.py" each r 9 0 4; [ $status -eq 0 ] && [ "$(grep 'here$' "$work/out")" = '  byte 4  00  address: of no use, for memory is not touched   <-- here' ]; judge "why: the byte that is named" $?
 
 # ---- several folders
 call "$staran" good bad 'two words  and more'
-printf '%s\n' good: "$done_line" "$(sed -n 2p <<<"$("$staran" good)")" bad: 'r 7 0 0 0 0' 'two words  and more:' "$done_line" "$(sed -n 2p <<<"$("$staran" good)")" >want
+printf '%s\n' good: "$done_line" "$(sed -n 2p <<<"$("$staran" good)")" bad: 'r 7 0 2 0 0 0' 'two words  and more:' "$done_line" "$(sed -n 2p <<<"$("$staran" good)")" >want
 [ $status -eq 1 ] && cmp -s want "$work/out" && grep -q '3 of 3 folders' "$work/err"; judge "several: each one's lines under its name, in order, and the worst status" $?
 call "$staran" good work; [ $status -eq 0 ]; judge "several: all done" $?
-call "$staran" good bad nowhere; [ $status -eq 2 ] && grep -qx 'staran: nowhere: no folder' "$work/err" && grep -qx 'r 7 0 0 0 0' "$work/out"; judge "several: one that is no folder" $?
+call "$staran" good bad nowhere; [ $status -eq 2 ] && grep -qx 'staran: nowhere: no folder' "$work/err" && grep -qx 'r 7 0 2 0 0 0' "$work/out"; judge "several: one that is no folder" $?
 for k in $(seq 40); do folder "many/$k"; rm -f "many/$k/after.pic"; done
 call "$staran" many/*; [ $status -eq 0 ] && [ "$(grep -cx "$done_line" "$work/out")" -eq 40 ] && [ "$(find many -name after.pic | wc -l)" -eq 40 ]; judge "several: 40 folders" $?
 call "$staran" good good; [ $status -eq 0 ] && [ "$(grep -cx "$done_line" "$work/out")" -eq 2 ]; judge "several: the same one twice" $?
@@ -197,7 +226,7 @@ RATTLE_HOME=$kit_home PATH=$work/few complains "no rt: a sentence" 2 'rt, the co
 ln -s "$work/stand/rt" few/rt
 bare() { RATTLE_HOME=$kit_home PATH=$work/few "$copy/staran" "$@" >"$work/out" 2>"$work/err"; status=$?; }
 bare good; [ $status -eq 0 ] && [ ! -s "$work/err" ]; judge "no python3: a folder is run" $?
-bare; [ $status -eq 0 ] && grep -qx 'r 0 0 519 1 3' "$work/out" && grep -q 'python3 is not on PATH' "$work/err"; judge "no python3: the demonstration says so" $?
+bare; [ $status -eq 0 ] && grep -qx 'r 0 0 0 519 1 3' "$work/out" && grep -q 'python3 is not on PATH' "$work/err"; judge "no python3: the demonstration says so" $?
 bare why bad; [ $status -eq 1 ] && grep -q 'no mode was given' "$work/out" && grep -q 'python3 is not on PATH' "$work/err"; judge "no python3: why says what it can, and so" $?
 
 # ---- the lists that docs/MACHINE.md works through: their commands as they stand there, what it says they print, and that the bytes of a table are those of its commands
@@ -206,9 +235,12 @@ printed() { # HEADING NUMBER: the lines of the section's block, counted from 1, 
     awk -v heading="## $1" -v number="$2" '$0 == heading { on = 1; next } /^## / { on = 0 } !on { next }
         /^    / { if (!block && /^    (r [0-9]|[0-9a-f]+$)/) { block = 1; count++ } if (block && count == number) print substr($0, 5); next } { block = 0 }' "$here/docs/MACHINE.md"
 }
-worked() { # HEADING FOLDER LINES
+section() { # HEADING FOLDER: the section and its commands
     awk -v heading="## $1" '$0 == heading { on = 1; next } /^## / { on = 0 } on' "$here/docs/MACHINE.md" >page/section
     sed -n "/^    mkdir $2/,/^    .\\/staran $2/s/^    //p" page/section >page/commands
+}
+worked() { # HEADING FOLDER LINES
+    section "$1" "$2"
     printed "$1" 1 >page/want
     call sh -c 'cd page && sh -eu commands'
     [ $status -eq 0 ] && [ "$(wc -l <page/want)" -eq "$3" ] && cmp -s page/want out; judge "the manual: $1" $?
@@ -217,6 +249,8 @@ worked() { # HEADING FOLDER LINES
     "$blocks" list page/again "$(cat page/bytes)" && cmp -s page/again "page/$2/run.lst"; judge "and its table" $?
 }
 worked "A first list, worked through" first 4
+"$blocks" --unfit list page/first/run.lst "$(sed 's/^02030100/02030000/' page/bytes)" && call "$staran" page/first
+[ $status -eq 1 ] && [ "$(cat out)" = 'r 7 5 2 0 0 0' ] && grep -q "(\`02 03 00 00 30 00 00 00\`) and the run is refused, \`$(cat out)\`:" page/section; judge "and without the tag of instruction 5" $?
 # document 02, Three: what the office's list writes now; what it wrote before is on the page the item of another run, of the list that flips M with the item, which comes after
 mirrored='Every second station, mirrored'
 worked "$mirrored" mirror 2
@@ -233,6 +267,20 @@ content = b''.join(blocks[k + 12:k + 508] for k in range(0, len(blocks), 512))
 sys.exit(content[8192:8224] != b'\x55' * 32)
 READ
 
+# document 02, Six: a refused list, what why shows of it, and what each row of the section's table leads to
+refused='A refused list, and what to do'
+section "$refused" refused
+call sh -c 'cd page && sh -eu commands'; [ $status -eq 1 ] && [ "$(cat out)" = "$(printed "$refused" 1)" ] && [ "$(cat out)" = 'r 9 57 3 0 0 0' ]; judge "the manual: $refused" $?
+sed -n 's/^    \(Instruction .*\|  byte .*\)/\1/p' page/section >page/want
+call sh -c 'cd page && ./staran why refused'; [ $status -eq 1 ] && [ "$(wc -l <page/want)" -eq 9 ] && tail -n 9 out | cmp -s - page/want; judge "and what why shows" $?
+# shellcheck disable=SC2016
+sed -n 's/^| [^|]*| `\(04 [0-9A-F ]*\)`[^|]*| `\(r [0-9 ]*\)`.*/\1:\2/p' page/section >page/rows
+while IFS=: read -r bytes line <&3; do
+    "$blocks" --unfit list page/refused/run.lst "$(yes 000200000000000A | head -n 57)" "$bytes"
+    call "$staran" page/refused; [ "$(head -n 1 out)" = "$line" ]; judge "and with $bytes" $?
+done 3<page/rows
+[ "$(wc -l <page/rows)" -eq 4 ]; judge "four rows" $?
+
 # ---- make_blocks.py
 mkdir made
 call "$blocks" picture made/p; [ $status -eq 0 ] && cp made/p made/q; judge "a picture is made" $?
@@ -243,7 +291,7 @@ call "$blocks" --replace picture made/p; [ $status -eq 0 ]; judge "unless it is 
 complains "odd hex digits" 1 'no whole bytes' "$blocks" list made/l 000
 complains "no hex digits" 1 "'x' is no hex digit" "$blocks" list made/l 0x00
 complains "half an instruction" 1 'whole instructions of 8 bytes' "$blocks" list made/l 00020000
-complains "an instruction that is refused" 1 'would be refused with 7' "$blocks" list made/l 02030000FF000000
+complains "an instruction that is refused" 1 'would be refused with 7 at byte 2' "$blocks" list made/l 02030000FF000000
 complains "half an item" 1 'whole items of 32 bytes' "$blocks" items made/i 00
 complains "too many instructions" 1 'at most 992 instructions' "$blocks" list made/l "$(yes 0002000000000000 | head -n 993)"
 complains "a damaged picture has no table" 1 'block 1 is refused with 21' "$blocks" heights damaged

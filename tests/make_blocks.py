@@ -1,6 +1,7 @@
 #!/usr/bin/env python3
 """Makes and reads the files of a folder that ./staran runs in. Written from document 01, "Blocks on disk", "Instructions" and "Sum and
-difference lists", and from the bytes in docs/LISTS.md, and from nothing of the crates, so that it can serve as an outside answer.
+difference lists", from document 02, Six, and from the bytes in docs/LISTS.md, and from nothing of the crates, so that it can serve as an
+outside answer.
 
     make_blocks.py list FILE HEX..       a list: HEX is any number of hex digits and blanks, in one word or several
     make_blocks.py items FILE HEX..      items, likewise
@@ -19,7 +20,6 @@ import sys
 
 PICTURE, LIST, ITEMS = 1, 2, 3
 NAMES = {PICTURE: 'picture', LIST: 'list', ITEMS: 'items'}
-CODES = [0] + [16 * p + m for p in range(1, 9) for m in range(p)]
 
 
 class Refused(Exception):
@@ -100,17 +100,23 @@ def touches(i):
 
 
 def instruction_fault(i):
-    """The first of 5 to 11 that an instruction meets, or 0."""
+    """The number that an instruction is refused with, and the first byte that is wrong by it; or 0 and 0."""
+    p, m = divmod(i[6], 16)
     rows = [
-        (5, i[0] > 5),
-        (6, i[1] > 4 or (i[0] in (2, 3) and i[1] == 0) or (i[0] == 5 and i[1] != 0)),
-        (7, touches(i) and i[2] == 0),
-        (8, touches(i) and i[2] > 1),
-        (9, not touches(i) and any(i[2:5])),
-        (10, i[6] not in CODES or (i[0] in (2, 3) and i[6] != 0) or (i[0] == 5 and any(i[5:7]))),
-        (11, i[7] // 16 > 4 if i[0] == 0 else i[7] != 0),
+        (5, 0, i[0] > 5),
+        (6, 1, i[1] > 4 or (i[0] in (2, 3) and i[1] == 0) or (i[0] == 5 and i[1] != 0)),
+        (7, 2, touches(i) and i[2] == 0),
+        (8, 2, touches(i) and i[2] > 1),
+        (9, 2, not touches(i) and i[2] != 0),
+        (9, 3, not touches(i) and i[3] != 0),
+        (9, 4, not touches(i) and i[4] != 0),
+        (18, 5, i[0] == 5 and i[5] != 0),
+        (18, 6, i[0] in (2, 3, 5) and i[6] != 0),
+        (16, 6, p > 8),
+        (17, 6, i[6] != 0 and m >= p),
+        (11, 7, i[7] // 16 > 4 if i[0] == 0 else i[7] != 0),
     ]
-    return next((number for number, met in rows if met), 0)
+    return next(((number, byte) for number, byte, met in rows if met), (0, 0))
 
 
 def list_fault(data):
@@ -118,9 +124,9 @@ def list_fault(data):
     given = 0
     for at in range(0, len(data), 8):
         i = data[at:at + 8]
-        fault = instruction_fault(i)
+        fault, byte = instruction_fault(i)
         if fault:
-            return 'instruction %d, %s, would be refused with %d: ./staran numbers %d' % (at // 8, i.hex(' '), fault, fault)
+            return 'instruction %d, %s, would be refused with %d at byte %d: ./staran numbers %d' % (at // 8, i.hex(' '), fault, byte, fault)
         given += i[0] in (4, 5)
         if given > 256:
             return 'instruction %d would be refused with 13: the program has room for 256 items' % (at // 8)

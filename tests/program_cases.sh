@@ -1,6 +1,6 @@
 #!/bin/bash
-# The program on folders of every kind, from outside: absent, empty, too long, damaged and unreadable files; what happens to an old after.pic;
-# what is left behind; the command's exit status; two runs in one folder. Prints a line for each case, and at last 'N passed, 0 failed'. Run it from
+# The program on folders of every kind, from outside: absent, empty, too long, damaged and unreadable files; which byte of an instruction is wrong; what
+# happens to an old after.pic; what is left behind; the command's exit status; two runs in one folder. Prints a line for each case, and at last 'N passed, 0 failed'. Run it from
 # anywhere; it builds the program if the sources have changed.
 #   tests/program_cases.sh
 set -u
@@ -42,69 +42,142 @@ same() { cmp -s "$work/f/after.pic" "$work/f/before.pic"; judge "$1" $?; }
 zeros=$(printf '%064d' 0)
 item() { printf %s "$1${zeros#??????????}"; } # FIVE BYTES: a resolved item (document 02, Four)
 all_respond=$(item 0100000001) none_responds=$(item 0000010000)
-done_lines="r 0 0 2 0 1\n$all_respond\n"
+done_lines="r 0 0 0 2 0 1\n$all_respond\n"
 
 # ---- the document's example, and absent files
 fresh; says "the document's example" "$done_lines"
 size=$(wc -c <"$work/f/after.pic"); [ "$size" -eq 8704 ]; judge "after.pic is 17 blocks" $?
-fresh; rm run.lst; says "absent run.lst is the empty list" "r 0 0 0 0 0\n"; same "the empty list leaves the picture as it was"
-fresh; rm before.pic; old; says "absent before.pic" "p 20 0 0 0 0\n"; kept "a refusal keeps an old after.pic"
-fresh; rm before.pic run.lst; says "an empty folder" "p 20 0 0 0 0\n"; none "a refusal makes no after.pic"
+fresh; rm run.lst; says "absent run.lst is the empty list" "r 0 0 0 0 0 0\n"; same "the empty list leaves the picture as it was"
+fresh; rm before.pic; old; says "absent before.pic" "p 20 0 0 0 0 0\n"; kept "a refusal keeps an old after.pic"
+fresh; rm before.pic run.lst; says "an empty folder" "p 20 0 0 0 0 0\n"; none "a refusal makes no after.pic"
 fresh; blocks items in.itm; says "a lone block of no items" "$done_lines"
-fresh; blocks list run.lst; says "a lone block of no instructions" "r 0 0 0 0 0\n"
+fresh; blocks list run.lst; says "a lone block of no instructions" "r 0 0 0 0 0 0\n"
 
 # ---- files with no bytes, and of a wrong length
 for name in before.pic:p run.lst:l in.itm:i; do
     file=${name%:*} letter=${name#*:}
-    fresh; : >"$file"; says "empty $file" "$letter 20 0 0 0 0\n"; none "no after.pic with an empty $file"
-    fresh; [ -f "$file" ] || blocks items in.itm; printf x >>"$file"; says "$file and a byte more" "$letter 20 0 0 0 0\n"
+    fresh; : >"$file"; says "empty $file" "$letter 20 0 0 0 0 0\n"; none "no after.pic with an empty $file"
+    fresh; [ -f "$file" ] || blocks items in.itm; printf x >>"$file"; says "$file and a byte more" "$letter 20 0 0 0 0 0\n"
 done
-fresh; head -c 9216 /dev/zero >before.pic; says "a picture file of 18 blocks" "p 20 0 0 0 0\n"
-fresh; head -c 8704 /dev/zero >before.pic; says "17 blocks of zeros are read" "p 22 0 0 0 0\n"
-fresh; head -c 8705 /dev/zero >before.pic; says "a picture file of 17 blocks and a byte" "p 20 0 0 0 0\n"
-fresh; head -c 8704 /dev/zero >run.lst; says "a list of 17 blocks" "l 20 0 0 0 0\n"
-fresh; head -c 8192 /dev/zero >run.lst; says "16 blocks of zeros are read" "l 22 0 0 0 0\n"
-fresh; head -c 8704 /dev/zero >in.itm; says "items of 17 blocks" "i 20 0 0 0 0\n"
-fresh; truncate -s 1T run.lst; says "a list of 2^40 bytes is not read to its end" "l 20 0 0 0 0\n"
-fresh; truncate -s 1T before.pic; says "a picture of 2^40 bytes is not read to its end" "p 20 0 0 0 0\n"
+fresh; head -c 9216 /dev/zero >before.pic; says "a picture file of 18 blocks" "p 20 0 0 0 0 0\n"
+fresh; head -c 8704 /dev/zero >before.pic; says "17 blocks of zeros are read" "p 22 0 0 0 0 0\n"
+fresh; head -c 8705 /dev/zero >before.pic; says "a picture file of 17 blocks and a byte" "p 20 0 0 0 0 0\n"
+fresh; head -c 8704 /dev/zero >run.lst; says "a list of 17 blocks" "l 20 0 0 0 0 0\n"
+fresh; head -c 8192 /dev/zero >run.lst; says "16 blocks of zeros are read" "l 22 0 0 0 0 0\n"
+fresh; head -c 8704 /dev/zero >in.itm; says "items of 17 blocks" "i 20 0 0 0 0 0\n"
+fresh; truncate -s 1T run.lst; says "a list of 2^40 bytes is not read to its end" "l 20 0 0 0 0 0\n"
+fresh; truncate -s 1T before.pic; says "a picture of 2^40 bytes is not read to its end" "p 20 0 0 0 0 0\n"
 
 # ---- damaged blocks
 # shellcheck disable=SC2059
 change() { printf "$3" | dd of="$1" bs=1 seek="$2" conv=notrunc status=none; } # FILE INDEX BYTES
-fresh; change before.pic 600 '\001'; old; says "a byte altered in block 1 of the picture" "p 21 1 0 0 0\n"; kept "a damaged picture keeps an old after.pic"
-fresh; change run.lst 20 '\377'; says "a byte altered in the list" "l 21 0 0 0 0\n"
-fresh; blocks list in.itm; says "a list under the name of the items" "i 22 0 0 0 0\n"
-fresh; head -c 512 before.pic >x; mv x before.pic; says "the first block of a picture alone" "p 23 0 0 0 0\n"
-fresh; blocks list run.lst 000200; says "a list of three bytes" "l 25 0 0 0 0\n"
-fresh; blocks items in.itm 00; says "items of one byte" "i 25 0 0 0 0\n"
-fresh; change before.pic 600 '\001'; change run.lst 20 '\377'; : >in.itm; says "three bad files: the picture is named" "p 21 1 0 0 0\n"
-fresh; change run.lst 20 '\377'; : >in.itm; says "two bad files: the list is named" "l 21 0 0 0 0\n"
-fresh; blocks list run.lst FF00000000000000; : >in.itm; says "bad items hide a bad instruction" "i 20 0 0 0 0\n"
+fresh; change before.pic 600 '\001'; old; says "a byte altered in block 1 of the picture" "p 21 1 0 0 0 0\n"; kept "a damaged picture keeps an old after.pic"
+fresh; change run.lst 20 '\377'; says "a byte altered in the list" "l 21 0 0 0 0 0\n"
+fresh; blocks list in.itm; says "a list under the name of the items" "i 22 0 0 0 0 0\n"
+fresh; head -c 512 before.pic >x; mv x before.pic; says "the first block of a picture alone" "p 23 0 0 0 0 0\n"
+fresh; blocks list run.lst 000200; says "a list of three bytes" "l 25 0 0 0 0 0\n"
+fresh; blocks items in.itm 00; says "items of one byte" "i 25 0 0 0 0 0\n"
+fresh; change before.pic 600 '\001'; change run.lst 20 '\377'; : >in.itm; says "three bad files: the picture is named" "p 21 1 0 0 0 0\n"
+fresh; change run.lst 20 '\377'; : >in.itm; says "two bad files: the list is named" "l 21 0 0 0 0 0\n"
+fresh; blocks list run.lst FF00000000000000; : >in.itm; says "bad items hide a bad instruction" "i 20 0 0 0 0 0\n"
 
 # ---- runs that are refused
-fresh; blocks list run.lst 000200000000001F FF00000000000000; old; says "a kind over 5" "r 5 1 0 0 0\n"; kept "a refused run keeps an old after.pic"
-fresh; blocks list run.lst 02030000FF000000; says "a store without a mode" "r 7 0 0 0 0\n"; none "a refused run makes no after.pic"
-fresh; blocks list run.lst 0404000000000000; says "items too few" "r 12 0 0 0 0\n"
-fresh; blocks list run.lst "$(times 257 0500000000000000)"; says "the out buffer too short for 257" "r 13 256 0 0 0\n"
-fresh; blocks list run.lst "$(times 256 0500000000000000)"; says "256 items fit, and none responds" "r 0 0 256 0 256\n$(times 256 "$none_responds")\n"
-fresh; blocks list run.lst 0404000000000000; blocks items in.itm "0123456789abcdef${zeros#????????????????}"; says "an item goes out as it came in" "r 0 0 1 1 1\n0123456789abcdef${zeros#????????????????}\n"
+fresh; blocks list run.lst 000200000000001F FF00000000000000; old; says "a kind over 5" "r 5 1 0 0 0 0\n"; kept "a refused run keeps an old after.pic"
+fresh; blocks list run.lst 02030000FF000000; says "a store without a mode" "r 7 0 2 0 0 0\n"; none "a refused run makes no after.pic"
+fresh; blocks list run.lst 0404000000000000; says "items too few" "r 12 0 0 0 0 0\n"
+fresh; blocks list run.lst "$(times 257 0500000000000000)"; says "the out buffer too short for 257" "r 13 256 0 0 0 0\n"
+fresh; blocks list run.lst "$(times 256 0500000000000000)"; says "256 items fit, and none responds" "r 0 0 0 256 0 256\n$(times 256 "$none_responds")\n"
+fresh; blocks list run.lst 0404000000000000; blocks items in.itm "0123456789abcdef${zeros#????????????????}"; says "an item goes out as it came in" "r 0 0 0 1 1 1\n0123456789abcdef${zeros#????????????????}\n"
 
-fresh; blocks list run.lst 000400000000001A 0500000000000000; blocks items in.itm "08$(printf '%048d' 0)01$(printf '%012d' 0)"; says "stations 3 and 200 respond" "r 0 0 2 1 1\n$(item 0103000200)\n"
+fresh; blocks list run.lst 000400000000001A 0500000000000000; blocks items in.itm "08$(printf '%048d' 0)01$(printf '%012d' 0)"; says "stations 3 and 200 respond" "r 0 0 0 2 1 1\n$(item 0103000200)\n"
+
+# ---- which byte is wrong (document 02, Six): an instruction at place 57, behind 57 that are right
+while read -r number byte instruction name <&3; do
+    fresh; blocks list run.lst "$(times 57 000200000000000A)" "$instruction"; says "$number at byte $byte: $name" "r $number 57 $byte 0 0 0\n"
+done 3<<'CASES'
+5 0 0600000000000000 a kind over 5
+6 1 0005000000000000 a source over 4
+6 1 0200010000000000 a store from memory
+6 1 0501000000000000 a resolve with a source
+7 2 0000000009000000 no tag where memory is touched
+8 2 0000020009000000 a tag over 1
+9 2 0403010000000000 a tag where memory is not touched
+9 3 040300FF0D000000 a mode and an address there: the mode is the first
+9 4 040300000D000000 an address alone
+9 4 0500000009018800 a resolve with an address, a flip and a shift: 9 comes before 18
+18 6 0203010009001000 a store with a shift
+18 6 0303010009001000 a masked store with a shift
+18 6 0203010009FF9000 a store with a group of 512 lines: 18 comes before 16, and a store may flip
+18 6 0303010009000100 a masked store with 1 in byte 6: 18 comes before 17
+18 5 0500000000010000 a resolve with a flip
+18 6 0500000000001000 a resolve with a shift
+18 5 0500000000018800 a resolve with a flip and a shift: the flip is the first
+18 6 0203010009001001 a store with a shift and a byte 7: 18 comes before 11
+16 6 0002000000009000 a group of 512 lines
+16 6 0102000000009F00 a group of 512 lines and m not below p: 16 comes before 17
+16 6 000200000000FF50 the largest group and a choice over 4: 16 comes before 11
+17 6 0002000000008800 m is p, 136 of document 01
+17 6 0102000000000100 p is 0, 1 of document 01
+17 6 0403000000000F00 p is 0 and m is 15
+17 6 0002000000001150 m is p and a choice over 4: 17 comes before 11
+17 6 0404000000002200 no item is there either: 17 comes before 12
+11 7 0002000000000050 a choice over 4
+11 7 0403000000000001 a byte 7 where there is no logic
+12 0 0404000000000000 no item is there: no byte is wrong
+CASES
+
+# Every value of byte 6 in logic, store and resolve, and in each kind one byte or two of other values: a folder each, named by its instruction, with one
+# item; tests/make_blocks.py says the number and the byte.
+mkdir "$work/each"
+python3 -B - "$here/tests" "$work/each" >"$work/want" <<'PYTHON'
+import itertools
+import os
+import sys
+sys.path.insert(0, sys.argv[1])
+import make_blocks as files
+room = sys.argv[2]
+right = [bytes.fromhex(text) for text in ('000300000000001A', '0203010009FF0000', '0500000000000000', '000001000900001A', '0102000000000000',
+                                          '0303010009000000', '040001FF0D000000', '0403000000000000')]
+
+
+def changed(i, *bytes_):
+    i = bytearray(i)
+    for place, value in bytes_:
+        i[place] = value
+    return bytes(i)
+
+
+cases = {changed(i, (6, value)) for i in right[:3] for value in range(256)}
+cases |= {changed(i, (k, value)) for i in right for k in range(8) for value in (0, 1, 2, 3, 4, 5, 6, 16, 80, 136, 144, 255)}
+cases |= {changed(i, (a, x), (b, y)) for i in right for a, b in itertools.combinations(range(8), 2) for x in (1, 144) for y in (1, 144)}
+files.write(os.path.join(room, '.picture'), files.picture([bytes(32)] * 256))
+files.write(os.path.join(room, '.items'), files.blocks(files.ITEMS, bytes(32)))
+for i in sorted(cases):
+    folder = os.path.join(room, i.hex())
+    os.mkdir(folder)
+    os.symlink('../.picture', os.path.join(folder, 'before.pic'))
+    os.symlink('../.items', os.path.join(folder, 'in.itm'))
+    files.write(os.path.join(folder, 'run.lst'), files.blocks(files.LIST, i))
+    print('%s: %d 0 %d' % (i.hex(), *files.instruction_fault(i)))
+PYTHON
+(cd "$work/each" && "$here/staran" ./*) 2>"$work/err" | awk '/:$/ { name = substr($0, 3) } /^r / { print name, $2, $3, $4 }' >"$work/got"
+count=$(wc -l <"$work/want") numbers=$(cut -d ' ' -f 2 "$work/want" | sort -nu | paste -s -d ' ')
+diff "$work/want" "$work/got" >"$work/out" && [ "$numbers" = '0 5 6 7 8 9 11 16 17 18' ]; judge "number, place and byte of $count instructions" $?
 
 # ---- what cannot be opened or read
 for name in before.pic:p run.lst:l in.itm:i; do
     file=${name%:*} letter=${name#*:}
-    fresh; rm -f "$file"; mkdir "$file"; old; says "a directory named $file" "$letter 20 0 0 0 0\n" "$file: Is a directory"; kept "a directory named $file keeps an old after.pic"
+    fresh; rm -f "$file"; mkdir "$file"; old; says "a directory named $file" "$letter 20 0 0 0 0 0\n" "$file: Is a directory"; kept "a directory named $file keeps an old after.pic"
 done
-fresh; rm run.lst; ln -s run.lst run.lst; says "a link that leads to itself" "l 20 0 0 0 0\n" "run.lst: Too many levels of symbolic links"
-fresh; rm run.lst; ln -s nothing run.lst; says "a link that leads nowhere is no file" "r 0 0 0 0 0\n"
+fresh; rm run.lst; ln -s run.lst run.lst; says "a link that leads to itself" "l 20 0 0 0 0 0\n" "run.lst: Too many levels of symbolic links"
+fresh; rm run.lst; ln -s nothing run.lst; says "a link that leads nowhere is no file" "r 0 0 0 0 0 0\n"
 if [ "$(id -u)" -ne 0 ]; then
-    fresh; chmod 000 run.lst; says "a list that may not be read" "l 20 0 0 0 0\n" "run.lst: Permission denied"
+    fresh; chmod 000 run.lst; says "a list that may not be read" "l 20 0 0 0 0 0\n" "run.lst: Permission denied"
 fi
 
 # ---- writing after.pic
 fresh; old; says "an old after.pic is replaced" "$done_lines"; size=$(wc -c <"$work/f/after.pic"); [ "$size" -eq 8704 ]; judge "all of it" $?
-fresh; head -c 20000 /dev/zero >after.pic; rm run.lst; says "a longer after.pic is replaced" "r 0 0 0 0 0\n"; same "with nothing of the old one left"
+fresh; head -c 20000 /dev/zero >after.pic; rm run.lst; says "a longer after.pic is replaced" "r 0 0 0 0 0 0\n"; same "with nothing of the old one left"
 fresh; echo stale >after.pic.new; mkdir after.pic.new.aaaaaaaaaaaaaaaa; run; printf '%b' "$done_lines" | cmp -s - "$work/out" && [ "$(cat after.pic.new)" = stale ]; judge "what an earlier run left is in nobody's way, and stays" $?
 fresh; mkdir after.pic; says "after.pic is a directory" "" "after.pic: Is a directory"
 fresh; old; (ulimit -f 4; trap '' XFSZ; run); [ ! -s "$work/out" ] && [ -s "$work/err" ]; judge "a write that fails half way: nothing is printed, and the reason is said" $?; kept "it keeps an old after.pic"; [ "$(left)" -eq 0 ]; judge "and no new file is left" $?
@@ -146,7 +219,7 @@ grep -qx 'standard output: No space left on device' "$work/err" && [ -s "$work/f
 
 # ---- the demonstration: 20 stations, word 13 stored by itself, the highest marked, and the marks resolved
 "$here/staran" >"$work/out" 2>"$work/err"; status=$?
-[ $status -eq 0 ] && grep -qx 'r 0 0 519 1 3' "$work/out" && [ "$(grep -cE '^ +[0-9]+ ' "$work/out")" -eq 20 ]; judge "the demonstration shows its 20 stations" $?
+[ $status -eq 0 ] && grep -qx 'r 0 0 0 519 1 3' "$work/out" && [ "$(grep -cE '^ +[0-9]+ ' "$work/out")" -eq 20 ]; judge "the demonstration shows its 20 stations" $?
 awk '/^ +[0-9]+ / { if ($1 == 13 ? $5 != 250000 || $6 != 0 || $7 != 250000 : $5 != $2 || $6 != $3 || $7 != $2 + $3) wrong = 1 } END { exit wrong }' "$work/out"
 judge "every word but 13 has its sum, and word 13 what in.itm has" $?
 awk '/^ +[0-9]+ / { if ($7 > most) most = $7; sum[$1] = $7; star[$1] = / \*$/ } END { for (w in sum) if (star[w] != (sum[w] == most)) exit 1; exit !most }' "$work/out" &&

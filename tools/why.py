@@ -1,7 +1,8 @@
 #!/usr/bin/env python3
-"""Shows what a refusal of a folder points at: the instruction byte by byte, or the head of the block. ./staran why calls it.
+"""Shows what a refusal of a folder points at: the instruction byte by byte, with a mark at the byte that the program named, or the head of the block.
+./staran why calls it, with the first words of the program's line.
 
-    tools/why.py FOLDER LETTER NUMBER PLACE
+    tools/why.py FOLDER LETTER NUMBER PLACE BYTE
 """
 import os
 import sys
@@ -23,59 +24,77 @@ def mode(i):
     return {0: 'a slice, one bit of every word', 255: 'one word'}.get(i[3], 'a shape between slice and word')
 
 
-def shift(code):
-    if code == 0:
+def flip(i):
+    if i[5] == 0:
         return 'none'
-    if code in files.CODES:
-        return 'by %d modulo %d' % (2 ** (code % 16), 2 ** (code // 16))
-    return 'none of the 37'
+    return 'line I goes to I xor %d' % i[5] + ('; a resolve may not flip: it must be 0' if i[0] == 5 else '')
+
+
+def shift(i):
+    """What byte 6 says, 16p + m, and the first rule that it breaks in this kind."""
+    p, m = divmod(i[6], 16)
+    if i[6] == 0:
+        return 'none'
+    if i[0] in (2, 3, 5):
+        rule = 'a %s may not shift: it must be 0' % KINDS[i[0]]
+    elif p > 8:
+        rule = 'p is over 8, and a group has at most 256 lines'
+    elif m >= p:
+        rule = 'm is not below p'
+    else:
+        rule = 'by %d modulo %d' % (2 ** m, 2 ** p)
+    return 'p is %d and m is %d; %s' % (p, m, rule)
+
+
+def idle(value, why):
+    """A byte that this instruction has no use for."""
+    return 'of no use%s%s' % (why, ': it must be 0' if value else '')
 
 
 def logic(i):
     if i[0] != 0:
-        return 'of no use in this kind: it must be 0'
+        return idle(i[7], ' in this kind')
     becomes = ''.join(str(i[7] >> k & 1) for k in range(4))
     return 'choice %d: %s; function %d: old and passed bit 00, 01, 10, 11 become %s' % (
         i[7] // 16, named(CHOICES, i[7] // 16), i[7] % 16, ', '.join(becomes))
 
 
+def access(i):
+    """What tag, mode and address say."""
+    if not files.touches(i):
+        return [idle(value, ', for memory is not touched') for value in i[2:5]]
+    if i[2] != 1:
+        tag = 'no mode is given' if i[2] == 0 else 'there is no such tag'
+        return [tag + '; this instruction touches memory and needs one'] + 2 * ['not looked at without the tag']
+    return ['a mode is given', mode(i), '%d' % i[4]]
+
+
 def meanings(i):
     """What each byte of an instruction says."""
-    needs = files.touches(i)
-    tag = {0: 'no mode is given', 1: 'a mode is given'}.get(i[2], 'there is no such tag')
-    idle = 'of no use, for memory is not touched: it must be 0'
-    unread = 'not looked at without the tag'
+    tag, shape, address = access(i)
     return [
         'kind: ' + named(KINDS, i[0]),
         'source: ' + named(SOURCES, i[1]),
-        'mode tag: ' + (tag + ('; this instruction touches memory and needs one' if i[2] != 1 else '') if needs else idle),
-        'mode: ' + (idle if not needs else mode(i) if i[2] == 1 else unread),
-        'address: ' + (idle if not needs else '%d' % i[4] if i[2] == 1 else unread),
-        'flip: ' + ('line I goes to I xor %d' % i[5] if i[5] else 'none'),
-        'shift: ' + shift(i[6]),
+        'mode tag: ' + tag,
+        'mode: ' + shape,
+        'address: ' + address,
+        'flip: ' + flip(i),
+        'shift: ' + shift(i),
         'logic: ' + logic(i),
     ]
 
 
-def wrong(i, number):
-    """The bytes that the number speaks of."""
-    return {5: [0], 6: [1], 7: [2], 8: [2], 9: [k for k in (2, 3, 4) if i[k]], 10: [k for k in (5, 6) if i[k] and (i[0] == 5 or k == 6)],
-            11: [7], 12: [1], 13: [0]}[number]
-
-
-def show_instruction(folder, number, place):
-    with open(os.path.join(folder, 'run.lst'), 'rb') as file:
+def show_instruction(path, number, place, byte):
+    with open(path, 'rb') as file:
         steps = files.content(files.LIST, file.read(), 'run.lst')
     i = steps[8 * place:8 * place + 8]
+    lacks = {12: 'The list takes %d items.' % sum(steps[at + 1] == 4 for at in range(0, len(steps), 8)),
+             13: 'The list gives %d items.' % sum(steps[at] in (4, 5) for at in range(0, len(steps), 8))}
     print('Instruction %d, counted from 0, at byte %d of the list: %s' % (place, 8 * place, i.hex(' ')))
     for k, text in enumerate(meanings(i)):
-        print('  byte %d  %02x  %s%s' % (k, i[k], text, '   <-- here' if k in wrong(i, number) else ''))
-    if number == 12:
-        taken = sum(steps[at + 1] == 4 for at in range(0, len(steps), 8))
-        print('The list takes %d items.' % taken)
-    if number == 13:
-        given = sum(steps[at] in (4, 5) for at in range(0, len(steps), 8))
-        print('The list gives %d items.' % given)
+        print('  byte %d  %02x  %s%s' % (k, i[k], text, '   <-- here' if k == byte and number not in lacks else ''))
+    if number in lacks:
+        print('No byte of it is wrong. ' + lacks[number])
 
 
 def show_block(path, kind, place):
@@ -98,12 +117,13 @@ def show_block(path, kind, place):
 
 
 def main(words):
-    if len(words) != 4:
+    if len(words) != 5:
         sys.exit(__doc__)
-    folder, letter, number, place = words[0], words[1], int(words[2]), int(words[3])
-    path = os.path.join(folder, {'p': 'before.pic', 'l': 'run.lst', 'i': 'in.itm', 'r': 'run.lst'}[letter])
-    if letter == 'r' and 5 <= number <= 13:
-        show_instruction(folder, number, place)
+    folder, letter = words[:2]
+    number, place, byte = (int(word) for word in words[2:])
+    path = os.path.join(folder, {'p': 'before.pic', 'i': 'in.itm'}.get(letter, 'run.lst'))
+    if letter == 'r':
+        show_instruction(path, number, place, byte)
     elif 21 <= number <= 24:
         show_block(path, {'p': files.PICTURE, 'l': files.LIST, 'i': files.ITEMS}[letter], place)
     elif os.path.isfile(path):

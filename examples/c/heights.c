@@ -36,10 +36,11 @@ static uint32_t get_field(const uint8_t *word, int start)
 static uint32_t run(const char *what, const uint8_t *list, size_t list_length)
 {
     uint32_t answer[STARAN_RUN_NUMBERS];
-    staran_run(memory, sizeof memory, registers, sizeof registers, list, list_length, items, sizeof items, out, sizeof out, answer);
-    printf("%-28s number %u, place %u, %u steps, %u items taken, %u given\n", what, (unsigned)answer[0], (unsigned)answer[1], (unsigned)answer[2],
-           (unsigned)answer[3], (unsigned)answer[4]);
-    return answer[0];
+    staran_run_4(memory, sizeof memory, registers, sizeof registers, list, list_length, items, sizeof items, out, sizeof out, answer);
+    printf("%-28s number %u, place %u, byte %u, %u steps, %u items taken, %u given\n", what, (unsigned)answer[STARAN_ANSWER_NUMBER],
+           (unsigned)answer[STARAN_ANSWER_PLACE], (unsigned)answer[STARAN_ANSWER_BYTE], (unsigned)answer[STARAN_ANSWER_STEPS],
+           (unsigned)answer[STARAN_ANSWER_TAKEN], (unsigned)answer[STARAN_ANSWER_GIVEN]);
+    return answer[STARAN_ANSWER_NUMBER];
 }
 
 /* One instruction for each word: the mode is "by word", and the address says which. */
@@ -74,7 +75,7 @@ int main(void)
     uint32_t built[STARAN_LIST_NUMBERS];
     int wrong = 0;
 
-    /* A library of another version may write longer answers than the arrays here have room for. */
+    /* A library of another version may read an instruction otherwise, deliver other bytes or give other numbers. */
     if (staran_version() != STARAN_VERSION) {
         fputs("the library is of another version than the header\n", stderr);
         return 2;
@@ -97,7 +98,8 @@ int main(void)
     wrong += run_by_words("stations delivered by words:", STARAN_KIND_DELIVER, STARAN_SOURCE_MEMORY) != STARAN_DONE;
     wrong += show_stations();
 
-    /* Store Y by word 13, with the mode written and its tag forgotten. Tag 0 does not mean mode 0: the instruction is refused, and nothing moves. */
+    /* Store Y by word 13, with the mode written and its tag forgotten. Tag 0 does not mean mode 0: the instruction is refused at byte 2, its tag, and
+     * nothing moves. */
     const uint8_t no_mode[] = {STARAN_INSTRUCTION(STARAN_KIND_STORE, STARAN_SOURCE_Y, 0, STARAN_MODE_WORD, 13, 0, 0, 0)};
     uint8_t before[sizeof memory];
     memcpy(before, memory, sizeof memory);

@@ -20,9 +20,10 @@ static uint32_t height_of(uint32_t station) { return station == 141 ? 199950 : L
 static uint32_t run(const char *what, const uint8_t *list, size_t list_length, const uint8_t *items, size_t items_length)
 {
     uint32_t answer[STARAN_RUN_NUMBERS];
-    staran_run(memory, sizeof memory, registers, sizeof registers, list, list_length, items, items_length, out, sizeof out, answer);
-    printf("%-34s number %u, %u steps, %u items taken, %u given\n", what, (unsigned)answer[0], (unsigned)answer[2], (unsigned)answer[3], (unsigned)answer[4]);
-    return answer[0];
+    staran_run_4(memory, sizeof memory, registers, sizeof registers, list, list_length, items, items_length, out, sizeof out, answer);
+    printf("%-34s number %u, %u steps, %u items taken, %u given\n", what, (unsigned)answer[STARAN_ANSWER_NUMBER], (unsigned)answer[STARAN_ANSWER_STEPS],
+           (unsigned)answer[STARAN_ANSWER_TAKEN], (unsigned)answer[STARAN_ANSWER_GIVEN]);
+    return answer[STARAN_ANSWER_NUMBER];
 }
 
 /* The stations are stored by words, one instruction and one item each. */

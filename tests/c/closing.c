@@ -83,7 +83,7 @@ static const char *const names[] = {"closing", "spreading"};
 static void move(int spreads, uint32_t a, uint32_t s, uint32_t n, int end)
 {
     const uint32_t built[3] = {0, (uint32_t)model_moving_list(spreads, n), (uint32_t)model_moving_items(spreads, n)};
-    const uint32_t done[5] = {0, 0, built[1] / 8, built[2] / 32, 0};
+    const uint32_t done[STARAN_RUN_NUMBERS] = {[STARAN_ANSWER_STEPS] = built[1] / 8, [STARAN_ANSWER_TAKEN] = built[2] / 32};
     uint32_t *answer = lend_answer(3, end);
     lend(LIST, built[1] + draw() % 2, end);
     lend(ITEMS, built[2] + 32 * (draw() % 3), end);
@@ -95,10 +95,10 @@ static void move(int spreads, uint32_t a, uint32_t s, uint32_t n, int end)
     check("run of %s_list: A %u, S %u, width %u", names[spreads], (unsigned)a, (unsigned)s, (unsigned)n);
     model_moved(spreads, a, s, n, marks, words);
     model_memory(words, buffers[MEMORY].expected);
-    answer = lend_answer(5, end);
-    staran_run(WHOLE(MEMORY), WHOLE(REGISTERS), buffers[LIST].bytes, built[1], WHOLE(ITEMS), WHOLE(OUT), answer);
+    answer = lend_answer(STARAN_RUN_NUMBERS, end);
+    staran_run_4(WHOLE(MEMORY), WHOLE(REGISTERS), buffers[LIST].bytes, built[1], WHOLE(ITEMS), WHOLE(OUT), answer);
     memcpy(buffers[REGISTERS].expected, buffers[REGISTERS].bytes, STARAN_REGISTERS_BYTES); /* M, X and Y are not promised */
-    settle(answer, 5, done);
+    settle(answer, STARAN_RUN_NUMBERS, done);
 }
 
 static void close_once(uint32_t a, uint32_t s, uint32_t n, int end)

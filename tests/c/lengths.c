@@ -28,31 +28,31 @@ static void fill_with(int k, const uint8_t instruction[8])
 static const uint8_t deliver_outside[8] = {4, 4, 0, 0, 0, 0, 0, 0};
 
 /* What the lengths make of a run (`step` 0) or a step (1). The out buffer's bytes are put to what is expected. */
-static void expect_run(int step, uint32_t expected[5])
+static void expect_run(int step, uint32_t expected[STARAN_RUN_NUMBERS])
 {
     size_t list = buffers[LIST].length, items = buffers[ITEMS].length, n = list / 8;
-    memset(expected, 0, 20);
+    memset(expected, 0, 4 * STARAN_RUN_NUMBERS);
     if (buffers[MEMORY].length != 8192)
-        expected[0] = 1;
+        expected[STARAN_ANSWER_NUMBER] = 1;
     else if (!step && buffers[REGISTERS].length != 96)
-        expected[0] = 2;
+        expected[STARAN_ANSWER_NUMBER] = 2;
     else if (step ? list != 8 : list % 8 != 0 || list > 32768)
-        expected[0] = 3;
+        expected[STARAN_ANSWER_NUMBER] = 3;
     else if (items % 32 != 0 || items > 32768)
-        expected[0] = 4;
+        expected[STARAN_ANSWER_NUMBER] = 4;
     else if (items / 32 < n)
-        expected[0] = 12, expected[1] = (uint32_t)(items / 32);
+        expected[STARAN_ANSWER_NUMBER] = 12, expected[STARAN_ANSWER_PLACE] = (uint32_t)(items / 32);
     else if (buffers[OUT].length / 32 < n)
-        expected[0] = 13, expected[1] = (uint32_t)(buffers[OUT].length / 32);
+        expected[STARAN_ANSWER_NUMBER] = 13, expected[STARAN_ANSWER_PLACE] = (uint32_t)(buffers[OUT].length / 32);
     else {
-        expected[2] = expected[3] = expected[4] = (uint32_t)n;
+        expected[STARAN_ANSWER_STEPS] = expected[STARAN_ANSWER_TAKEN] = expected[STARAN_ANSWER_GIVEN] = (uint32_t)n;
         memcpy(buffers[OUT].expected, buffers[ITEMS].bytes, 32 * n);
     }
 }
 
 static void run_once(size_t memory, size_t registers, size_t list, size_t items, size_t out, int end)
 {
-    uint32_t expected[5], *answer;
+    uint32_t expected[STARAN_RUN_NUMBERS], *answer;
     check("run: memory %zu, registers %zu, list %zu, items %zu, out %zu", memory, registers, list, items, out);
     nothing_lent(end);
     lend(MEMORY, memory, end);
@@ -62,14 +62,14 @@ static void run_once(size_t memory, size_t registers, size_t list, size_t items,
     lend(OUT, out, end);
     fill_with(LIST, deliver_outside);
     expect_run(0, expected);
-    answer = lend_answer(5, end);
-    staran_run(WHOLE(MEMORY), WHOLE(REGISTERS), WHOLE(LIST), WHOLE(ITEMS), WHOLE(OUT), answer);
-    settle(answer, 5, expected);
+    answer = lend_answer(STARAN_RUN_NUMBERS, end);
+    staran_run_4(WHOLE(MEMORY), WHOLE(REGISTERS), WHOLE(LIST), WHOLE(ITEMS), WHOLE(OUT), answer);
+    settle(answer, STARAN_RUN_NUMBERS, expected);
 }
 
 static void step_once(size_t memory, size_t instruction, size_t items, size_t out, int end)
 {
-    uint32_t expected[5], *answer;
+    uint32_t expected[STARAN_RUN_NUMBERS], *answer;
     check("step: memory %zu, instruction %zu, items %zu, out %zu", memory, instruction, items, out);
     nothing_lent(end);
     lend(MEMORY, memory, end);
@@ -79,9 +79,9 @@ static void step_once(size_t memory, size_t instruction, size_t items, size_t ou
     lend(OUT, out, end);
     fill_with(LIST, deliver_outside);
     expect_run(1, expected);
-    answer = lend_answer(5, end);
-    staran_step(WHOLE(MEMORY), (staran_registers *)(void *)buffers[REGISTERS].bytes, WHOLE(LIST), WHOLE(ITEMS), WHOLE(OUT), answer);
-    settle(answer, 5, expected);
+    answer = lend_answer(STARAN_RUN_NUMBERS, end);
+    staran_step_4(WHOLE(MEMORY), (staran_registers *)(void *)buffers[REGISTERS].bytes, WHOLE(LIST), WHOLE(ITEMS), WHOLE(OUT), answer);
+    settle(answer, STARAN_RUN_NUMBERS, expected);
 }
 
 /* Every pair of a bad memory and bad registers; then every list, items and out with good ones, and with one of them bad. */
@@ -117,46 +117,6 @@ static void step_lengths(void)
     function("step");
 }
 
-/* Instructions that are refused, each behind a good one that must not have acted; and the same as a step, at place 0. */
-static void refused_instructions(int step)
-{
-    static const struct {
-        uint32_t number;
-        uint8_t bytes[8];
-    } bad[] = {
-        {5, {6, 0, 0, 0, 0, 0, 0, 0}},     {5, {255, 9, 9, 9, 9, 9, 9, 9}},   {6, {0, 5, 0, 0, 0, 0, 0, 0}},   {6, {2, 0, 1, 0, 0, 0, 0, 0}},
-        {6, {3, 0, 0, 0, 0, 0, 0, 0}},     {6, {5, 1, 0, 0, 0, 0, 0, 0}},     {7, {2, 3, 0, 255, 0, 0, 0, 0}}, {7, {0, 0, 0, 0, 0, 0, 0, 0}},
-        {7, {3, 1, 0, 0, 0, 0, 16, 1}},    {8, {2, 3, 2, 0, 0, 0, 0, 0}},     {8, {4, 0, 255, 0, 0, 0, 0, 0}}, {9, {0, 2, 1, 0, 0, 0, 0, 0}},
-        {9, {1, 1, 0, 1, 0, 0, 0, 0}},     {9, {5, 0, 0, 0, 1, 0, 0, 0}},     {10, {0, 2, 0, 0, 0, 0, 136, 0}}, {10, {4, 1, 0, 0, 0, 0, 1, 0}},
-        {10, {2, 3, 1, 0, 0, 0, 48, 0}},   {10, {5, 0, 0, 0, 0, 1, 0, 0}},    {10, {5, 0, 0, 0, 0, 0, 16, 0}}, {11, {0, 2, 0, 0, 0, 0, 0, 80}},
-        {11, {1, 2, 0, 0, 0, 0, 0, 1}},    {11, {2, 3, 1, 0, 0, 0, 0, 255}},  {11, {5, 0, 0, 0, 0, 0, 0, 16}},
-    };
-    static const uint8_t store_word_13[8] = {2, 4, 1, 255, 13, 0, 0, 0};
-    for (size_t i = 0; i < 2 * COUNT(bad); i++) {
-        int end = (int)(i % 2);
-        size_t before = step ? 0 : i % 3, at = 8 * before;
-        uint32_t expected[5] = {bad[i / 2].number, (uint32_t)before, 0, 0, 0}, *answer;
-        uint8_t list[24];
-        check("%s: instruction %zu is refused with %u", step ? "step" : "run", i / 2, (unsigned)bad[i / 2].number);
-        for (size_t k = 0; k < before; k++)
-            memcpy(list + 8 * k, store_word_13, 8);
-        memcpy(list + at, bad[i / 2].bytes, 8);
-        nothing_lent(end);
-        lend(MEMORY, 8192, end);
-        lend(REGISTERS, 96, end);
-        lend_bytes(LIST, list, at + 8, end);
-        lend(ITEMS, 96, end);
-        lend(OUT, 96, end);
-        answer = lend_answer(5, end);
-        if (step)
-            staran_step(WHOLE(MEMORY), (staran_registers *)(void *)buffers[REGISTERS].bytes, WHOLE(LIST), WHOLE(ITEMS), WHOLE(OUT), answer);
-        else
-            staran_run(WHOLE(MEMORY), WHOLE(REGISTERS), WHOLE(LIST), WHOLE(ITEMS), WHOLE(OUT), answer);
-        settle(answer, 5, expected);
-    }
-    function(step ? "step, refused" : "run, refused");
-}
-
 /* The record of a step is M, X, Y in this order: each is delivered, and each is set. */
 static void record_order(void)
 {
@@ -164,7 +124,7 @@ static void record_order(void)
         int end = i % 2, row = i / 2 % 3, set = i >= 2 * 3;
         const uint8_t deliver[8] = {4, (uint8_t)(1 + row), 0, 0, 0, 0, 0, 0};
         const uint8_t put[3][8] = {{1, 4, 0, 0, 0, 0, 0, 0}, {0, 4, 0, 0, 0, 0, 0, 0x0A}, {0, 4, 0, 0, 0, 0, 0, 0x1A}};
-        uint32_t expected[5] = {0, 0, 1, (uint32_t)set, (uint32_t)!set}, *answer;
+        const uint32_t expected[STARAN_RUN_NUMBERS] = {[STARAN_ANSWER_STEPS] = 1, [STARAN_ANSWER_TAKEN] = (uint32_t)set, [STARAN_ANSWER_GIVEN] = (uint32_t)!set};
         check("step: register %c is %s", "MXY"[row], set ? "set" : "delivered");
         nothing_lent(end);
         lend(MEMORY, 8192, end);
@@ -179,18 +139,20 @@ static void record_order(void)
         staran_registers *record = (staran_registers *)(void *)buffers[REGISTERS].bytes;
         if ((uint8_t *)record->m != buffers[REGISTERS].bytes || record->x != record->m + 32 || record->y != record->m + 64 || sizeof *record != 96)
             wrong("the record is not 96 bytes, M, X, Y");
-        answer = lend_answer(5, end);
-        staran_step(WHOLE(MEMORY), record, WHOLE(LIST), WHOLE(ITEMS), WHOLE(OUT), answer);
-        settle(answer, 5, expected);
+        uint32_t *answer = lend_answer(STARAN_RUN_NUMBERS, end);
+        staran_step_4(WHOLE(MEMORY), record, WHOLE(LIST), WHOLE(ITEMS), WHOLE(OUT), answer);
+        settle(answer, STARAN_RUN_NUMBERS, expected);
     }
     function("step, record");
 }
 
-/* ---- passes: every code, with some flips */
+/* ---- passes: every code, with some flips; 37 are done, 112 have p over 8, and of the other 107 m is not below p */
 
 static void pass_codes(const char *name, void (*pass)(const uint8_t *, uint8_t, uint8_t, uint8_t *, uint32_t *))
 {
     static const uint8_t flips[] = {0, 1, 128, 255};
+    const unsigned times = COUNT(flips) * ENDS;
+    unsigned given[256] = {0};
     for (unsigned i = 0; i < 256 * COUNT(flips) * ENDS; i++) {
         uint8_t code = (uint8_t)(i / ENDS / COUNT(flips)), flip = flips[i / ENDS % COUNT(flips)];
         int end = (int)(i % ENDS);
@@ -199,11 +161,16 @@ static void pass_codes(const char *name, void (*pass)(const uint8_t *, uint8_t, 
         nothing_lent(end);
         lend(ITEMS, 32, end);
         lend(OUT, 32, end);
-        expected[0] = model_pass(buffers[ITEMS].bytes, flip, code, buffers[OUT].expected) ? 0 : 10;
+        expected[0] = model_pass(buffers[ITEMS].bytes, flip, code, buffers[OUT].expected);
         answer = lend_answer(1, end);
         pass(buffers[ITEMS].bytes, flip, code, buffers[OUT].bytes, answer);
         settle(answer, 1, expected);
+        given[answer[0] % 256]++;
     }
+    check("%s: every code", name);
+    if (given[0] != 37 * times || given[16] != 112 * times || given[17] != 107 * times)
+        wrong("a number is given more or less often than it must be");
+    count();
     function(name);
 }
 
@@ -586,7 +553,7 @@ static uint8_t *reserve(size_t length, int writable)
 /* A check whose long buffer is no room of ours: the other buffers and the answer are settled as ever. The numbers expected follow the call. */
 #define LONG_CALL(call, n, ...)                                                                                                            \
     do {                                                                                                                                   \
-        uint32_t expected[5] = {__VA_ARGS__}, *answer;                                                                                     \
+        uint32_t expected[STARAN_RUN_NUMBERS] = {__VA_ARGS__}, *answer;                                                                    \
         check("a length over 2^32: %s", #call);                                                                                            \
         answer = lend_answer(n, FIRST);                                                                                                    \
         staran_##call;                                                                                                                     \
@@ -600,14 +567,14 @@ static void refused_long(uint8_t *far, size_t long_by)
     lend(REGISTERS, 96, LAST);
     lend(OUT, 32, LAST);
     staran_registers *record = (staran_registers *)(void *)buffers[REGISTERS].bytes;
-    LONG_CALL(run(far, long_by + 8192, WHOLE(REGISTERS), WHOLE(LIST), WHOLE(ITEMS), WHOLE(OUT), answer), 5, 1);
-    LONG_CALL(run(WHOLE(MEMORY), far, long_by + 96, WHOLE(LIST), WHOLE(ITEMS), WHOLE(OUT), answer), 5, 2);
-    LONG_CALL(run(WHOLE(MEMORY), WHOLE(REGISTERS), far, long_by + 8, WHOLE(ITEMS), WHOLE(OUT), answer), 5, 3);
-    LONG_CALL(run(WHOLE(MEMORY), WHOLE(REGISTERS), WHOLE(LIST), far, long_by + 32, WHOLE(OUT), answer), 5, 4);
-    LONG_CALL(step(far, long_by + 8192, record, WHOLE(LIST), WHOLE(ITEMS), WHOLE(OUT), answer), 5, 1);
-    LONG_CALL(step(WHOLE(MEMORY), record, far, long_by + 8, WHOLE(ITEMS), WHOLE(OUT), answer), 5, 3);
+    LONG_CALL(run_4(far, long_by + 8192, WHOLE(REGISTERS), WHOLE(LIST), WHOLE(ITEMS), WHOLE(OUT), answer), STARAN_RUN_NUMBERS, 1);
+    LONG_CALL(run_4(WHOLE(MEMORY), far, long_by + 96, WHOLE(LIST), WHOLE(ITEMS), WHOLE(OUT), answer), STARAN_RUN_NUMBERS, 2);
+    LONG_CALL(run_4(WHOLE(MEMORY), WHOLE(REGISTERS), far, long_by + 8, WHOLE(ITEMS), WHOLE(OUT), answer), STARAN_RUN_NUMBERS, 3);
+    LONG_CALL(run_4(WHOLE(MEMORY), WHOLE(REGISTERS), WHOLE(LIST), far, long_by + 32, WHOLE(OUT), answer), STARAN_RUN_NUMBERS, 4);
+    LONG_CALL(step_4(far, long_by + 8192, record, WHOLE(LIST), WHOLE(ITEMS), WHOLE(OUT), answer), STARAN_RUN_NUMBERS, 1);
+    LONG_CALL(step_4(WHOLE(MEMORY), record, far, long_by + 8, WHOLE(ITEMS), WHOLE(OUT), answer), STARAN_RUN_NUMBERS, 3);
     lend_bytes(LIST, deliver_outside, 8, LAST);
-    LONG_CALL(step(WHOLE(MEMORY), record, WHOLE(LIST), far, long_by + 32, WHOLE(OUT), answer), 5, 4);
+    LONG_CALL(step_4(WHOLE(MEMORY), record, WHOLE(LIST), far, long_by + 32, WHOLE(OUT), answer), STARAN_RUN_NUMBERS, 4);
     LONG_CALL(read_content(STARAN_CONTENT_LIST, far, long_by + 512, WHOLE(OUT), answer), 3, 20);
     LONG_CALL(read_picture(STARAN_CONTENT_PICTURE, far, long_by + 8704, WHOLE(MEMORY), WHOLE(REGISTERS), answer), 3, 20);
     LONG_CALL(write_content(STARAN_CONTENT_LIST, far, long_by + 8, WHOLE(OUT), answer), 3, 26);
@@ -729,10 +696,10 @@ static void done_long(uint8_t *far, size_t long_by)
     written_long(far, long_by, made, 8704);
     lend(ITEMS, 32, LAST);
     lend_bytes(LIST, deliver_outside, 8, LAST);
-    LONG_CALL(run(WHOLE(MEMORY), WHOLE(REGISTERS), WHOLE(LIST), WHOLE(ITEMS), far, long_by + 31, answer), 5, 0, 0, 1, 1, 1);
+    LONG_CALL(run_4(WHOLE(MEMORY), WHOLE(REGISTERS), WHOLE(LIST), WHOLE(ITEMS), far, long_by + 31, answer), STARAN_RUN_NUMBERS, 0, 0, 0, 1, 1, 1);
     written_long(far, long_by, buffers[ITEMS].bytes, 32);
     staran_registers *record = (staran_registers *)(void *)buffers[REGISTERS].bytes;
-    LONG_CALL(step(WHOLE(MEMORY), record, WHOLE(LIST), WHOLE(ITEMS), far, long_by, answer), 5, 0, 0, 1, 1, 1);
+    LONG_CALL(step_4(WHOLE(MEMORY), record, WHOLE(LIST), WHOLE(ITEMS), far, long_by, answer), STARAN_RUN_NUMBERS, 0, 0, 0, 1, 1, 1);
     written_long(far, long_by, buffers[ITEMS].bytes, 32);
     model_list(1, 0, 64, 128, 64, made, 2568);
     LONG_CALL(sum_list(0, 64, 128, 64, far, long_by, answer), 2, 0, 2568);
@@ -762,9 +729,7 @@ static void long_lengths(void)
 int lengths(void)
 {
     run_lengths();
-    refused_instructions(0);
     step_lengths();
-    refused_instructions(1);
     record_order();
     pass_codes("pass", staran_pass);
     pass_codes("wired_pass", staran_wired_pass);

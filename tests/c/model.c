@@ -10,20 +10,66 @@ static void set(uint8_t *bytes, size_t k, int value)
     bytes[k / 8] = (uint8_t)((bytes[k / 8] & ~(1u << k % 8)) | (unsigned)value << k % 8);
 }
 
-int model_pass(const uint8_t item[32], uint8_t flip, uint8_t code, uint8_t passed[32])
+/* ---- an instruction by itself, and a pass */
+
+static int over_256_lines(uint8_t code) { return 1u << code / 16 > 256; }
+static int not_below(uint8_t code) { return code != 0 && code % 16 >= code / 16; }
+
+/* Is byte b of an instruction wrong by this number? Asked of a number only where nothing is wrong by those before it. */
+static int wrong_by(unsigned number, unsigned b, const uint8_t *i)
+{
+    const int stores = i[0] == 2 || i[0] == 3, resolves = i[0] == 5, touches = stores || (!resolves && i[1] == 0);
+    switch (number) {
+    case 5:
+        return b == 0 && i[0] > 5;
+    case 6:
+        return b == 1 && (resolves ? i[1] != 0 : i[1] > 4 || (stores && i[1] == 0));
+    case 7:
+        return b == 2 && touches && i[2] == 0;
+    case 8:
+        return b == 2 && touches && i[2] > 1;
+    case 9:
+        return b >= 2 && b <= 4 && !touches && i[b] != 0;
+    case 18:
+        return (b == 6 ? stores || resolves : b == 5 && resolves) && i[b] != 0;
+    case 16:
+        return b == 6 && over_256_lines(i[6]);
+    case 17:
+        return b == 6 && not_below(i[6]);
+    default: /* 11 */
+        return b == 7 && (i[0] == 0 ? i[7] >= 5 * 16 : i[7] != 0);
+    }
+}
+
+unsigned model_instruction(const uint8_t instruction[8], unsigned *byte)
+{
+    static const unsigned in_turn[] = {5, 6, 7, 8, 9, 18, 16, 17, 11};
+    for (size_t k = 0; k < sizeof in_turn / sizeof *in_turn; k++)
+        for (*byte = 0; *byte < 8; ++*byte)
+            if (wrong_by(in_turn[k], *byte, instruction))
+                return in_turn[k];
+    *byte = 0;
+    return 0;
+}
+
+unsigned model_pass(const uint8_t item[32], uint8_t flip, uint8_t code, uint8_t passed[32])
 {
     unsigned p = code / 16, m = code % 16;
     memset(passed, 0, 32);
-    if (code != 0 && !(m < p && p <= 8))
-        return 0;
+    if (over_256_lines(code))
+        return 16;
+    if (not_below(code))
+        return 17;
     for (unsigned line = 0; line < 256; line++) {
         unsigned to = line ^ flip;
         if (code != 0)
             to = (to >> p << p) + (to % (1u << p) + (1u << m)) % (1u << p);
         set(passed, to, bit(item, line));
     }
-    return 1;
+    return 0;
 }
+
+/* ---- lists */
 
 static int crosses(uint64_t s, uint64_t a, uint64_t n) { return s != a && s < a + n && a < s + n; }
 

@@ -5,8 +5,11 @@
 #include <stddef.h>
 #include <stdint.h>
 
-/* The item passed, bit by bit; 0 where the code is none of the 37, and then zeros. */
-int model_pass(const uint8_t item[32], uint8_t flip, uint8_t code, uint8_t passed[32]);
+/* The number of an instruction by itself and, in `byte`, the first of its bytes that is wrong by it; 0 and 0 where nothing is wrong. */
+unsigned model_instruction(const uint8_t instruction[8], unsigned *byte);
+
+/* The number of a pass, and the item passed, bit by bit: zeros where the number is not 0. */
+unsigned model_pass(const uint8_t item[32], uint8_t flip, uint8_t code, uint8_t passed[32]);
 
 /* The number of a list's refusal, or 0 and the list: `lead` is 1 for a sum, 2 for a difference. */
 unsigned model_list(int lead, uint32_t a, uint32_t b, uint32_t s, uint32_t n, uint8_t *list, size_t list_length);

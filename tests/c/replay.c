@@ -8,8 +8,8 @@
 #include <stdlib.h>
 #include <string.h>
 
-enum { RECORD = 1000, NUMBERS = 8, COUNT = 6, WORDS = NUMBERS + COUNT, REPEAT = 254, SEAL = 255 };
-enum { SUM_RUN = 10, DIFFERENCE_RUN, EQUAL_RUN, LESS_RUN, GREATEST_RUN, CLOSING_RUN, SPREADING_RUN, KINDS };
+enum { RECORD = 1000, FEWEST_NUMBERS = 5, NUMBERS = 3 + STARAN_RUN_NUMBERS, COUNT = 6, WORDS = NUMBERS + COUNT, REPEAT = 254, SEAL = 255 };
+enum { RUN, STEP, SUM_RUN = 10, DIFFERENCE_RUN, EQUAL_RUN, LESS_RUN, GREATEST_RUN, CLOSING_RUN, SPREADING_RUN, KINDS };
 
 /* A case, taken apart: every kind that is known here has COUNT buffers and at most four parameters. */
 typedef struct {
@@ -18,8 +18,14 @@ typedef struct {
     uint32_t p[4];
 } outside_case;
 
-/* The numbers of its answer, before the digests. */
-static int numbers(const outside_case *c) { return c->record[0] >= EQUAL_RUN ? NUMBERS : 5; }
+/* How many numbers its answer has, before the digests: a run has six, behind a builder of two buffers nine; what has fewer is filled up with zeros to five. */
+static int numbers(const outside_case *c)
+{
+    const int kind = c->record[0];
+    if (kind >= EQUAL_RUN)
+        return NUMBERS;
+    return kind >= SUM_RUN || kind <= STEP ? STARAN_RUN_NUMBERS : FEWEST_NUMBERS;
+}
 
 /* Where buffer k stands in a record: two bytes of its length, and whether it is filled with zeros. */
 static const uint8_t *buffer_of(const outside_case *c, int k) { return c->record + 9 + 3 * k; }
@@ -163,15 +169,15 @@ static unsigned call(const outside_case *c, int end, uint32_t words[WORDS])
     uint32_t *a;
     int kind = c->record[0];
     switch (kind) {
-    case 0:
-        a = lend_answer(5, end);
-        staran_run(WHOLE(MEMORY), WHOLE(REGISTERS), WHOLE(LIST), WHOLE(ITEMS), WHOLE(OUT), a);
-        memcpy(words, a, 20);
+    case RUN:
+        a = lend_answer(STARAN_RUN_NUMBERS, end);
+        staran_run_4(WHOLE(MEMORY), WHOLE(REGISTERS), WHOLE(LIST), WHOLE(ITEMS), WHOLE(OUT), a);
+        memcpy(words, a, 4 * STARAN_RUN_NUMBERS);
         return 1u << MEMORY | 1u << REGISTERS | 1u << OUT;
-    case 1:
-        a = lend_answer(5, end);
-        staran_step(WHOLE(MEMORY), (staran_registers *)(void *)buffers[REGISTERS].bytes, WHOLE(LIST), WHOLE(ITEMS), WHOLE(OUT), a);
-        memcpy(words, a, 20);
+    case STEP:
+        a = lend_answer(STARAN_RUN_NUMBERS, end);
+        staran_step_4(WHOLE(MEMORY), (staran_registers *)(void *)buffers[REGISTERS].bytes, WHOLE(LIST), WHOLE(ITEMS), WHOLE(OUT), a);
+        memcpy(words, a, 4 * STARAN_RUN_NUMBERS);
         return 1u << MEMORY | 1u << REGISTERS | 1u << OUT;
     case 2:
     case 3:
@@ -246,9 +252,9 @@ static const char *run_built(int end, size_t count, uint32_t *words)
         return "count";
     memcpy(buffers[LIST].expected, buffers[LIST].bytes, buffers[LIST].length);
     memcpy(buffers[ITEMS].expected, buffers[ITEMS].bytes, buffers[ITEMS].length);
-    uint32_t *a = lend_answer(5, end);
-    staran_run(WHOLE(MEMORY), WHOLE(REGISTERS), buffers[LIST].bytes, count, WHOLE(ITEMS), WHOLE(OUT), a);
-    memcpy(words, a, 20);
+    uint32_t *a = lend_answer(STARAN_RUN_NUMBERS, end);
+    staran_run_4(WHOLE(MEMORY), WHOLE(REGISTERS), buffers[LIST].bytes, count, WHOLE(ITEMS), WHOLE(OUT), a);
+    memcpy(words, a, 4 * STARAN_RUN_NUMBERS);
     return disturbed(1u << MEMORY | 1u << REGISTERS | 1u << OUT);
 }
 

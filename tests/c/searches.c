@@ -76,11 +76,12 @@ typedef void searcher(uint32_t, uint32_t, uint64_t, uint8_t *, size_t, uint8_t *
 /* Runs the list; X and Y must be these, and everything else as it was. */
 static void run_built(size_t list, uint32_t taken, const uint8_t *x, const uint8_t *y, int end)
 {
-    uint32_t expected[5] = {0, 0, (uint32_t)(list / 8), taken, 0}, *answer = lend_answer(5, end);
+    const uint32_t expected[STARAN_RUN_NUMBERS] = {[STARAN_ANSWER_STEPS] = (uint32_t)(list / 8), [STARAN_ANSWER_TAKEN] = taken};
+    uint32_t *answer = lend_answer(STARAN_RUN_NUMBERS, end);
     memcpy(buffers[REGISTERS].expected + 32, x, 32);
     memcpy(buffers[REGISTERS].expected + 64, y, 32);
-    staran_run(WHOLE(MEMORY), WHOLE(REGISTERS), buffers[LIST].bytes, list, WHOLE(ITEMS), WHOLE(OUT), answer);
-    settle(answer, 5, expected);
+    staran_run_4(WHOLE(MEMORY), WHOLE(REGISTERS), buffers[LIST].bytes, list, WHOLE(ITEMS), WHOLE(OUT), answer);
+    settle(answer, STARAN_RUN_NUMBERS, expected);
 }
 
 static void search(const char *name, searcher *build, int less, uint32_t start, uint32_t n, uint64_t number, int end)

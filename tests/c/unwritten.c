@@ -5,31 +5,33 @@
 #include "lent.h"
 #include "staran.h"
 
-/* The answer must begin with these numbers. */
+/* The answer must be these numbers. */
 static void expect(const uint32_t *answer, size_t n, const uint32_t *expected)
 {
     answered(answer, n, expected);
     count();
 }
 
-/* A run and, where it is one instruction, a step of it. */
-static void call(const char *name, const uint8_t *list, size_t length, size_t items, size_t out, uint32_t number)
+/* A run and, where it is one instruction, a step of it: refused at this place and byte, or done with no step. */
+static void call(const char *name, const uint8_t *list, size_t length, size_t items, size_t out, uint32_t number, uint32_t place, uint32_t byte)
 {
+    const uint32_t expected[STARAN_RUN_NUMBERS] = {number, place, byte, 0, 0, 0};
     for (int end = 0; end < ENDS; end++) {
         lend(MEMORY, STARAN_MEMORY_BYTES, end);
         lend(REGISTERS, STARAN_REGISTERS_BYTES, end);
         lend_bytes(LIST, list, length, end);
         lend(ITEMS, items, end);
         lend(OUT, out, end);
-        uint32_t *answer = lend_answer(5, end);
+        uint32_t *answer = lend_answer(STARAN_RUN_NUMBERS, end);
         shut_rooms();
         check("run that writes nothing: %s", name);
-        staran_run(WHOLE(MEMORY), WHOLE(REGISTERS), WHOLE(LIST), WHOLE(ITEMS), WHOLE(OUT), answer);
-        expect(answer, 1, &number);
+        staran_run_4(WHOLE(MEMORY), WHOLE(REGISTERS), WHOLE(LIST), WHOLE(ITEMS), WHOLE(OUT), answer);
+        expect(answer, STARAN_RUN_NUMBERS, expected);
         if (length == STARAN_INSTRUCTION_BYTES) {
             check("step that writes nothing: %s", name);
-            staran_step(WHOLE(MEMORY), (staran_registers *)buffers[REGISTERS].bytes, WHOLE(LIST), WHOLE(ITEMS), WHOLE(OUT), answer);
-            expect(answer, 1, &number);
+            answer = lend_answer(STARAN_RUN_NUMBERS, end);
+            staran_step_4(WHOLE(MEMORY), (staran_registers *)buffers[REGISTERS].bytes, WHOLE(LIST), WHOLE(ITEMS), WHOLE(OUT), answer);
+            expect(answer, STARAN_RUN_NUMBERS, expected);
         }
         open_rooms();
     }
@@ -38,21 +40,24 @@ static void call(const char *name, const uint8_t *list, size_t length, size_t it
 static void instructions(void)
 {
     static const uint8_t kind[] = {6, 0, 0, 0, 0, 0, 0, 0}, source[] = {0, 5, 0, 0, 0, 0, 0, 0}, no_mode[] = {2, 3, 0, 255, 13, 0, 0, 0}, tag[] = {2, 3, 2, 255, 13, 0, 0, 0},
-                         unused[] = {0, 2, 1, 0, 0, 0, 0, 0x46}, shift[] = {0, 2, 0, 0, 0, 0, 136, 0x46}, logic[] = {0, 2, 0, 0, 0, 0, 0, 0x50}, outside[] = {0, 4, 0, 0, 0, 0, 0, 0x46},
-                         resolve[] = {5, 0, 0, 0, 0, 0, 0, 0}, done_then_not[] = {2, 3, 1, 255, 13, 0, 0, 0, 2, 3, 0, 255, 13, 0, 0, 0};
-    call("no instruction", kind, 0, 0, 32, STARAN_DONE);
-    call("a kind over 5", kind, sizeof kind, 0, 32, STARAN_REFUSED_KIND);
-    call("a source over 4", source, sizeof source, 0, 32, STARAN_REFUSED_SOURCE);
-    call("no mode", no_mode, sizeof no_mode, 0, 32, STARAN_REFUSED_NO_MODE);
-    call("a tag over 1", tag, sizeof tag, 0, 32, STARAN_REFUSED_MODE_TAG);
-    call("a mode that nothing uses", unused, sizeof unused, 0, 32, STARAN_REFUSED_MODE_UNUSED);
-    call("a shift that is none", shift, sizeof shift, 0, 32, STARAN_REFUSED_SHIFT);
-    call("a choice over 4", logic, sizeof logic, 0, 32, STARAN_REFUSED_LOGIC);
-    call("items too few", outside, sizeof outside, 0, 32, STARAN_REFUSED_ITEMS_TOO_FEW);
-    call("out too short", resolve, sizeof resolve, 0, 31, STARAN_REFUSED_OUT_TOO_SHORT);
-    call("items of 31 bytes", resolve, sizeof resolve, 31, 32, STARAN_REFUSED_ITEMS_LENGTH);
-    call("a good instruction before a bad one", done_then_not, sizeof done_then_not, 0, 32, STARAN_REFUSED_NO_MODE);
-    call("a list of 7 bytes", kind, 7, 0, 32, STARAN_REFUSED_LIST_LENGTH);
+                         unused[] = {0, 2, 1, 0, 0, 0, 0, 0x46}, barred[] = {2, 3, 1, 255, 13, 0, 16, 0}, wide[] = {0, 2, 0, 0, 0, 0, 144, 0x46}, above[] = {0, 2, 0, 0, 0, 0, 136, 0x46},
+                         logic[] = {0, 2, 0, 0, 0, 0, 0, 0x50}, outside[] = {0, 4, 0, 0, 0, 0, 0, 0x46}, resolve[] = {5, 0, 0, 0, 0, 0, 0, 0},
+                         done_then_not[] = {2, 3, 1, 255, 13, 0, 0, 0, 2, 3, 0, 255, 13, 0, 0, 0};
+    call("no instruction", kind, 0, 0, 32, STARAN_DONE, 0, 0);
+    call("a kind over 5", kind, sizeof kind, 0, 32, STARAN_REFUSED_KIND, 0, 0);
+    call("a source over 4", source, sizeof source, 0, 32, STARAN_REFUSED_SOURCE, 0, 1);
+    call("no mode", no_mode, sizeof no_mode, 0, 32, STARAN_REFUSED_NO_MODE, 0, 2);
+    call("a tag over 1", tag, sizeof tag, 0, 32, STARAN_REFUSED_MODE_TAG, 0, 2);
+    call("a mode that nothing uses", unused, sizeof unused, 0, 32, STARAN_REFUSED_MODE_UNUSED, 0, 2);
+    call("a shift of a store", barred, sizeof barred, 0, 32, STARAN_REFUSED_MOVE_BARRED, 0, 6);
+    call("a group of 512 lines", wide, sizeof wide, 0, 32, STARAN_REFUSED_GROUP_TOO_WIDE, 0, 6);
+    call("a shift by all lines", above, sizeof above, 0, 32, STARAN_REFUSED_SHIFT_NOT_BELOW, 0, 6);
+    call("a choice over 4", logic, sizeof logic, 0, 32, STARAN_REFUSED_LOGIC, 0, 7);
+    call("items too few", outside, sizeof outside, 0, 32, STARAN_REFUSED_ITEMS_TOO_FEW, 0, 0);
+    call("out too short", resolve, sizeof resolve, 0, 31, STARAN_REFUSED_OUT_TOO_SHORT, 0, 0);
+    call("items of 31 bytes", resolve, sizeof resolve, 31, 32, STARAN_REFUSED_ITEMS_LENGTH, 0, 0);
+    call("a good instruction before a bad one", done_then_not, sizeof done_then_not, 0, 32, STARAN_REFUSED_NO_MODE, 1, 2);
+    call("a list of 7 bytes", kind, 7, 0, 32, STARAN_REFUSED_LIST_LENGTH, 0, 0);
 }
 
 /* A refused builder's counts are 0. S has its start at 2n. */
@@ -68,6 +73,7 @@ static void sums(const char *name, uint32_t a, uint32_t b, uint32_t n, size_t sh
         staran_sum_list(a, b, 2 * n, n, WHOLE(LIST), answer);
         expect(answer, STARAN_LIST_NUMBERS, expected);
         check("difference list that writes nothing: %s", name);
+        answer = lend_answer(STARAN_LIST_NUMBERS, end);
         staran_difference_list(a, b, 2 * n, n, WHOLE(OUT), answer);
         expect(answer, STARAN_LIST_NUMBERS, expected);
         open_rooms();
@@ -86,6 +92,7 @@ static void searches(const char *name, uint32_t start, uint32_t n, uint64_t numb
         staran_equal_list(start, n, number, WHOLE(LIST), WHOLE(ITEMS), answer);
         expect(answer, STARAN_LIST_AND_ITEMS_NUMBERS, expected);
         check("less list that writes nothing: %s", name);
+        answer = lend_answer(STARAN_LIST_AND_ITEMS_NUMBERS, end);
         staran_less_list(start, n, number, WHOLE(LIST), WHOLE(ITEMS), answer);
         expect(answer, STARAN_LIST_AND_ITEMS_NUMBERS, expected);
         open_rooms();

@@ -21,7 +21,7 @@ static uint8_t marks[STARAN_ITEM_BYTES], closing[STARAN_CLOSING_LIST_BYTES(WIDTH
 static uint8_t spreading[STARAN_SPREADING_LIST_BYTES(WIDTH)], spreading_items[STARAN_SPREADING_ITEMS_BYTES(WIDTH)];
 static staran_registers record;
 static uint8_t item[32], passed[32];
-static uint32_t answer[5];
+static uint32_t answer[STARAN_RUN_NUMBERS]; /* the longest of all */
 
 static void equal_list(void) { staran_equal_list(0, WIDTH, NUMBER, equal, sizeof equal, searched, sizeof searched, answer); }
 static void less_list(void) { staran_less_list(0, WIDTH, NUMBER, less, sizeof less, searched, sizeof searched, answer); }
@@ -68,12 +68,12 @@ static size_t prepare_list(const char *digits, size_t count)
 
 static void run(const uint8_t *instructions, size_t length)
 {
-    staran_run(memory, sizeof memory, registers, sizeof registers, instructions, length, item, 0, out, sizeof out, answer);
+    staran_run_4(memory, sizeof memory, registers, sizeof registers, instructions, length, item, 0, out, sizeof out, answer);
 }
 
 static void run_with(const uint8_t *instructions, size_t length, const uint8_t *items, size_t items_length)
 {
-    staran_run(memory, sizeof memory, registers, sizeof registers, instructions, length, items, items_length, out, sizeof out, answer);
+    staran_run_4(memory, sizeof memory, registers, sizeof registers, instructions, length, items, items_length, out, sizeof out, answer);
 }
 
 static void run_equal(void) { run_with(equal, sizeof equal, searched, sizeof searched); }
@@ -126,7 +126,7 @@ static int call(const char *name, size_t length)
     else if (strcmp(name, "judge") == 0)
         run(many, sizeof many);
     else if (strcmp(name, "step") == 0)
-        staran_step(memory, sizeof memory, &record, list, STARAN_INSTRUCTION_BYTES, item, 0, out, sizeof out, answer);
+        staran_step_4(memory, sizeof memory, &record, list, STARAN_INSTRUCTION_BYTES, item, 0, out, sizeof out, answer);
     else if (strcmp(name, "read-list") == 0)
         read_list(sizeof file);
     else if (strcmp(name, "read-damaged") == 0) {

@@ -14,7 +14,7 @@ enum { WIDEST = 64, WIDEST_MOVED = 32, BLOCK = STARAN_BLOCK_BYTES };
 static uint8_t memory[STARAN_MEMORY_BYTES], content[STARAN_MEMORY_BYTES], registers[STARAN_REGISTERS_BYTES], item[STARAN_ITEM_BYTES], passed[STARAN_ITEM_BYTES];
 static uint8_t list[STARAN_GREATEST_LIST_BYTES(WIDEST)], items[STARAN_SPREADING_ITEMS_BYTES(WIDEST_MOVED)], blocks[STARAN_PICTURE_FILE_BYTES];
 static staran_registers record;
-static uint32_t answer[5];
+static uint32_t answer[STARAN_RUN_NUMBERS]; /* the longest of all */
 
 /* ---- a run and a step: of an instruction that takes and gives, at several lengths; then of every kind with every source and choice, at the modes and passes
  * below, of which the judge takes some and refuses the others */
@@ -23,10 +23,10 @@ static const struct {
     size_t memory, registers, list, items, out;
 } less[] = {{0, 0, 0, 0, 0}, {1, 0, 0, 0, 0}, {0, 1, 0, 0, 0}, {0, 0, 8, 0, 0}, {0, 0, 1, 0, 0}, {0, 0, 0, 1, 0}, {0, 0, 0, 32, 0}, {0, 0, 0, 0, 1}};
 static const uint8_t deliver[] = {STARAN_DELIVER_FROM(STARAN_SOURCE_OUTSIDE, 90, STARAN_SHIFT(8, 3))};
-enum { KINDS = 7, SOURCES = 6 };                                                             /* the last of each is none */
-static const uint8_t modes[][3] = {{0, 0, 0}, {1, 0, 5}, {1, 7, 5}, {1, 255, 5}, {2, 0, 0}}; /* tag, mode, address */
-static const uint8_t passes[][2] = {{0, 0}, {90, 0}, {0, 0x83}, {90, 0x83}, {0, 0x88}};      /* flip, shift */
-static const uint8_t choices[] = {0x00, 0x16, 0x26, 0x36, 0x46, 0x50};                       /* with a function */
+enum { KINDS = 7, SOURCES = 6 };                                                                   /* the last of each is none */
+static const uint8_t modes[][3] = {{0, 0, 0}, {1, 0, 5}, {1, 7, 5}, {1, 255, 5}, {2, 0, 0}};       /* tag, mode, address */
+static const uint8_t passes[][2] = {{0, 0}, {90, 0}, {0, 0x83}, {90, 0x83}, {0, 0x88}, {0, 0x90}}; /* flip, shift */
+static const uint8_t choices[] = {0x00, 0x16, 0x26, 0x36, 0x46, 0x50};                             /* with a function */
 enum { INSTRUCTIONS = KINDS * SOURCES * COUNT(modes) * COUNT(passes) * COUNT(choices), RUNS = COUNT(less) + INSTRUCTIONS };
 static uint8_t instructions[INSTRUCTIONS][STARAN_INSTRUCTION_BYTES];
 
@@ -45,8 +45,8 @@ static void make_instructions(void)
 #define MEMORY(k) memory, LENT(memory, k).memory
 #define THE_REST(k) \
     (k) < COUNT(less) ? deliver : instructions[(k)-COUNT(less)], LENT(deliver, k).list, item, LENT(item, k).items, passed, LENT(passed, k).out, answer
-static void run(size_t k) { CALL(staran_run, MEMORY(k), registers, LENT(registers, k).registers, THE_REST(k)); }
-static void step(size_t k) { CALL(staran_step, MEMORY(k), &record, THE_REST(k)); }
+static void run(size_t k) { CALL(staran_run_4, MEMORY(k), registers, LENT(registers, k).registers, THE_REST(k)); }
+static void step(size_t k) { CALL(staran_step_4, MEMORY(k), &record, THE_REST(k)); }
 
 /* ---- a pass in either form: every code with some flips */
 
@@ -181,10 +181,10 @@ static const struct {
     size_t calls;
     uint64_t gives;
 } functions[] = {
-    {"staran_run", 11, run, RUNS, DONE | NUMBERS(1, 13)},
-    {"staran_step", 10, step, RUNS, DONE | NUMBERS(1, 1) | NUMBERS(3, 13)},
-    {"staran_pass", 5, pass, 256 * COUNT(flips), DONE | NUMBERS(10, 10)},
-    {"staran_wired_pass", 5, wired_pass, 256 * COUNT(flips), DONE | NUMBERS(10, 10)},
+    {"staran_run_4", 11, run, RUNS, DONE | NUMBERS(1, 9) | NUMBERS(11, 13) | NUMBERS(16, 18)},
+    {"staran_step_4", 10, step, RUNS, DONE | NUMBERS(1, 1) | NUMBERS(3, 9) | NUMBERS(11, 13) | NUMBERS(16, 18)},
+    {"staran_pass", 5, pass, 256 * COUNT(flips), DONE | NUMBERS(16, 17)},
+    {"staran_wired_pass", 5, wired_pass, 256 * COUNT(flips), DONE | NUMBERS(16, 17)},
     {"staran_sum_list", 7, sum_list, COUNT(sums), DONE | NUMBERS(30, 33)},
     {"staran_difference_list", 7, difference_list, COUNT(sums), DONE | NUMBERS(30, 33)},
     {"staran_equal_list", 8, equal_list, COUNT(searches), DONE | NUMBERS(30, 31) | NUMBERS(33, 34)},

@@ -1,5 +1,5 @@
-/* Holds the header's names to bytes and numbers that stand here as they stand in document 01, in document 02 (Four, the resolved item) and, of the searches, the closing and
- * the spreading, in docs/LISTS.md, from C and from C++: tests/c/run builds and runs it.
+/* Holds the header's names to bytes and numbers that stand here as they stand in document 01, in document 02 (Four, the resolved item; Six, the offending byte) and, of the
+ * searches, the closing and the spreading, in docs/LISTS.md, from C and from C++: tests/c/run builds and runs it.
  * Says each name that does not hold, then every number with its meaning, for tests/c/run to compare with docs/numbers.tsv. */
 #include "staran.h"
 
@@ -26,12 +26,13 @@ static void bytes(const char *what, const uint8_t *made, size_t length, const ch
     hold(what, strcmp(text, digits) == 0);
 }
 
-/* The number that a run of one instruction gives. */
-static void refused(const char *what, uint32_t number, const uint8_t *instruction)
+/* The number and the byte that a run of one instruction gives. */
+static void refused(const char *what, uint32_t number, uint32_t byte, const uint8_t *instruction)
 {
     uint32_t answer[STARAN_RUN_NUMBERS];
-    staran_run(memory, sizeof memory, registers, sizeof registers, instruction, STARAN_INSTRUCTION_BYTES, out, 0, out + 32, 0, answer);
-    hold(what, answer[0] == number);
+    staran_run_4(memory, sizeof memory, registers, sizeof registers, instruction, STARAN_INSTRUCTION_BYTES, out, 0, out + 32, 0, answer);
+    hold(what, answer[STARAN_ANSWER_NUMBER] == number && answer[STARAN_ANSWER_PLACE] == 0 && answer[STARAN_ANSWER_BYTE] == byte &&
+                   answer[STARAN_ANSWER_STEPS] == 0 && answer[STARAN_ANSWER_TAKEN] == 0 && answer[STARAN_ANSWER_GIVEN] == 0);
 }
 
 static void instructions(void)
@@ -97,7 +98,7 @@ static void searches(void)
     staran_equal_list(9, 1, 2, built, sizeof built, items, sizeof items, answer);
     hold("number too large", answer[0] == STARAN_REFUSED_NUMBER_TOO_LARGE && STARAN_REFUSED_NUMBER_TOO_LARGE == 34);
     hold("the longest searches", STARAN_SEARCH_LIST_BYTES(64) == 1552 && STARAN_SEARCH_ITEMS_BYTES(64) == 2048 && STARAN_GREATEST_LIST_BYTES(64) == 5640);
-    hold("the numbers of the answers", STARAN_RUN_NUMBERS == 5 && STARAN_DISK_NUMBERS == 3 && STARAN_LIST_NUMBERS == 2 &&
+    hold("the numbers of the answers", STARAN_RUN_NUMBERS == 6 && STARAN_DISK_NUMBERS == 3 && STARAN_LIST_NUMBERS == 2 &&
                                            STARAN_LIST_AND_ITEMS_NUMBERS == 3 && STARAN_PASS_NUMBERS == 1);
 }
 
@@ -181,10 +182,11 @@ static void resolved(const char *what, uint8_t byte0, uint8_t byte31, uint8_t ot
     registers[64] |= byte0;
     registers[95] |= byte31;
     memset(out, 0xA5, sizeof out);
-    staran_run(memory, sizeof memory, registers, sizeof registers, list, sizeof list, out, 0, out, sizeof out, answer);
+    staran_run_4(memory, sizeof memory, registers, sizeof registers, list, sizeof list, out, 0, out, sizeof out, answer);
     snprintf(item, sizeof item, "%s%054d", digits, 0);
     bytes(what, out, STARAN_ITEM_BYTES, item);
-    hold(what, answer[0] == STARAN_DONE && STARAN_ACTIVITY(out) == activity && STARAN_SMALLEST_RESPONDER(out) == smallest && STARAN_RESPONDER_COUNT(out) == count);
+    hold(what, answer[STARAN_ANSWER_NUMBER] == STARAN_DONE && STARAN_ACTIVITY(out) == activity && STARAN_SMALLEST_RESPONDER(out) == smallest &&
+                   STARAN_RESPONDER_COUNT(out) == count);
     memset(registers + 64, 0, 32);
 }
 
@@ -196,24 +198,52 @@ static void resolves(void)
     resolved("all respond", 0, 0, 255, "0100000001", 1, 0, 256);
 }
 
+/* A run's answer by its names: of three instructions that take two items and give one; and of the same where the last is refused. */
+static void answers(void)
+{
+    uint8_t list[] = {STARAN_SET_M_FROM(STARAN_SOURCE_OUTSIDE, 0, 0), STARAN_DELIVER_FROM(STARAN_SOURCE_OUTSIDE, 0, 0), STARAN_SET_M_FROM(STARAN_SOURCE_X, 0, 0)};
+    const uint8_t items[2 * STARAN_ITEM_BYTES] = {0};
+    uint32_t answer[STARAN_RUN_NUMBERS];
+    staran_run_4(memory, sizeof memory, registers, sizeof registers, list, sizeof list, items, sizeof items, out, sizeof out, answer);
+    hold("a run that is done", answer[STARAN_ANSWER_NUMBER] == STARAN_DONE && answer[STARAN_ANSWER_PLACE] == 0 && answer[STARAN_ANSWER_BYTE] == 0 &&
+                                   answer[STARAN_ANSWER_STEPS] == 3 && answer[STARAN_ANSWER_TAKEN] == 2 && answer[STARAN_ANSWER_GIVEN] == 1);
+    list[2 * STARAN_INSTRUCTION_BYTES + 7] = 1;
+    staran_run_4(memory, sizeof memory, registers, sizeof registers, list, sizeof list, items, sizeof items, out, sizeof out, answer);
+    hold("a run that is refused", answer[STARAN_ANSWER_NUMBER] == STARAN_REFUSED_LOGIC && answer[STARAN_ANSWER_PLACE] == 2 && answer[STARAN_ANSWER_BYTE] == 7 &&
+                                      answer[STARAN_ANSWER_STEPS] == 0 && answer[STARAN_ANSWER_TAKEN] == 0 && answer[STARAN_ANSWER_GIVEN] == 0);
+    hold("where an answer's numbers stand", STARAN_ANSWER_NUMBER == 0 && STARAN_ANSWER_PLACE == 1 && STARAN_ANSWER_BYTE == 2 && STARAN_ANSWER_STEPS == 3 &&
+                                                STARAN_ANSWER_TAKEN == 4 && STARAN_ANSWER_GIVEN == 5);
+}
+
 static void refusals(void)
 {
     const uint8_t kind[] = {STARAN_INSTRUCTION(6, 0, 0, 0, 0, 0, 0, 0)}, source[] = {STARAN_STORE(STARAN_SOURCE_MEMORY, 0, 0, 0)};
     const uint8_t no_mode[] = {STARAN_INSTRUCTION(STARAN_KIND_STORE, STARAN_SOURCE_Y, 0, 255, 0, 0, 0, 0)};
     const uint8_t tag[] = {STARAN_INSTRUCTION(STARAN_KIND_STORE, STARAN_SOURCE_Y, 2, 255, 0, 0, 0, 0)};
     const uint8_t unused[] = {STARAN_INSTRUCTION(STARAN_KIND_LOGIC, STARAN_SOURCE_X, 1, 0, 0, 0, 0, 0)};
+    const uint8_t unused_mode[] = {STARAN_INSTRUCTION(STARAN_KIND_LOGIC, STARAN_SOURCE_X, 0, 255, 13, 0, 0, 0)};
+    const uint8_t unused_address[] = {STARAN_INSTRUCTION(STARAN_KIND_RESOLVE, 0, 0, 0, 13, 0, 0, 0)};
+    const uint8_t group[] = {STARAN_LOGIC_FROM(STARAN_SOURCE_X, 0, STARAN_SHIFT(9, 8), 0, 0)};
     const uint8_t shift[] = {STARAN_LOGIC_FROM(STARAN_SOURCE_X, 0, STARAN_SHIFT(8, 8), 0, 0)};
+    const uint8_t barred[] = {STARAN_INSTRUCTION(STARAN_KIND_MASKED_STORE, STARAN_SOURCE_Y, 1, 0, 0, 5, STARAN_SHIFT(9, 9), 0)};
+    const uint8_t barred_flip[] = {STARAN_INSTRUCTION(STARAN_KIND_RESOLVE, 0, 0, 0, 0, 5, STARAN_SHIFT(8, 3), 0)};
     const uint8_t logic[] = {STARAN_LOGIC_FROM(STARAN_SOURCE_X, 0, 0, 5, 0)}, resolve[] = {STARAN_RESOLVE};
     const uint8_t item[] = {STARAN_DELIVER_FROM(STARAN_SOURCE_OUTSIDE, 0, 0)};
-    refused("kind", STARAN_REFUSED_KIND, kind);
-    refused("source", STARAN_REFUSED_SOURCE, source);
-    refused("no mode", STARAN_REFUSED_NO_MODE, no_mode);
-    refused("mode tag", STARAN_REFUSED_MODE_TAG, tag);
-    refused("mode unused", STARAN_REFUSED_MODE_UNUSED, unused);
-    refused("shift", STARAN_REFUSED_SHIFT, shift);
-    refused("logic", STARAN_REFUSED_LOGIC, logic);
-    refused("items too few", STARAN_REFUSED_ITEMS_TOO_FEW, item);
-    refused("out too short", STARAN_REFUSED_OUT_TOO_SHORT, resolve);
+    refused("kind", STARAN_REFUSED_KIND, 0, kind);
+    refused("source", STARAN_REFUSED_SOURCE, 1, source);
+    refused("no mode", STARAN_REFUSED_NO_MODE, 2, no_mode);
+    refused("mode tag", STARAN_REFUSED_MODE_TAG, 2, tag);
+    refused("mode unused: tag", STARAN_REFUSED_MODE_UNUSED, 2, unused);
+    refused("mode unused: mode", STARAN_REFUSED_MODE_UNUSED, 3, unused_mode);
+    refused("mode unused: address", STARAN_REFUSED_MODE_UNUSED, 4, unused_address);
+    refused("move barred: flip", STARAN_REFUSED_MOVE_BARRED, 5, barred_flip);
+    refused("move barred: shift", STARAN_REFUSED_MOVE_BARRED, 6, barred);
+    refused("group too wide", STARAN_REFUSED_GROUP_TOO_WIDE, 6, group);
+    refused("shift not below", STARAN_REFUSED_SHIFT_NOT_BELOW, 6, shift);
+    refused("logic", STARAN_REFUSED_LOGIC, 7, logic);
+    refused("items too few", STARAN_REFUSED_ITEMS_TOO_FEW, 0, item);
+    refused("out too short", STARAN_REFUSED_OUT_TOO_SHORT, 0, resolve);
+    hold("the three numbers for 10", STARAN_REFUSED_GROUP_TOO_WIDE == 16 && STARAN_REFUSED_SHIFT_NOT_BELOW == 17 && STARAN_REFUSED_MOVE_BARRED == 18);
 }
 
 int main(void)
@@ -223,10 +253,12 @@ int main(void)
     closings();
     functions();
     resolves();
+    answers();
     refusals();
     hold("the contents on disk", STARAN_CONTENT_PICTURE == 1 && STARAN_CONTENT_LIST == 2 && STARAN_CONTENT_ITEMS == 3);
-    hold("the linked version is the header's", staran_version() == STARAN_VERSION && STARAN_VERSION == 196609);
+    hold("the linked version is the header's", staran_version() == STARAN_VERSION && STARAN_VERSION == 262144);
     hold("a number that is never given", strcmp(staran_meaning(14), "no such number is ever given") == 0);
+    hold("a number that is not given any more", strcmp(staran_meaning(10), staran_meaning(14)) == 0);
     for (uint32_t number = 0; number <= 100; number++)
         if (strcmp(staran_meaning(number), staran_meaning(14)) != 0)
             printf("%u\t%s\n", (unsigned)number, staran_meaning(number));

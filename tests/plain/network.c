@@ -16,6 +16,9 @@ static unsigned find(uint8_t code)
 
 int plain_is_code(uint8_t code) { return find(code) < 37; }
 
+/* The number of a code that is none of the 37. */
+uint32_t plain_unlisted(uint8_t code) { return code / 16 > 8 ? STARAN_REFUSED_GROUP_TOO_WIDE : STARAN_REFUSED_SHIFT_NOT_BELOW; }
+
 /* A pass works on the item's quarters: line 64i + k is bit k of quarter i. The bytes are written out, since of that gcc makes one load or store, and of a loop
  * it does not. */
 enum { QUARTERS = 4 };
@@ -96,7 +99,7 @@ void plain_pass(const uint8_t item[32], uint8_t flip, uint8_t code, uint8_t out[
 
 void staran_pass(const uint8_t item[32], uint8_t flip, uint8_t code, uint8_t passed[32], uint32_t answer[1])
 {
-    answer[0] = plain_is_code(code) ? STARAN_DONE : STARAN_REFUSED_SHIFT;
+    answer[0] = plain_is_code(code) ? STARAN_DONE : plain_unlisted(code);
     if (answer[0] == STARAN_DONE)
         plain_pass(item, flip, code, passed);
     else
@@ -121,7 +124,7 @@ static unsigned level_line(unsigned p, unsigned m, uint8_t flip, unsigned j, uns
 void staran_wired_pass(const uint8_t item[32], uint8_t flip, uint8_t code, uint8_t passed[32], uint32_t answer[1])
 {
     uint8_t lines[ITEM], next[ITEM];
-    answer[0] = plain_is_code(code) ? STARAN_DONE : STARAN_REFUSED_SHIFT;
+    answer[0] = plain_is_code(code) ? STARAN_DONE : plain_unlisted(code);
     if (answer[0] != STARAN_DONE) {
         memset(passed, 0, ITEM);
         return;

@@ -1,5 +1,6 @@
 /* The array's parts in plain C, on the same layout and by the same loops as the proved crates: what tests/count-* hold the crates' executed instructions
- * against. Together these files define the functions of include/staran.h; tests/c/run holds them to the header and to the outside cases as it does the library. */
+ * against. Together these files define the functions of include/staran.h but staran_version; tests/plain/build.sh holds them to the outside cases, as tests/c/run
+ * holds the library. */
 #ifndef PLAIN_H
 #define PLAIN_H
 
@@ -16,6 +17,7 @@ void plain_words_in(uint8_t *restrict memory, unsigned eight, const uint8_t word
 
 /* network.c */
 int plain_is_code(uint8_t code);
+uint32_t plain_unlisted(uint8_t code);
 void plain_pass(const uint8_t item[32], uint8_t flip, uint8_t code, uint8_t out[32]);
 
 #endif

@@ -8,7 +8,26 @@ static int touches(const uint8_t *i) { return stores(i) || (i[1] == 0 && (i[0] =
 static int takes(const uint8_t *i) { return i[1] == 4; }
 static int gives(const uint8_t *i) { return i[0] == 4 || i[0] == 5; }
 
-/* 5 to 11, or 0. */
+/* For kinds 0, 1 and 4: memory with a mode given, or another source with none. */
+static int source_fits(const uint8_t *i) { return i[1] == 0 ? i[2] == 1 : i[1] <= 4 && (i[2] | i[3] | i[4]) == 0; }
+
+/* Has an instruction no number? It is asked of every one, kind by kind; the number is made of the one that is refused. */
+static int formed(const uint8_t *i)
+{
+    if (i[0] == 5 ? (i[5] | i[6]) != 0 : i[6] != 0 && (stores(i) || !plain_is_code(i[6])))
+        return 0;
+    if (i[0] == 0)
+        return i[7] <= 79 && source_fits(i);
+    if (i[7] != 0 || i[0] > 5)
+        return 0;
+    if (stores(i))
+        return i[1] != 0 && i[1] <= 4 && i[2] == 1;
+    if (i[0] == 5)
+        return (i[1] | i[2] | i[3] | i[4]) == 0;
+    return source_fits(i);
+}
+
+/* The number of an instruction that has one. */
 static uint32_t fault(const uint8_t *i)
 {
     if (i[0] > 5)
@@ -22,11 +41,33 @@ static uint32_t fault(const uint8_t *i)
             return STARAN_REFUSED_MODE_TAG;
     } else if ((i[2] | i[3] | i[4]) != 0)
         return STARAN_REFUSED_MODE_UNUSED;
-    if ((i[6] != 0 && (stores(i) || !plain_is_code(i[6]))) || (i[0] == 5 && (i[5] | i[6]) != 0))
-        return STARAN_REFUSED_SHIFT;
-    if (i[0] == 0 ? i[7] > 79 : i[7] != 0)
-        return STARAN_REFUSED_LOGIC;
-    return STARAN_DONE;
+    if ((stores(i) && i[6] != 0) || (i[0] == 5 && (i[5] | i[6]) != 0))
+        return STARAN_REFUSED_MOVE_BARRED;
+    if (!plain_is_code(i[6]))
+        return plain_unlisted(i[6]);
+    return STARAN_REFUSED_LOGIC;
+}
+
+/* The first byte that is wrong by that number. */
+static uint32_t wrong_byte(uint32_t number, const uint8_t *i)
+{
+    switch (number) {
+    case STARAN_REFUSED_KIND:
+        return 0;
+    case STARAN_REFUSED_SOURCE:
+        return 1;
+    case STARAN_REFUSED_NO_MODE:
+    case STARAN_REFUSED_MODE_TAG:
+        return 2;
+    case STARAN_REFUSED_MODE_UNUSED:
+        return i[2] != 0 ? 2 : i[3] != 0 ? 3 : 4;
+    case STARAN_REFUSED_MOVE_BARRED:
+        return i[0] == 5 && i[5] != 0 ? 5 : 6;
+    case STARAN_REFUSED_LOGIC:
+        return 7;
+    default: /* a shift that is none of the 37 */
+        return 6;
+    }
 }
 
 /* The first instruction for which `have` bytes are too few. */
@@ -41,16 +82,19 @@ static uint32_t short_at(int (*wants)(const uint8_t *), const uint8_t *list, siz
         }
 }
 
-static void give(uint32_t *answer, uint32_t number, uint32_t place, uint32_t steps, uint32_t taken, uint32_t given)
+static void give(uint32_t answer[STARAN_RUN_NUMBERS], uint32_t number, uint32_t place, uint32_t byte, uint32_t steps, uint32_t taken, uint32_t given)
 {
-    answer[0] = number;
-    answer[1] = place;
-    answer[2] = steps;
-    answer[3] = taken;
-    answer[4] = given;
+    answer[STARAN_ANSWER_NUMBER] = number;
+    answer[STARAN_ANSWER_PLACE] = place;
+    answer[STARAN_ANSWER_BYTE] = byte;
+    answer[STARAN_ANSWER_STEPS] = steps;
+    answer[STARAN_ANSWER_TAKEN] = taken;
+    answer[STARAN_ANSWER_GIVEN] = given;
 }
 
-static void judge(size_t memory, size_t registers, const uint8_t *list, size_t length, size_t items, size_t out, uint32_t answer[5])
+static void refuse(uint32_t answer[STARAN_RUN_NUMBERS], uint32_t number, uint32_t place, uint32_t byte) { give(answer, number, place, byte, 0, 0, 0); }
+
+static void judge(size_t memory, size_t registers, const uint8_t *list, size_t length, size_t items, size_t out, uint32_t answer[STARAN_RUN_NUMBERS])
 {
     uint32_t number = memory != MEMORY                           ? STARAN_REFUSED_MEMORY_LENGTH
                       : registers != REGISTERS                   ? STARAN_REFUSED_REGISTERS_LENGTH
@@ -59,25 +103,25 @@ static void judge(size_t memory, size_t registers, const uint8_t *list, size_t l
                                                                  : STARAN_DONE;
     uint32_t taken = 0, given = 0;
     if (number != STARAN_DONE) {
-        give(answer, number, 0, 0, 0, 0);
+        refuse(answer, number, 0, 0);
         return;
     }
     for (uint32_t k = 0; k < length / 8; k++) {
         const uint8_t *i = list + 8 * k;
-        number = fault(i);
-        if (number != STARAN_DONE) {
-            give(answer, number, k, 0, 0, 0);
+        if (!formed(i)) {
+            number = fault(i);
+            refuse(answer, number, k, wrong_byte(number, i));
             return;
         }
         taken += (uint32_t)takes(i);
         given += (uint32_t)gives(i);
     }
     if (items < (size_t)ITEM * taken)
-        give(answer, STARAN_REFUSED_ITEMS_TOO_FEW, short_at(takes, list, items), 0, 0, 0);
+        refuse(answer, STARAN_REFUSED_ITEMS_TOO_FEW, short_at(takes, list, items), 0);
     else if (out < (size_t)ITEM * given)
-        give(answer, STARAN_REFUSED_OUT_TOO_SHORT, short_at(gives, list, out), 0, 0, 0);
+        refuse(answer, STARAN_REFUSED_OUT_TOO_SHORT, short_at(gives, list, out), 0);
     else
-        give(answer, STARAN_DONE, 0, (uint32_t)(length / 8), taken, given);
+        give(answer, STARAN_DONE, 0, 0, (uint32_t)(length / 8), taken, given);
 }
 
 /* Function bit 2r + f is the new bit for old bit r and passed bit f. Choice 0: X; 1: Y; 2: both; 3: X where Y is 1; 4: X where the old Y is 1, and Y everywhere. */
@@ -168,21 +212,21 @@ static void run_list(uint8_t *memory, uint8_t *m, uint8_t *x, uint8_t *y, const 
     }
 }
 
-void staran_run(uint8_t *memory, size_t memory_length, uint8_t *registers, size_t registers_length, const uint8_t *list, size_t list_length,
-                const uint8_t *items, size_t items_length, uint8_t *out, size_t out_length, uint32_t answer[5])
+void staran_run_4(uint8_t *memory, size_t memory_length, uint8_t *registers, size_t registers_length, const uint8_t *list, size_t list_length,
+                  const uint8_t *items, size_t items_length, uint8_t *out, size_t out_length, uint32_t answer[STARAN_RUN_NUMBERS])
 {
     judge(memory_length, registers_length, list, list_length, items_length, out_length, answer);
-    if (answer[0] == STARAN_DONE)
+    if (answer[STARAN_ANSWER_NUMBER] == STARAN_DONE)
         run_list(memory, registers, registers + 32, registers + 64, list, list_length / 8, items, out);
 }
 
-void staran_step(uint8_t *memory, size_t memory_length, staran_registers *registers, const uint8_t *instruction, size_t instruction_length,
-                 const uint8_t *items, size_t items_length, uint8_t *out, size_t out_length, uint32_t answer[5])
+void staran_step_4(uint8_t *memory, size_t memory_length, staran_registers *registers, const uint8_t *instruction, size_t instruction_length,
+                   const uint8_t *items, size_t items_length, uint8_t *out, size_t out_length, uint32_t answer[STARAN_RUN_NUMBERS])
 {
     if (memory_length == MEMORY && instruction_length != 8)
-        give(answer, STARAN_REFUSED_LIST_LENGTH, 0, 0, 0, 0);
+        refuse(answer, STARAN_REFUSED_LIST_LENGTH, 0, 0);
     else
         judge(memory_length, REGISTERS, instruction, instruction_length, items_length, out_length, answer);
-    if (answer[0] == STARAN_DONE)
+    if (answer[STARAN_ANSWER_NUMBER] == STARAN_DONE)
         run_list(memory, registers->m, registers->x, registers->y, instruction, 1, items, out);
 }

@@ -1,12 +1,12 @@
 -- Laws of a table of numbers: the number that it gives and the first row that holds, both ways; a row by its number, and not by its position. Assumes nothing.
 use mathlib.Core.Path.{_≡_, refl, ap, ap₂, _∙_}
-use mathlib.Core.Bool.{Bool, true, false, cond, not, _&&_, false≢true}
+use mathlib.Core.Bool.{Bool, true, false, cond, not, _&&_, _||_, false≢true}
 use mathlib.Core.List.{List, [], _∷_}
 use mathlib.Core.Logic.{inl, inr}
 use Prim.Native.Nat.{ℕ, _≤_}
 use native.Mathlib.Omega.{arith}
 use lib.Dec.{eqb, leb}
-use borrow.Author.Tests.{eqb-false, leb-true, not-true}
+use borrow.Author.Tests.{eq-eqb, eqb-false, leb-true, not-true}
 use Rattle.bits.specs.Rows.{Row, numberOf, NoRow, FirstRow}
 
 -- ---- what is asked of the numbers of a table, as tests: a table that is written out passes them by `refl`
@@ -21,16 +21,20 @@ abbrev pub upTo : ℕ → List Row → Bool
 upTo m [] = true
 upTo m (r ∷ rows) = leb (r .number) m && upTo m rows
 
-and-left : (a b : Bool) → (a && b) ≡ true → a ≡ true
+pub and-left : (a b : Bool) → (a && b) ≡ true → a ≡ true
 and-left true b e = refl
 and-left false b e = absurd (false≢true e)
 
-and-right : (a b : Bool) → (a && b) ≡ true → b ≡ true
+pub and-right : (a b : Bool) → (a && b) ≡ true → b ≡ true
 and-right true b e = e
 and-right false b e = absurd (false≢true e)
 
+pub or-right : (a b : Bool) → b ≡ true → (a || b) ≡ true
+or-right true b e = refl
+or-right false b e = e
+
 -- one of two, whichever a test takes
-taken : {A : Type 0} (P : A → Type 0) (x y : A) (b : Bool) → P x → P y → P (cond b x y)
+pub taken : {A : Type 0} (P : A → Type 0) (x y : A) (b : Bool) → P x → P y → P (cond b x y)
 taken P x y true p q = p
 taken P x y false p q = q
 
@@ -72,32 +76,31 @@ pub row-off : (rows : List Row) → NoRow rows → (n : ℕ) → rowAt rows n �
 row-off [] t n = refl
 row-off (r ∷ rows) t n = taken (λ (b : Bool). b ≡ false) (r .holds) (rowAt rows n) (eqb (r .number) n) (t .0) (row-off rows (t .1) n)
 
+-- ---- a number is one of the table's
+
+-- n is the number of some row
+abbrev pub among : ℕ → List Row → Bool
+among n [] = false
+among n (r ∷ rows) = eqb (r .number) n || among n rows
+
+pub first-among : (rows : List Row) (n : ℕ) → FirstRow rows n → among n rows ≡ true
+first-among [] n f = absurd f
+first-among (r ∷ rows) n (inl (h, e)) = ap (λ (b : Bool). b || among n rows) (eq-eqb (r .number) n e)
+first-among (r ∷ rows) n (inr (h, f)) = or-right (eqb (r .number) n) (among n rows) (first-among rows n f)
+
 -- ---- a row as code makes it, t with x behind it, is a row of the table, u with y behind it
 
-pub chosen : (number : ℕ) {t u : Bool} {r x y : ℕ} → r ≡ cond t number x → t ≡ u → x ≡ y → r ≡ cond u number y
-chosen number e p q = e ∙ ap₂ (λ (t : Bool) (x : ℕ). cond t number x) p q
+pub chosen : {A : Type 0} (v : A) {t u : Bool} {r x y : A} → r ≡ cond t v x → t ≡ u → x ≡ y → r ≡ cond u v y
+chosen {A = A} v e p q = e ∙ ap₂ (λ (t : Bool) (x : A). cond t v x) p q
 
 -- the same where code makes the very test
 pub placed : (number : ℕ) (t : Bool) {r x y : ℕ} → r ≡ cond t number x → x ≡ y → r ≡ cond t number y
 placed number t e q = e ∙ ap (λ (x : ℕ). cond t number x) q
 
--- ---- how high a number can be, and when there is none
+-- ---- how high a number can be
 
 pub number-high : (m : ℕ) (rows : List Row) → upTo m rows ≡ true → numberOf rows ≤ m
 number-high m [] t = omega arith
 number-high m (r ∷ rows) t =
     taken (λ (n : ℕ). n ≤ m) (r .number) (numberOf rows) (r .holds) (leb-true (r .number) m (and-left _ (upTo m rows) t))
     (number-high m rows (and-right (leb (r .number) m) _ t))
-
--- no row holds, as a test
-abbrev pub noRow : List Row → Bool
-noRow [] = true
-noRow (r ∷ rows) = not (r .holds) && noRow rows
-
-pub number-test : (rows : List Row) → numbered rows ≡ true → eqb (numberOf rows) 0 ≡ noRow rows
-number-test [] n = refl
-number-test (r ∷ rows) n = go (r .holds) (number-test rows (and-right (not (eqb (r .number) 0)) _ n))
-  where
-    go : (b : Bool) → eqb (numberOf rows) 0 ≡ noRow rows → eqb (cond b (r .number) (numberOf rows)) 0 ≡ (not b && noRow rows)
-    go true ih = not-true (eqb (r .number) 0) (and-left _ (numbered rows) n)
-    go false ih = ih

@@ -1,6 +1,6 @@
 -- Laws of judging a block: what each test settles, and what a good block has. Assumes nothing.
 use mathlib.Core.Path.{_≡_, refl, sym, ap, _∙_}
-use mathlib.Core.Bool.{Bool, true, false, cond, not, _&&_, _||_, false≢true}
+use mathlib.Core.Bool.{Bool, true, false, cond, not, _&&_, _||_}
 use mathlib.Core.List.{List, [], _∷_}
 use Prim.Native.Nat.{ℕ, zero, suc, _+_, _<_, _≤_}
 use native.Mathlib.Numerals.{add-one}
@@ -9,17 +9,8 @@ use lib.Dec.{eqb, leb, ltb}
 use lib.ListN.{length, drop, replicate, getD, drop-of-length-le}
 use lib.Seq.{drop-cons}
 use borrow.Author.Tests.{ne-eqb, eq-eqb, eqb-true, leb-true, ltb-true, lt-ltb}
+use Rattle.bits.proofs.Rows.{and-left, and-right}
 use Rattle.blocks.specs.Block.{twoAt, sumsRight, usedRight, allZero, zerosRight, fault}
-
--- ---- two truths
-
-pub and-left : (a b : Bool) → (a && b) ≡ true → a ≡ true
-and-left true b h = refl
-and-left false b h = h
-
-pub and-right : (a b : Bool) → (a && b) ≡ true → b ≡ true
-and-right true b h = h
-and-right false b h = absurd (false≢true h)
 
 -- ---- what a loop over the bytes cites
 

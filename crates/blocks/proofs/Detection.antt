@@ -15,7 +15,8 @@ use Rattle.blocks.specs.Sums.{total, at, s1, s2}
 use Rattle.blocks.specs.Block.{twoAt, sumsRight, fault}
 use Rattle.blocks.specs.Swap.{swapped}
 use Rattle.blocks.proofs.SumLaws.{plain, weighted, total-ext, s1-front, s2-front}
-use Rattle.blocks.proofs.BlockLaws.{fault-21, and-left, and-right}
+use Rattle.bits.proofs.Rows.{and-left, and-right}
+use Rattle.blocks.proofs.BlockLaws.{fault-21}
 
 -- ---- a sum in which one number is changed
 total-one : (f g : ℕ → ℕ) (k n : ℕ) → k < n → ((i : ℕ) → i ≢ k → f i ≡ g i) → total f n + g k ≡ total g n + f k

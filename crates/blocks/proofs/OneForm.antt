@@ -11,7 +11,8 @@ use Rattle.blocks.specs.Sums.{at, s1, s2}
 use Rattle.bits.specs.Bits.{two}
 use Rattle.blocks.specs.Block.{twoAt, part, header, body, summed, block, payloadOf, sumsRight, usedRight, allZero, zerosRight, fault}
 use Rattle.blocks.proofs.SumLaws.{s1-front, s2-front}
-use Rattle.blocks.proofs.BlockLaws.{and-left, and-right, zeros-zero, zeros-are, used-le, fault-last, Good}
+use Rattle.bits.proofs.Rows.{and-left, and-right}
+use Rattle.blocks.proofs.BlockLaws.{zeros-zero, zeros-are, used-le, fault-last, Good}
 use Rattle.blocks.proofs.WriteLaws.{length-header, length-body}
 use Rattle.blocks.proofs.Detection.{sums-of}
 

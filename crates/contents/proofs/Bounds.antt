@@ -7,7 +7,7 @@ use native.Mathlib.Omega.{arith}
 use lib.Dec.{eqb, leb, ltb}
 use lib.ListN.{length}
 use borrow.Author.Tests.{leb-true}
-use Rattle.blocks.proofs.BlockLaws.{and-right}
+use Rattle.bits.proofs.Rows.{and-right}
 use Rattle.blocks.proofs.Numbers.{fault-le}
 use Rattle.contents.specs.declared.Moved.{Moved}
 use Rattle.contents.specs.File.{blockAt, contentOf, lengthRight, sizeFits}

@@ -12,7 +12,7 @@ use lib.Seq.{length-take-le, getD-take, getD-drop, take-length, take-append-le}
 use borrow.Author.Tests.{ne-eqb, eqb-true, eqb-false, leb-true, ltb-true}
 use Rattle.blocks.specs.Sums.{at}
 use Rattle.blocks.specs.Block.{twoAt, fault, payloadOf}
-use Rattle.blocks.proofs.BlockLaws.{and-left, and-right}
+use Rattle.bits.proofs.Rows.{and-left, and-right}
 use Rattle.contents.specs.File.{done, refused, blockAt, gathered, contentOf, Verdict, good, bad, verdict, next, blocksJudged, kindRight, lengthRight, sizeFits, settled, fileJudged}
 
 -- ---- blocks of a file, and their content

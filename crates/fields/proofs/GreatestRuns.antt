@@ -1,6 +1,6 @@
 -- The run of the list for the greatest: of the words that Y marked it marks those with the greatest value, ties and all; and none if none was marked. Assumes nothing.
 use mathlib.Core.Path.{_≡_, refl, sym, ap, subst, subst₂, fun-ext, _∙_}
-use mathlib.Core.Bool.{Bool, false, not, _||_}
+use mathlib.Core.Bool.{false}
 use mathlib.Core.Logic.{_↔_}
 use mathlib.Core.List.{List, [], _∷_}
 use Prim.Native.Nat.{ℕ, suc, _+_, _-_, _*_, _/_, _%_, _^_, _<_, _≤_}
@@ -13,12 +13,10 @@ use Rattle.bits.specs.Bits.{bitOf}
 use Rattle.bits.proofs.Binary.{Bit, off as bit-off, on as bit-on, low-bit, digit-bit}
 use Rattle.bits.proofs.Digits.{digitsOf-lt, digitsOf-at}
 use Rattle.bits.proofs.Items.{bitOf-bit}
-use Rattle.network.proofs.TableRules.{none-permitted}
 use Rattle.registers.specs.Logic.{functionBit, newX, newY}
 use Rattle.registers.specs.Rows.{registersOf}
 use Rattle.judge.specs.declared.Instruction.{Instruction}
-use Rattle.judge.specs.Judge.{takes, unfit, wrongKind, wrongSource, lacksTag, wrongTag, idleAccess, wrongPass, wrongLogic}
-use Rattle.judge.specs.Steps.{fits}
+use Rattle.judge.specs.Judge.{takes, unfit}
 use Rattle.judge.proofs.FormLaws.{formed-by}
 use Rattle.module.specs.Act.{State, acted}
 use Rattle.module.specs.Run.{Lent, begun}
@@ -60,8 +58,7 @@ greatest-idle : (a n : ℕ) → Each (λ i. takes i ≡ false) (greatestList a n
 greatest-idle a n = each-greatest a n refl (λ g h. (refl, refl)) (λ e h. refl) refl
 
 quiet-flip : (e : ℕ) → Quiet (orFlip e)
-unfolding fits wrongKind wrongSource lacksTag wrongTag idleAccess wrongPass wrongLogic
-quiet-flip e = record { gives-none = refl; formed = formed-by _ (ap (λ (p : Bool). not p || false || false) none-permitted) refl refl }
+quiet-flip e = record { gives-none = refl; formed = formed-by _ refl refl refl }
 
 greatest-quiet : (a n : ℕ) → a + n ≤ 256 → Each Quiet (greatestList a n)
 greatest-quiet a n fit =

@@ -81,7 +81,7 @@ store-slice mem g mask f hg bits =
     updated-slice g mask f (table (cell mem)) (table (cell (stored mem 0 g mask f))) hg (store-updates-table mem 0 g mask f (omega arith) hg bits)
 
 -- a masked store: by the word's own M bit, from the source item's line across the flip
-pub masked-slice : (i : Instruction) (items : List ℕ) (s : State) → i .kind ≡ 3 → faultOf i ≡ 0 → i .mode ≡ 0 → i .addr < 256 → (w b : ℕ) → w < 256 → b < 256
+pub masked-slice : (i : Instruction) (items : List ℕ) (s : State) → i .kind ≡ 3 → faultOf i .number ≡ 0 → i .mode ≡ 0 → i .addr < 256 → (w b : ℕ) → w < 256 → b < 256
     → table (cell (acted i items s .mem)) w b
     ≡ cond (eqb (bitOf (s .regs .m) w) 1 && eqb b (i .addr)) (flipped (sourceItem i (s .mem) items (s .regs) (s .taken)) (i .flip) w) (table (cell (s .mem)) w b)
 masked-slice i items s e good slice hg =
@@ -114,7 +114,7 @@ source-at p i items s v hp sl a = go (takes i)
 
 pub from-lt : (i : Instruction) (p : ℕ) → Sliced i → p < 256 → cameFrom i p < 256
 from-lt i p sl hp =
-    source-lt 8 (i .flip) (i .code / 16) (i .code % 16) p (shift (i .code) (sl .byte6) (sl .shifts) .within) (sl .flips) hp
+    source-lt 8 (i .flip) (i .code / 16) (i .code % 16) p (shift (i .code) (sl .shifts) .within) (sl .flips) hp
 
 -- line p of the passed item is that of the word from which its bit came
 pub passed-from : (p : ℕ) (i : Instruction) (items : List ℕ) (s : State) (w : Word) → p < 256 → Sliced i → At (cameFrom i p) s w
@@ -198,7 +198,7 @@ module _ (p : ℕ) (hp : p < 256) where
   sliced-of i lc =
       let f = lc .flip0 in
       let c = lc .code0 in
-      record { mode0 = lc .mode0; inside = lc .inside; flips = omega arith; byte6 = omega arith; shifts = ap permitted c ∙ none-permitted }
+      record { mode0 = lc .mode0; inside = lc .inside; flips = omega arith; shifts = ap permitted c ∙ none-permitted }
 
   -- so each instruction that keeps to its line
   pub acted-at : (i : Instruction) (items : List ℕ) (s : State) (v : Word) → Local i → At p s v → At p (acted i items s) (actedWord i (outsideAt p items) v)

@@ -1,6 +1,6 @@
 -- What each instruction of closing and spreading makes of every line of a state. Assumes nothing.
 use mathlib.Core.Path.{_≡_, refl, sym, ap, ap₂, _∙_}
-use mathlib.Core.Bool.{Bool, true, false, cond, not, _&&_, _||_}
+use mathlib.Core.Bool.{Bool, true, false, cond, _&&_}
 use mathlib.Core.List.{List}
 use Prim.Native.Nat.{ℕ, suc, _+_, _-_, _*_, _/_, _%_, _^_, _<_, _≤_}
 use native.Mathlib.Decide.{ℕ-discrete}
@@ -20,9 +20,7 @@ use Rattle.network.proofs.PassLaws.{unshifted-lt}
 use Rattle.network.proofs.TableRules.{none-permitted, pair-permitted}
 use Rattle.registers.specs.Logic.{functionBit, newX, newY}
 use Rattle.judge.specs.declared.Instruction.{Instruction}
-use Rattle.judge.specs.Judge.{wrongKind, wrongSource, lacksTag, wrongTag, idleAccess, wrongPass, wrongLogic}
-use Rattle.judge.specs.Steps.{fits}
-use Rattle.judge.proofs.FormLaws.{formed-by}
+use Rattle.judge.proofs.FormLaws.{formed-by, shift-passes}
 use Rattle.module.specs.Act.{State, partAt, acted}
 use Rattle.builders.specs.Lists.{takeY, storeAt}
 use Rattle.builders.specs.Searches.{clearX}
@@ -37,38 +35,32 @@ use Rattle.fields.proofs.Carried.{carried}
 -- ---- they are accepted, and have mode 0
 
 sliced-at : (k s t g f l : ℕ) → g < 256 → f < 256 → Sliced (record { kind = k; source = s; tag = t; mode = 0; addr = g; flip = f; code = 0; logic = l })
-sliced-at k s t g f l hg hf = record { mode0 = refl; inside = hg; flips = hf; byte6 = omega arith; shifts = none-permitted }
+sliced-at k s t g f l hg hf = record { mode0 = refl; inside = hg; flips = hf; shifts = none-permitted }
 
 sliced-shift : (s t g f l j : ℕ) → g < 256 → f < 256 → j < 8
     → Sliced (record { kind = 0; source = s; tag = t; mode = 0; addr = g; flip = f; code = 16 * 8 + j; logic = l })
 sliced-shift s t g f l j hg hf h =
-    record { mode0 = refl; inside = hg; flips = hf; byte6 = omega arith; shifts = pair-permitted 8 j h (omega arith) }
+    record { mode0 = refl; inside = hg; flips = hf; shifts = pair-permitted 8 j h (omega arith) }
 
 pub quiet-take-mask : Quiet takeMask
-unfolding fits wrongKind wrongSource lacksTag wrongTag idleAccess wrongPass wrongLogic
-quiet-take-mask = record { gives-none = refl; formed = formed-by _ (ap (λ (p : Bool). not p || false || false) none-permitted) refl refl }
+quiet-take-mask = record { gives-none = refl; formed = formed-by _ refl refl refl }
 
 pub quiet-take-y : Quiet takeY
-unfolding fits wrongKind wrongSource lacksTag wrongTag idleAccess wrongPass wrongLogic
-quiet-take-y = record { gives-none = refl; formed = formed-by _ (ap (λ (p : Bool). not p || false || false) none-permitted) refl refl }
+quiet-take-y = record { gives-none = refl; formed = formed-by _ refl refl refl }
 
 pub quiet-store-x : (g : ℕ) → Quiet (storeAt 2 g)
-unfolding fits wrongKind wrongSource lacksTag wrongTag idleAccess wrongPass wrongLogic
-quiet-store-x g = record { gives-none = refl; formed = formed-by _ (ap (λ (p : Bool). not p || false || false) none-permitted) refl refl }
+quiet-store-x g = record { gives-none = refl; formed = formed-by _ refl refl refl }
 
 pub quiet-store-masked : (f g : ℕ) → Quiet (storeMasked f g)
-unfolding fits wrongKind wrongSource lacksTag wrongTag idleAccess wrongPass wrongLogic
-quiet-store-masked f g = record { gives-none = refl; formed = formed-by _ (ap (λ (p : Bool). not p || false || false) none-permitted) refl refl }
+quiet-store-masked f g = record { gives-none = refl; formed = formed-by _ refl refl refl }
 
 pub quiet-take-further : (t g : ℕ) → t < 8 → Quiet (takeFurther t g)
-unfolding fits wrongKind wrongSource lacksTag wrongTag idleAccess wrongPass wrongLogic
 quiet-take-further t g h =
-    record { gives-none = refl; formed = formed-by _ (ap (λ (p : Bool). not p || false || false) (pair-permitted 8 t h (omega arith))) refl refl }
+    record { gives-none = refl; formed = formed-by (takeFurther t g) (shift-passes (takeFurther t g) refl refl (pair-permitted 8 t h (omega arith))) refl refl }
 
 pub quiet-shift-masked : (t : ℕ) → t < 8 → Quiet (shiftMasked t)
-unfolding fits wrongKind wrongSource lacksTag wrongTag idleAccess wrongPass wrongLogic
 quiet-shift-masked t h =
-    record { gives-none = refl; formed = formed-by _ (ap (λ (p : Bool). not p || false || false) (pair-permitted 8 t h (omega arith))) refl refl }
+    record { gives-none = refl; formed = formed-by (shiftMasked t) (shift-passes (shiftMasked t) refl refl (pair-permitted 8 t h (omega arith))) refl refl }
 
 -- ---- where a line comes from
 

@@ -79,7 +79,7 @@ pub record AnyAt (P : ℕ → Type 0) (s t : State) : Type 0 where
   pub marks : (p : ℕ) → p < 256 → Mark (P p) (bitOf (t .regs .x) p)
 
 sliced : (k : ℕ) → k < 8 → Sliced (orFlip k)
-sliced k h = record { mode0 = refl; inside = omega arith; flips = pow-lt h; byte6 = omega arith; shifts = none-permitted }
+sliced k h = record { mode0 = refl; inside = omega arith; flips = pow-lt h; shifts = none-permitted }
 
 flip-at : (k : ℕ) → k < 8 → (items : List ℕ) (s : State) (p : ℕ) (v : Word) → p < 256 → At p s v
     → At p (acted (orFlip k) items s) (withX (functionBit 14 (v .x) (bitOf (s .regs .x) (bitXor p (2 ^ k)))) v)

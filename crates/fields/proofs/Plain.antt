@@ -1,12 +1,9 @@
 -- The instructions that lists on fields are made of are plain: logic from X, logic with a bit of every word, and the store of Y. Assumes nothing.
 use mathlib.Core.Path.{_≡_, refl, ap}
-use mathlib.Core.Bool.{Bool, false, not, _||_}
+use mathlib.Core.Bool.{false, not}
 use Prim.Native.Nat.{ℕ, _/_, _<_}
 use native.Mathlib.Omega.{arith}
 use lib.Dec.{ltb}
-use Rattle.network.proofs.TableRules.{none-permitted}
-use Rattle.judge.specs.Judge.{wrongKind, wrongSource, lacksTag, wrongTag, idleAccess, wrongPass, wrongLogic}
-use Rattle.judge.specs.Steps.{fits}
 use Rattle.judge.proofs.FormLaws.{formed-by}
 use Rattle.builders.specs.Lists.{logicFrom, logicAt, storeAt}
 use Rattle.fields.specs.Line.{Local}
@@ -17,31 +14,28 @@ local k s t g l h = record { mode0 = refl; flip0 = refl; code0 = refl; inside = 
 
 module _ (t : ℕ) (choice : ltb 4 (t / 16) ≡ false) where
   pub plain-from : Plain (logicFrom 2 t)
-  unfolding fits wrongKind wrongSource lacksTag wrongTag idleAccess wrongPass wrongLogic
   plain-from =
       record {
         local = local 0 2 0 0 t (omega arith);
         takes-none = refl;
         gives-none = refl;
-        formed = formed-by _ (ap (λ (p : Bool). not p || false || false) none-permitted) (ap (λ (c : Bool). c || false) choice) refl;
+        formed = formed-by _ refl (ap not choice) refl;
       }
 
   pub plain-at : (g : ℕ) → g < 256 → Plain (logicAt g t)
-  unfolding fits wrongKind wrongSource lacksTag wrongTag idleAccess wrongPass wrongLogic
   plain-at g h =
       record {
         local = local 0 0 1 g t h;
         takes-none = refl;
         gives-none = refl;
-        formed = formed-by _ (ap (λ (p : Bool). not p || false || false) none-permitted) (ap (λ (c : Bool). c || false) choice) refl;
+        formed = formed-by _ refl (ap not choice) refl;
       }
 
 pub plain-store : (g : ℕ) → g < 256 → Plain (storeAt 3 g)
-unfolding fits wrongKind wrongSource lacksTag wrongTag idleAccess wrongPass wrongLogic
 plain-store g h =
     record {
       local = local 2 3 1 g 0 h;
       takes-none = refl;
       gives-none = refl;
-      formed = formed-by _ (ap (λ (p : Bool). not p || false || false) none-permitted) refl refl;
+      formed = formed-by _ refl refl refl;
     }

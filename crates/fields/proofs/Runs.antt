@@ -33,14 +33,14 @@ use Rattle.fields.proofs.LineLaws.{ran-folded}
 -- An instruction that gives nothing and that no row refuses.
 pub record Quiet (i : Instruction) : Type 0 where
   pub gives-none : gives i ≡ false
-  pub formed : faultOf i ≡ 0
+  pub formed : faultOf i .number ≡ 0
 
 -- One that also keeps to its line and takes nothing.
 pub record Plain (i : Instruction) : Type 0 where
   pub local : Local i
   pub takes-none : takes i ≡ false
   pub gives-none : gives i ≡ false
-  pub formed : faultOf i ≡ 0
+  pub formed : faultOf i .number ≡ 0
 
 pub plain-quiet : (i : Instruction) → Plain i → Quiet i
 plain-quiet i h = record { gives-none = h .gives-none; formed = h .formed }
@@ -81,7 +81,7 @@ leftBy lent s steps taken =
       memory = s .mem;
       registers = bytesOf (s .regs);
       out = lent .out;
-      answer = record { number = 0; place = 0; steps = steps; taken = taken; given = 0 };
+      answer = record { number = 0; place = 0; byte = 0; steps = steps; taken = taken; given = 0 };
     }
 
 -- nothing is put out
@@ -110,13 +110,13 @@ module _ (l : List Instruction) (quiet : Each Quiet l) (few : length l ≤ 4096)
 
   -- number 0, as many steps as instructions, as many taken as take one, and nothing given
   pub judged-quiet : (lengths : Lengths) → lengths .memory ≡ 8192 → lengths .registers ≡ 96 → unfit 32 (lengths .items) ≡ false → 32 * takenBy l ≤ lengths .items
-      → judged lengths (encoded l) ≡ record { number = 0; place = 0; steps = length l; taken = takenBy l; given = 0 }
+      → judged lengths (encoded l) ≡ record { number = 0; place = 0; byte = 0; steps = length l; taken = takenBy l; given = 0 }
   judged-quiet lengths hm hr hi enough =
       run-of lengths (encoded l) hm hr (fits 8 (length (encoded l)) (omega (arith, length-encoded l)) (omega (arith, length-encoded l))) hi
       (λ j h. quiet-at j h .formed)
       (λ j h t. let c = count-beyond (λ k. takes (instructionAt (encoded l) k)) j (length (encoded l) / 8) h t in omega (arith, taken-all))
       (λ j h t. absurd (true≢false (sym t ∙ quiet-at j h .gives-none)))
-      ∙ (λ t. record { number = 0; place = 0; steps = eighth t; taken = taken-all t; given = no-room t })
+      ∙ (λ t. record { number = 0; place = 0; byte = 0; steps = eighth t; taken = taken-all t; given = no-room t })
     where
       no-room : count (λ k. gives (instructionAt (encoded l) k)) (length (encoded l) / 8) ≡ 0
       no-room = count-none (λ k. gives (instructionAt (encoded l) k)) (length (encoded l) / 8) (λ k h. quiet-at k h .gives-none)
@@ -128,7 +128,7 @@ module _ (l : List Instruction) (quiet : Each Quiet l) (few : length l ≤ 4096)
   ran-quiet lent hm hr hi enough =
       let start = begun lent (registersOf (lent .registers)) in
       let s = folded (λ i. acted i (lent .items)) l start in
-      let a : Answer = record { number = 0; place = 0; steps = length l; taken = takenBy l; given = 0 } in
+      let a : Answer = record { number = 0; place = 0; byte = 0; steps = length l; taken = takenBy l; given = 0 } in
       let given : Lent (List ℕ) = record { memory = lent .memory; registers = lent .registers; list = encoded l; items = lent .items; out = lent .out } in
       sym (ran-done given a (sym (judged-quiet (runLengths given) hm hr hi enough)) refl (registersOf (lent .registers)) s (bytesOf (s .regs)) refl
       (sym (ran-folded (encoded l) (lent .items) start (length (encoded l) / 8) ∙ ap (λ (z : List Instruction). folded (λ i. acted i (lent .items)) z start) back))

@@ -1,6 +1,6 @@
 -- Runs of the lists that mark the words equal to a number, and those less than it: their lists are quiet logic, and what a run leaves. Assumes nothing.
 use mathlib.Core.Path.{_≡_, refl, sym, ap, subst, subst₂, _∙_}
-use mathlib.Core.Bool.{Bool, true, false, cond, not, _||_}
+use mathlib.Core.Bool.{Bool, true, false, cond}
 use mathlib.Core.List.{List, [], _∷_, _++_}
 use mathlib.Core.Logic.{_↔_}
 use Prim.Native.Nat.{ℕ, _+_, _*_, _/_, _^_, _<_, _≤_}
@@ -11,11 +11,9 @@ use lib.ListN.{length, length-append}
 use Rattle.bits.specs.Bits.{digit, bitOf}
 use Rattle.bits.proofs.Binary.{digit-bit}
 use Rattle.bits.proofs.Items.{bitOf-bit, bitOf-pack}
-use Rattle.network.proofs.TableRules.{none-permitted}
 use Rattle.registers.specs.Rows.{registersOf}
 use Rattle.judge.specs.declared.Instruction.{Instruction}
-use Rattle.judge.specs.Judge.{unfit, takes, wrongKind, wrongSource, lacksTag, wrongTag, idleAccess, wrongPass, wrongLogic}
-use Rattle.judge.specs.Steps.{fits}
+use Rattle.judge.specs.Judge.{unfit, takes}
 use Rattle.judge.proofs.FormLaws.{formed-by}
 use Rattle.module.specs.Act.{State, acted}
 use Rattle.module.specs.Run.{Lent, begun}
@@ -58,12 +56,11 @@ fit-at : (t : ℕ) → ltb 4 (t / 16) ≡ false → (g : ℕ) → g < 256 → Fi
 fit-at t choice g h = fit-plain (logicAt g t) refl (plain-at t choice g h)
 
 fit-take : Fit takeY
-unfolding fits wrongKind wrongSource lacksTag wrongTag idleAccess wrongPass wrongLogic
 fit-take =
     record {
       logic = refl;
       local = local 0 4 0 0 26 (omega arith);
-      quiet = record { gives-none = refl; formed = formed-by takeY (ap (λ (p : Bool). not p || false || false) none-permitted) refl refl };
+      quiet = record { gives-none = refl; formed = formed-by takeY refl refl refl };
     }
 
 fit-started : (less : Bool) → Fit (started less)

@@ -38,7 +38,7 @@ shiftsIn (i ∷ l) = cond (eqb (i .code) 0) 0 1 + shiftsIn l
 
 -- What a run r leaves that closed up: c words are marked, and `which` says which of them is number 0, 1, 2 and so on.
 pub record Closed (a s n : ℕ) (marks : List ℕ) (c : ℕ) (which : Numbered (MarkedBy marks) 256 c) (lent : Lent (List ℕ)) (r : Left (List ℕ) Answer) : Type 0 where
-  pub done : r .answer ≡ record { number = 0; place = 0; steps = 10 + 19 * n; taken = 9; given = 0 }
+  pub done : r .answer ≡ record { number = 0; place = 0; byte = 0; steps = 10 + 19 * n; taken = 9; given = 0 }
   -- S of word k is the old A of marked word number k, and zero where there is none
   pub closed : (k : ℕ) → k < c → value (r .memory) k s n ≡ value (lent .memory) (which .nth k) a n
   pub zero : (k : ℕ) → c ≤ k → k < 256 → value (r .memory) k s n ≡ 0
@@ -51,7 +51,7 @@ pub record Closed (a s n : ℕ) (marks : List ℕ) (c : ℕ) (which : Numbered (
 
 -- And one that spread.
 pub record Spread (a s n : ℕ) (marks : List ℕ) (c : ℕ) (which : Numbered (MarkedBy marks) 256 c) (lent : Lent (List ℕ)) (r : Left (List ℕ) Answer) : Type 0 where
-  pub done : r .answer ≡ record { number = 0; place = 0; steps = 1 + 18 * n; taken = 1 + 8 * n; given = 0 }
+  pub done : r .answer ≡ record { number = 0; place = 0; byte = 0; steps = 1 + 18 * n; taken = 1 + 8 * n; given = 0 }
   -- A of marked word number k is the old S of word k
   pub spread : (k : ℕ) → k < c → value (r .memory) (which .nth k) a n ≡ value (lent .memory) k s n
   -- every other bit of the memory is as before: A of the words that are not marked, and S

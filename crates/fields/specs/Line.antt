@@ -37,7 +37,6 @@ pub record Sliced (i : Instruction) : Type 0 where
   pub mode0 : i .mode ≡ 0
   pub inside : i .addr < 256
   pub flips : i .flip < 256
-  pub byte6 : i .code < 256
   pub shifts : permitted (i .code) ≡ true
 
 -- An instruction that keeps to its line: mode 0, no flip and no shift.

@@ -48,7 +48,7 @@ Greatest a n lent w =
 
 -- What a run r leaves that was done in so many steps, took so many items, and marked exactly the words w with P w; `x` is what X holds afterwards, by Y.
 pub record Marks (steps taken : ℕ) (P : ℕ → Type 0) (x : List ℕ → List ℕ) (lent : Lent (List ℕ)) (r : Left (List ℕ) Answer) : Type 0 where
-  pub done : r .answer ≡ record { number = 0; place = 0; steps = steps; taken = taken; given = 0 }
+  pub done : r .answer ≡ record { number = 0; place = 0; byte = 0; steps = steps; taken = taken; given = 0 }
   -- Y is 1 at word w exactly where P w holds
   pub marks : (w : ℕ) → w < 256 → Marked (r .registers) w ↔ P w
   -- X is what is said, M and every byte of the memory are as before, and nothing is put out

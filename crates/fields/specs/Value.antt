@@ -33,7 +33,7 @@ pub record Bytes (l : List ℕ) (n : ℕ) : Type 0 where
 -- What a run r leaves that was done in so many steps and put the number t w into field S of each word w of what was lent.
 pub record Put (steps s n : ℕ) (t : ℕ → ℕ) (lent : Lent (List ℕ)) (r : Left (List ℕ) Answer) : Type 0 where
   -- it is done, with the list's count of steps, and nothing is taken or given
-  pub done : r .answer ≡ record { number = 0; place = 0; steps = steps; taken = 0; given = 0 }
+  pub done : r .answer ≡ record { number = 0; place = 0; byte = 0; steps = steps; taken = 0; given = 0 }
   -- in each word S is that number modulo 2^n, Y is the carry out, X is zero, and M is as before
   pub field : (w : ℕ) → w < 256 → value (r .memory) w s n ≡ t w % 2 ^ n
   pub carry : (w : ℕ) → w < 256 → bitOf (registersOf (r .registers) .y) w ≡ t w / 2 ^ n
@@ -63,7 +63,7 @@ differenceRun a b s n buffer = runOf (listOf (differenceBuilt a b s n buffer))
 
 -- What a run r′ leaves that took B off S into S, where a run r had put A plus B there in what was lent before both.
 pub record TakenOff (a b s n : ℕ) (lent : Lent (List ℕ)) (r r′ : Left (List ℕ) Answer) : Type 0 where
-  pub done : r′ .answer ≡ record { number = 0; place = 0; steps = 2 + 5 * n; taken = 0; given = 0 }
+  pub done : r′ .answer ≡ record { number = 0; place = 0; byte = 0; steps = 2 + 5 * n; taken = 0; given = 0 }
   -- in each word S is the old A, and Y is 1 exactly where no borrow was needed
   pub field : (w : ℕ) → w < 256 → value (r′ .memory) w s n ≡ value (lent .memory) w a n
   pub noBorrow : (w : ℕ) → w < 256 → (bitOf (registersOf (r′ .registers) .y) w ≡ 1) ↔ (value (r .memory) w b n ≤ value (r .memory) w s n)

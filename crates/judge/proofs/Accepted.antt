@@ -1,6 +1,6 @@
 -- What a run may rely on where the judge says done: an accepted list always finds its items and its room. Assumes nothing.
 use mathlib.Core.Path.{_≡_, refl, ap}
-use mathlib.Core.Bool.{Bool, true, false, cond, not, _&&_}
+use mathlib.Core.Bool.{Bool, true, false, cond, not, _&&_, _||_}
 use mathlib.Core.List.{List}
 use Prim.Native.Nat.{ℕ, zero, suc, _+_, _*_, _/_, _<_, _≤_}
 use native.Mathlib.Omega.{arith}
@@ -8,23 +8,20 @@ use lib.Dec.{eqb, ltb}
 use lib.ListN.{length}
 use borrow.Author.Tests.{eqb-true, eq-eqb, ne-eqb, ltb-false, not-false}
 use Rattle.bits.specs.Rows.{Row, numberOf, NoRow}
-use Rattle.bits.proofs.Rows.{none-number, number-none, row-off}
+use Rattle.bits.proofs.Rows.{row-off}
 use Rattle.bits.specs.Search.{count}
 use Rattle.network.specs.Shifts.{permitted}
+use Rattle.network.proofs.TableRules.{listed-none}
 use Rattle.judge.specs.declared.Instruction.{Instruction}
 use Rattle.judge.specs.declared.Lengths.{Lengths}
-use Rattle.judge.specs.Judge.{instructionAt, stores, takes, gives, wrongMemory, wrongRegisters, unfit, wrongKind, wrongSource, wrongPass, wrongLogic, runRows, stepRows, instructionRows, faultOf, refusal, done, orElse, judgedList, judgedBy, judged, judgedStep}
+use Rattle.judge.specs.Judge.{instructionAt, stores, takes, gives, wrongMemory, wrongRegisters, unfit, wrongKind, wrongSource, barredShift, wrongLogic, runRows, stepRows, instructionRows, faultOf, refusal, done, orElse, judgedList, judgedBy, judged, judgedStep}
 use Rattle.judge.specs.Steps.{Accepted}
 use Rattle.judge.specs.Numbers.{Served, Unrefused}
+use Rattle.judge.proofs.ByteRowLaws.{condition-off}
 use Rattle.judge.proofs.RowLaws.{or-none, and-none, fit-whole, fit-size}
-use Rattle.judge.proofs.Numbers.{done-is, unrefused}
+use Rattle.judge.proofs.Numbers.{unfaulted, done-is, unrefused}
 
 -- ---- what a list relies on, from what is not refused
-
--- no row holds of an instruction, as its number
-formed-none : (list : List ℕ) (k : ℕ) → NoRow (instructionRows (instructionAt list k)) → faultOf (instructionAt list k) ≡ 0
-unfolding faultOf
-formed-none list k r = none-number (instructionRows (instructionAt list k)) r
 
 module _ (rows : List Row) (l : Lengths) (list : List ℕ) (memory : l .memory ≡ 8192) (fit : unfit 8 (length list) ≡ false) where
   accepted : Unrefused rows l list → Accepted l list
@@ -33,7 +30,7 @@ module _ (rows : List Row) (l : Lengths) (list : List ℕ) (memory : l .memory �
         memory = memory;
         whole = fit-whole 8 (length list) fit;
         size = fit-size 8 (length list) fit;
-        formed = λ k h. formed-none list k (a .formed k h);
+        formed = λ k h. unfaulted (instructionAt list k) .1 (a .formed k h);
         supplied = a .items;
         roomy = a .room;
       }
@@ -64,7 +61,7 @@ module _ (l : Lengths) (list : List ℕ) where
 
   -- and the other way: a list of which all this holds is done
   pub run-of : l .memory ≡ 8192 → l .registers ≡ 96 → unfit 8 (length list) ≡ false → unfit 32 (l .items) ≡ false
-      → ((k : ℕ) → k < length list / 8 → faultOf (instructionAt list k) ≡ 0)
+      → ((k : ℕ) → k < length list / 8 → faultOf (instructionAt list k) .number ≡ 0)
       → Served takes list (l .items) (length list / 8) → Served gives list (l .out) (length list / 8)
       → judged l list ≡ done list
   unfolding faultOf
@@ -72,7 +69,7 @@ module _ (l : Lengths) (list : List ℕ) where
       done-is (runRows l list) l list
       (record {
         lent = (ap (λ (n : ℕ). wrongMemory n) m, (ap (λ (n : ℕ). wrongRegisters n) r, (fit, (items, tt))));
-        formed = λ k h. number-none (instructionRows (instructionAt list k)) refl (formed k h);
+        formed = λ k h. unfaulted (instructionAt list k) .0 (formed k h);
         items = supplied;
         room = roomy;
       })
@@ -92,10 +89,10 @@ module _ (l : Lengths) (instruction : List ℕ) where
   step-as-run r h =
       let same : numberOf (stepRows l instruction) ≡ numberOf (runRows l instruction) =
       simp (eq-eqb (length instruction) 8 h, eq-eqb (l .registers) 96 r, ap (unfit 8) h) in
-      ap (λ (n : ℕ). orElse (refusal n 0) (judgedList l instruction)) same
+      ap (λ (n : ℕ). orElse (refusal n 0 0) (judgedList l instruction)) same
 
   -- one of another length is 3, after 1
-  pub step-unlike : l .memory ≡ 8192 → (length instruction ≡ 8 → ⊥) → judgedStep l instruction ≡ refusal 3 0
+  pub step-unlike : l .memory ≡ 8192 → (length instruction ≡ 8 → ⊥) → judgedStep l instruction ≡ refusal 3 0 0
   unfolding judgedBy
   step-unlike e u = simp (eq-eqb (l .memory) 8192 e, ne-eqb (length instruction) 8 u)
 
@@ -139,17 +136,16 @@ pub record WellFormed (i : Instruction) : Type 0 where
   pub unshifted : stores i ≡ true → i .code ≡ 0
   pub logic : i .kind ≡ 0 → i .logic < 80
 
-pub well-formed : (i : Instruction) → faultOf i ≡ 0 → WellFormed i
-unfolding faultOf wrongKind wrongSource wrongPass wrongLogic
+pub well-formed : (i : Instruction) → faultOf i .number ≡ 0 → WellFormed i
+unfolding wrongKind wrongSource barredShift wrongLogic
 well-formed i e =
-    let off = row-off (instructionRows i) (number-none (instructionRows i) refl e) in
-    let pass = or-none (not (permitted (i .code))) (stores i && not (eqb (i .code) 0)) (or-none _ _ (off 10) .0) in
+    let off = condition-off (instructionRows i) (unfaulted i .0 e) in
     record {
-      kind = ltb-false 5 (i .kind) (off 5);
-      source = ltb-false 4 (i .source) (or-none _ _ (or-none _ _ (off 6) .0) .0);
-      code = not-false (permitted (i .code)) (pass .0);
-      unshifted = λ t. eqb-true (i .code) 0 (not-false (eqb (i .code) 0) (and-none (stores i) (not (eqb (i .code) 0)) (pass .1) t));
-      logic = λ z. choice (i .kind) (i .logic) z (or-none _ _ (off 11) .0);
+      kind = ltb-false 5 (i .kind) (off 5 0);
+      source = ltb-false 4 (i .source) (or-none _ _ (or-none _ _ (off 6 1) .0) .0);
+      code = listed-none (i .code) .0 (off 16 6, (off 17 6, tt));
+      unshifted = λ t. eqb-true (i .code) 0 (not-false (eqb (i .code) 0) (and-none _ _ (off 18 6) (ap (λ (b : Bool). b || eqb (i .kind) 5) t)));
+      logic = λ z. choice (i .kind) (i .logic) z (or-none _ _ (off 11 7) .0);
     }
   where
     choice : (k l : ℕ) → k ≡ 0 → (eqb k 0 && ltb 4 (l / 16)) ≡ false → l < 80

@@ -1,5 +1,6 @@
 -- Laws of the definitions in specs/, for the proofs of this crate and of those above it.
 pub mod RowLaws
+pub mod ByteRowLaws
 pub mod FormLaws
 pub mod Numbers
 pub mod Accepted

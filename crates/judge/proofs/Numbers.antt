@@ -1,6 +1,6 @@
 -- Document 01, Numbers given back: when each number is given, both ways, for any rows that judge what is lent, so for a run and for a step alike. Assumes nothing.
 use mathlib.Core.Path.{_≡_, refl, sym, ap, subst, _∙_}
-use mathlib.Core.Bool.{Bool, true, false, cond, not, _&&_}
+use mathlib.Core.Bool.{Bool, true, false, not, _&&_, true≢false}
 use mathlib.Core.List.{List}
 use mathlib.Core.Logic.{_↔_}
 use Prim.Native.Nat.{ℕ, _+_, _*_, _/_, _<_, _≤_}
@@ -9,43 +9,53 @@ use native.Mathlib.Omega.{arith}
 use lib.Dec.{eqb, ltb}
 use lib.ListN.{length}
 use borrow.Author.Tests.{eqb-true, eqb-false, eq-eqb, ne-eqb, ltb-true, ltb-false, lt-ltb, le-ltb, not-true, not-false}
-use Rattle.bits.specs.Rows.{Row, numberOf, NoRow, FirstRow}
-use Rattle.bits.proofs.Rows.{numbered, none-number, number-none, first-number, number-first, number-high}
+use Rattle.bits.specs.Rows.{Row, numberOf, NoRow}
+use Rattle.bits.proofs.Rows.{numbered, none-number, number-none, first-number, number-first, among, first-among}
 use Rattle.bits.specs.Search.{first, count}
 use Rattle.bits.proofs.Search.{NoneBelow, found, found-none, found-at, none-found}
 use Rattle.judge.specs.declared.Instruction.{Instruction}
 use Rattle.judge.specs.declared.Lengths.{Lengths}
+use Rattle.judge.specs.declared.Fault.{Fault}
 use Rattle.judge.specs.declared.Answer.{Answer}
+use Rattle.judge.specs.ByteRows.{NoByteRow, FirstByteRow, InOrder}
 use Rattle.judge.specs.Judge.{instructionAt, takes, gives, lacks, instructionRows, faultOf, faulty, refusal, judgedAlone, done, judgedNeeds, judgedList, judgedBy}
 use Rattle.judge.specs.Numbers.{Gives, Formed, Has, Served, Lacks, Refused, by-lent, by-instruction, by-item, by-room, Unrefused}
+use Rattle.judge.proofs.ByteRowLaws as laws
 use Rattle.judge.proofs.RowLaws.{and-none, and-both, both-and}
 
 -- ---- tests and facts
 
-fault-none : (list : List ℕ) (j : ℕ) → faulty list j ≡ false → NoRow (instructionRows (instructionAt list j))
+-- the conditions of each row stand in the order of the bytes
+pub in-order : (i : Instruction) → InOrder (instructionRows i)
+in-order i = laws.in-order (instructionRows i) refl
+
+-- an instruction has no number exactly if no row holds of it
+pub unfaulted : (i : Instruction) → (faultOf i .number ≡ 0) ↔ NoByteRow (instructionRows i)
 unfolding faultOf
+unfaulted i = (laws.fault-none (instructionRows i) refl, λ r. ap (λ (f : Fault). f .number) (laws.none-fault (instructionRows i) r))
+
+fault-none : (list : List ℕ) (j : ℕ) → faulty list j ≡ false → NoByteRow (instructionRows (instructionAt list j))
 fault-none list j e =
-    number-none (instructionRows (instructionAt list j)) refl
-    (eqb-true (faultOf (instructionAt list j)) 0 (not-false (eqb (faultOf (instructionAt list j)) 0) e))
+    let i = instructionAt list j in
+    unfaulted i .0 (eqb-true (faultOf i .number) 0 (not-false (eqb (faultOf i .number) 0) e))
 
-none-fault : (list : List ℕ) (j : ℕ) → NoRow (instructionRows (instructionAt list j)) → faulty list j ≡ false
+none-fault : (list : List ℕ) (j : ℕ) → NoByteRow (instructionRows (instructionAt list j)) → faulty list j ≡ false
+none-fault list j r = ap not (eq-eqb (faultOf (instructionAt list j) .number) 0 (unfaulted (instructionAt list j) .1 r))
+
+fault-first : (i : Instruction) → (faultOf i .number ≡ 0 → ⊥) → FirstByteRow (instructionRows i) (faultOf i .number) (faultOf i .byte)
 unfolding faultOf
-none-fault list j r = ap not (eq-eqb (faultOf (instructionAt list j)) 0 (none-number (instructionRows (instructionAt list j)) r))
+fault-first i u = laws.fault-first (instructionRows i) u
 
-fault-first : (i : Instruction) → (faultOf i ≡ 0 → ⊥) → FirstRow (instructionRows i) (faultOf i)
+pub first-fault : (i : Instruction) (n b : ℕ) → FirstByteRow (instructionRows i) n b → faultOf i ≡ record { number = n; byte = b }
 unfolding faultOf
-fault-first i u = number-first (instructionRows i) (faultOf i) u refl
+first-fault i n b f = laws.first-fault (instructionRows i) n b f
 
-pub first-fault : (i : Instruction) (n : ℕ) → FirstRow (instructionRows i) n → faultOf i ≡ n
+pub fault-high : (i : Instruction) → (faultOf i .number ≤ 18) × (faultOf i .byte ≤ 7)
 unfolding faultOf
-first-fault i n f = first-number (instructionRows i) n f
+fault-high i = laws.fault-high 18 7 (instructionRows i) refl
 
-pub fault-high : (i : Instruction) → faultOf i ≤ 11
-unfolding faultOf
-fault-high i = number-high 11 (instructionRows i) refl
-
-some-fault : (list : List ℕ) (k : ℕ) → faulty list k ≡ true → faultOf (instructionAt list k) ≡ 0 → ⊥
-some-fault list k t = eqb-false (faultOf (instructionAt list k)) 0 (not-true (eqb (faultOf (instructionAt list k)) 0) t)
+some-fault : (list : List ℕ) (k : ℕ) → faulty list k ≡ true → faultOf (instructionAt list k) .number ≡ 0 → ⊥
+some-fault list k t = eqb-false (faultOf (instructionAt list k) .number) 0 (not-true (eqb (faultOf (instructionAt list k) .number) 0) t)
 
 pub has-it : (wants : Instruction → Bool) (list : List ℕ) (have j : ℕ) → lacks wants list have j ≡ false → Has wants list have j
 has-it wants list have j e w =
@@ -71,6 +81,10 @@ it-lacks wants list have k l =
 
 -- ---- the list's answer, by what the three searches find
 
+-- the refusal of instruction k
+abbrev pub refusedAt : List ℕ → ℕ → Answer
+refusedAt list k = let f = faultOf (instructionAt list k) in refusal (f .number) k (f .byte)
+
 module _ (l : Lengths) (list : List ℕ) where
   abbrev size : ℕ
   size = length list / 8
@@ -84,18 +98,18 @@ module _ (l : Lengths) (list : List ℕ) where
   abbrev pub roomAt : ℕ
   roomAt = first (lacks gives list (l .out)) 0 size
 
-  pub list-bad : badAt < size → judgedList l list ≡ refusal (faultOf (instructionAt list badAt)) badAt
+  pub list-bad : badAt < size → judgedList l list ≡ refusedAt list badAt
   unfolding judgedAlone
   list-bad h =
-      simp (lt-ltb badAt size h, ne-eqb (faultOf (instructionAt list badAt)) 0 (some-fault list badAt (found-at (faulty list) size h)))
+      simp (lt-ltb badAt size h, ne-eqb (faultOf (instructionAt list badAt) .number) 0 (some-fault list badAt (found-at (faulty list) size h)))
 
   module _ (formed : size ≤ badAt) where
-    pub list-item : itemAt < size → judgedList l list ≡ refusal 12 itemAt
+    pub list-item : itemAt < size → judgedList l list ≡ refusal 12 itemAt 0
     unfolding judgedAlone judgedNeeds
     list-item h = simp (le-ltb badAt size formed, lt-ltb itemAt size h)
 
     module _ (supplied : size ≤ itemAt) where
-      pub list-room : roomAt < size → judgedList l list ≡ refusal 13 roomAt
+      pub list-room : roomAt < size → judgedList l list ≡ refusal 13 roomAt 0
       unfolding judgedAlone judgedNeeds
       list-room h = simp (le-ltb badAt size formed, le-ltb itemAt size supplied, lt-ltb roomAt size h)
 
@@ -121,36 +135,36 @@ module _ (rows : List Row) (l : Lengths) (list : List ℕ) where
 
   -- an answer and why it is given
   pub data Outcome : Answer → Type 0 where
-    refused : (n k : ℕ) → (n ≡ 0 → ⊥) → Refused rows l list n k → Outcome (refusal n k)
+    refused : (n k b : ℕ) → (n ≡ 0 → ⊥) → Refused rows l list n k b → Outcome (refusal n k b)
     accepted : Unrefused rows l list → Outcome (done list)
 
   lent-none : NoRow rows → answer ≡ judgedList l list
   unfolding judgedBy
   lent-none r = simp (eq-eqb (numberOf rows) 0 (none-number rows r))
 
-  lent-first : (numberOf rows ≡ 0 → ⊥) → answer ≡ refusal (numberOf rows) 0
+  lent-first : (numberOf rows ≡ 0 → ⊥) → answer ≡ refusal (numberOf rows) 0 0
   unfolding judgedBy
   lent-first u = simp (ne-eqb (numberOf rows) 0 u)
 
   -- one whose reason holds is the answer
-  pub refused-is : (n k : ℕ) → (n ≡ 0 → ⊥) → Refused rows l list n k → answer ≡ refusal n k
-  refused-is n k u (by-lent m f) =
+  pub refused-is : (n k b : ℕ) → (n ≡ 0 → ⊥) → Refused rows l list n k b → answer ≡ refusal n k b
+  refused-is n k b u (by-lent m f) =
       let e = first-number rows m f in
-      lent-first (λ z. u (sym e ∙ z)) ∙ ap (λ (x : ℕ). refusal x 0) e
-  refused-is n k u (by-instruction m p r h o f) =
-      let q = first-fault (instructionAt list p) m f in
-      let t : faulty list p ≡ true = ap not (ne-eqb (faultOf (instructionAt list p)) 0 (λ z. u (sym q ∙ z))) in
-      let e = found (faulty list) many p h (λ j b. none-fault list j (o j b)) t in
-      lent-none r ∙ list-bad l list (omega arith) ∙ ap (λ (x : ℕ). refusal (faultOf (instructionAt list x)) x) (sym e) ∙ ap (λ (x : ℕ). refusal x p) q
-  refused-is n k u (by-item p r f h o t) =
+      lent-first (λ z. u (sym e ∙ z)) ∙ ap (λ (x : ℕ). refusal x 0 0) e
+  refused-is n k b u (by-instruction m p c r h o f) =
+      let q = first-fault (instructionAt list p) m c f in
+      let t : faulty list p ≡ true = ap not (ne-eqb (faultOf (instructionAt list p) .number) 0 (λ z. u (sym (ap (λ (x : Fault). x .number) q) ∙ z))) in
+      let e = found (faulty list) many p h (λ j l. none-fault list j (o j l)) t in
+      lent-none r ∙ list-bad l list (omega arith) ∙ ap (refusedAt list) (sym e) ∙ ap (λ (x : Fault). refusal (x .number) p (x .byte)) q
+  refused-is n k b u (by-item p r f h o t) =
       let e = found (lacks takes list (l .items)) many p h (λ j m. it-has takes list (l .items) j (o j m)) (it-lacks takes list (l .items) p t) in
-      lent-none r ∙ list-item l list (all-below (faulty list) many (λ j m. none-fault list j (f j m))) (omega arith) ∙ ap (refusal 12) (sym e)
-  refused-is n k u (by-room p r f s h o t) =
+      lent-none r ∙ list-item l list (all-below (faulty list) many (λ j m. none-fault list j (f j m))) (omega arith) ∙ ap (λ (x : ℕ). refusal 12 x 0) (sym e)
+  refused-is n k b u (by-room p r f s h o t) =
       let e = found (lacks gives list (l .out)) many p h (λ j m. it-has gives list (l .out) j (o j m)) (it-lacks gives list (l .out) p t) in
       lent-none r
       ∙ list-room l list (all-below (faulty list) many (λ j m. none-fault list j (f j m)))
       (all-below (lacks takes list (l .items)) many (λ j m. it-has takes list (l .items) j (s j m))) (omega arith)
-      ∙ ap (refusal 13) (sym e)
+      ∙ ap (λ (x : ℕ). refusal 13 x 0) (sym e)
 
   pub done-is : Unrefused rows l list → answer ≡ done list
   done-is a =
@@ -166,7 +180,7 @@ module _ (rows : List Row) (l : Lengths) (list : List ℕ) where
         let h = ltb-true (roomAt l list) many t in
         let why = by-room (roomAt l list) r f s h (λ j m. has-it gives list (l .out) j (none-found (lacks gives list (l .out)) many j m))
         (lacks-it gives list (l .out) (roomAt l list) (found-at (lacks gives list (l .out)) many h)) in
-        subst Outcome (sym (refused-is 13 (roomAt l list) (λ z. omega arith) why)) (refused 13 (roomAt l list) (λ z. omega arith) why)
+        subst Outcome (sym (refused-is 13 (roomAt l list) 0 (λ z. omega arith) why)) (refused 13 (roomAt l list) 0 (λ z. omega arith) why)
     room-outcome r f s false t =
         let n = none-to (lacks gives list (l .out)) many (ltb-false (roomAt l list) many t) in
         let why : Unrefused rows l list = record { lent = r; formed = f; items = s; room = λ j m. has-it gives list (l .out) j (n j m) } in
@@ -177,7 +191,7 @@ module _ (rows : List Row) (l : Lengths) (list : List ℕ) where
         let h = ltb-true (itemAt l list) many t in
         let why = by-item (itemAt l list) r f h (λ j m. has-it takes list (l .items) j (none-found (lacks takes list (l .items)) many j m))
         (lacks-it takes list (l .items) (itemAt l list) (found-at (lacks takes list (l .items)) many h)) in
-        subst Outcome (sym (refused-is 12 (itemAt l list) (λ z. omega arith) why)) (refused 12 (itemAt l list) (λ z. omega arith) why)
+        subst Outcome (sym (refused-is 12 (itemAt l list) 0 (λ z. omega arith) why)) (refused 12 (itemAt l list) 0 (λ z. omega arith) why)
     item-outcome r f false t =
         let n = none-to (lacks takes list (l .items)) many (ltb-false (itemAt l list) many t) in
         room-outcome r f (λ j m. has-it takes list (l .items) j (n j m)) (ltb (roomAt l list) many) refl
@@ -186,9 +200,9 @@ module _ (rows : List Row) (l : Lengths) (list : List ℕ) where
     instruction-outcome r true t =
         let h = ltb-true (badAt l list) many t in
         let u = some-fault list (badAt l list) (found-at (faulty list) many h) in
-        let n = faultOf (instructionAt list (badAt l list)) in
-        let why = by-instruction n (badAt l list) r h (λ j m. fault-none list j (none-found (faulty list) many j m)) (fault-first (instructionAt list (badAt l list)) u) in
-        subst Outcome (sym (refused-is n (badAt l list) u why)) (refused n (badAt l list) u why)
+        let i = instructionAt list (badAt l list) in
+        let why = by-instruction (faultOf i .number) (badAt l list) (faultOf i .byte) r h (λ j m. fault-none list j (none-found (faulty list) many j m)) (fault-first i u) in
+        subst Outcome (sym (refused-is (faultOf i .number) (badAt l list) (faultOf i .byte) u why)) (refused (faultOf i .number) (badAt l list) (faultOf i .byte) u why)
     instruction-outcome r false t =
         let n = none-to (faulty list) many (ltb-false (badAt l list) many t) in
         item-outcome r (λ j m. fault-none list j (n j m)) (ltb (itemAt l list) many) refl
@@ -200,31 +214,48 @@ module _ (rows : List Row) (l : Lengths) (list : List ℕ) where
         go (yes z) = instruction-outcome (number-none rows apart z) (ltb (badAt l list) many) refl
         go (no u) =
             let why = by-lent (numberOf rows) (number-first rows (numberOf rows) u refl) in
-            subst Outcome (sym (refused-is (numberOf rows) 0 u why)) (refused (numberOf rows) 0 u why)
+            subst Outcome (sym (refused-is (numberOf rows) 0 0 u why)) (refused (numberOf rows) 0 0 u why)
 
     -- ---- both ways
 
-    refused-given : (a : Answer) → Outcome a → (n k : ℕ) → (n ≡ 0 → ⊥) → Gives a n k → Refused rows l list n k
-    refused-given a (refused m j v why) n k u (en, ek) = subst (λ (x : ℕ). Refused rows l list x k) en (subst (Refused rows l list m) ek why)
-    refused-given a (accepted why) n k u (en, ek) = absurd (u (sym en))
+    refused-given : (a : Answer) → Outcome a → (n k b : ℕ) → (n ≡ 0 → ⊥) → Gives a n k b → Refused rows l list n k b
+    refused-given a (refused m j c v why) n k b u (en, ek, eb) =
+        subst (λ (x : ℕ). Refused rows l list x k b) en (subst (λ (x : ℕ). Refused rows l list m x b) ek (subst (Refused rows l list m j) eb why))
+    refused-given a (accepted why) n k b u (en, ek, eb) = absurd (u (sym en))
 
-    pub refusals : (n k : ℕ) → (n ≡ 0 → ⊥) → Gives answer n k ↔ Refused rows l list n k
-    refusals n k u = (
-      refused-given answer outcome n k u,
-      λ why. let e = refused-is n k u why in (ap (λ (a : Answer). a .number) e, ap (λ (a : Answer). a .place) e),
+    pub refusals : (n k b : ℕ) → (n ≡ 0 → ⊥) → Gives answer n k b ↔ Refused rows l list n k b
+    refusals n k b u = (
+      refused-given answer outcome n k b u,
+      λ why. let e = refused-is n k b u why in (ap (λ (a : Answer). a .number) e, ap (λ (a : Answer). a .place) e, ap (λ (a : Answer). a .byte) e),
     )
 
     done-given : (a : Answer) → Outcome a → a .number ≡ 0 → Unrefused rows l list
-    done-given a (refused m j v why) z = absurd (v z)
+    done-given a (refused m j c v why) z = absurd (v z)
     done-given a (accepted why) z = why
 
     pub unrefused : (answer .number ≡ 0) ↔ Unrefused rows l list
     unrefused = (done-given answer outcome, λ why. ap (λ (a : Answer). a .number) (done-is why))
 
+    -- "Number 10 is split and no longer given": no table has it
+    no-reason : (n k b : ℕ) → Refused rows l list n k b → among 10 rows ≡ false → n ≡ 10 → ⊥
+    no-reason n k b (by-lent m f) off e = true≢false (sym (first-among rows m f) ∙ ap (λ (x : ℕ). among x rows) e ∙ off)
+    no-reason n k b (by-instruction m p c r h o f) off e =
+        let table = instructionRows (instructionAt list p) in
+        true≢false (sym (laws.first-among-heads table m c f) ∙ ap (λ (x : ℕ). among x (laws.heads table)) e)
+    no-reason n k b (by-item p r f h o t) off e = omega arith
+    no-reason n k b (by-room p r f s h o t) off e = omega arith
+
+    not-given : (a : Answer) → Outcome a → among 10 rows ≡ false → a .number ≡ 10 → ⊥
+    not-given a (refused n k b u why) off e = no-reason n k b why off e
+    not-given a (accepted why) off e = omega arith
+
+    pub never-10 : among 10 rows ≡ false → answer .number ≡ 10 → ⊥
+    never-10 = not-given answer outcome
+
     -- "A refusal has the last three 0."
-    counts-given : (a : Answer) → Outcome a → (a .number ≡ 0 → ⊥) → a ≡ refusal (a .number) (a .place)
-    counts-given a (refused m j v why) u = refl
+    counts-given : (a : Answer) → Outcome a → (a .number ≡ 0 → ⊥) → a ≡ refusal (a .number) (a .place) (a .byte)
+    counts-given a (refused m j c v why) u = refl
     counts-given a (accepted why) u = absurd (u refl)
 
-    pub refusal-counts : (answer .number ≡ 0 → ⊥) → answer ≡ refusal (answer .number) (answer .place)
+    pub refusal-counts : (answer .number ≡ 0 → ⊥) → answer ≡ refusal (answer .number) (answer .place) (answer .byte)
     refusal-counts = counts-given answer outcome

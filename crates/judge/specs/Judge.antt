@@ -1,15 +1,17 @@
--- Instructions, and the number that a run gives back, with its place and its counts. Document 01, Instructions and Numbers given back.
+-- Instructions, and the number that a run gives back, with its place, its byte and its counts. Document 01, Instructions and Numbers given back; document 02, Six.
 use mathlib.Core.Bool.{Bool, true, false, cond, not, _&&_, _||_}
-use mathlib.Core.List.{List, [], _∷_}
+use mathlib.Core.List.{List, [], _∷_, _++_}
 use Prim.Native.Nat.{ℕ, _+_, _*_, _/_, _%_}
 use lib.Dec.{eqb, ltb}
 use lib.ListN.{length, getD}
 use Rattle.bits.specs.Rows.{Row, row, numberOf}
 use Rattle.bits.specs.Search.{first, count}
-use Rattle.network.specs.Shifts.{permitted}
+use Rattle.network.specs.Unlisted.{codeRows}
 use Rattle.judge.specs.declared.Instruction.{Instruction}
 use Rattle.judge.specs.declared.Lengths.{Lengths}
+use Rattle.judge.specs.declared.Fault.{Fault}
 use Rattle.judge.specs.declared.Answer.{Answer}
+use Rattle.judge.specs.ByteRows.{ByteRow, byteRow, byte, faultIn, aboutByte}
 use Rattle.judge.specs.Kinds.{memoryBytes, registerBytes, mostBytes, logic, setM, store, maskedStore, deliver, resolve, inMemory, outside}
 
 -- ---- instructions
@@ -72,14 +74,16 @@ lacksTag i = touches i && eqb (i .tag) 0
 unfoldable pub wrongTag : Instruction → Bool
 wrongTag i = touches i && ltb 1 (i .tag)
 
--- "9: memory not touched and byte 2, 3 or 4 not 0."
-unfoldable pub idleAccess : Instruction → Bool
-idleAccess i = not (touches i) && (not (eqb (i .tag) 0) || not (eqb (i .mode) 0) || not (eqb (i .addr) 0))
+-- "9: memory not touched and byte 2, 3 or 4 not 0": of the value of one of these bytes.
+unfoldable pub idleAccess : Instruction → ℕ → Bool
+idleAccess i value = not (touches i) && not (eqb value 0)
 
--- "10: byte 6 is none of the 37; not 0 for kinds 2, 3; byte 5 or 6 not 0 for kind 5."
-unfoldable pub wrongPass : Instruction → Bool
-wrongPass i =
-    not (permitted (i .code)) || (stores i && not (eqb (i .code) 0)) || (eqb (i .kind) resolve && (not (eqb (i .flip) 0) || not (eqb (i .code) 0)))
+-- "18: a move this kind may not make (stores and resolve)": a flip of a resolve; a shift of a store or of a resolve.
+unfoldable pub barredFlip : Instruction → Bool
+barredFlip i = eqb (i .kind) resolve && not (eqb (i .flip) 0)
+
+unfoldable pub barredShift : Instruction → Bool
+barredShift i = (stores i || eqb (i .kind) resolve) && not (eqb (i .code) 0)
 
 -- "11: kind 0: choice over 4; other kinds: byte 7 not 0."
 unfoldable pub wrongLogic : Instruction → Bool
@@ -113,60 +117,62 @@ stepRows l instruction =
     ∷ row 4 (unfit 32 (l .items))
     ∷ []
 
--- "Then each instruction in turn, 5 to 11."
-abbrev pub instructionRows : Instruction → List Row
+-- "Then each instruction in turn": 5 to 9, then 18 and, of byte 6 by itself, 16 and 17, "in 10's place, in this order", then 11. Each condition stands with its byte.
+abbrev pub instructionRows : Instruction → List ByteRow
 instructionRows i =
-    row 5 (wrongKind i)
-    ∷ row 6 (wrongSource i)
-    ∷ row 7 (lacksTag i)
-    ∷ row 8 (wrongTag i)
-    ∷ row 9 (idleAccess i)
-    ∷ row 10 (wrongPass i)
-    ∷ row 11 (wrongLogic i)
-    ∷ []
+    byteRow 5 (byte 0 (wrongKind i) ∷ [])
+    ∷ byteRow 6 (byte 1 (wrongSource i) ∷ [])
+    ∷ byteRow 7 (byte 2 (lacksTag i) ∷ [])
+    ∷ byteRow 8 (byte 2 (wrongTag i) ∷ [])
+    ∷ byteRow 9 (byte 2 (idleAccess i (i .tag)) ∷ byte 3 (idleAccess i (i .mode)) ∷ byte 4 (idleAccess i (i .addr)) ∷ [])
+    ∷ byteRow 18 (byte 5 (barredFlip i) ∷ byte 6 (barredShift i) ∷ [])
+    ∷ (aboutByte 6 (codeRows (i .code)) ++ (byteRow 11 (byte 7 (wrongLogic i) ∷ []) ∷ []))
 
-unfoldable pub faultOf : Instruction → ℕ
-faultOf i = numberOf (instructionRows i)
+-- The number and the byte of an instruction: 0 and 0 where no row holds.
+unfoldable pub faultOf : Instruction → Fault
+faultOf i = faultIn (instructionRows i)
 
--- Instruction k has one of the numbers 5 to 11.
+-- Instruction k has a number.
 abbrev pub faulty : List ℕ → ℕ → Bool
-faulty list k = not (eqb (faultOf (instructionAt list k)) 0)
+faulty list k = not (eqb (faultOf (instructionAt list k) .number) 0)
 
 -- ---- the three judgements: each is an answer, with number 0 where it refuses nothing
 
--- "A refusal has the last three 0."
-abbrev pub refusal : ℕ → ℕ → Answer
-refusal n p = record { number = n; place = p; steps = 0; taken = 0; given = 0 }
+-- Number, place and byte. "A refusal has the last three 0."
+abbrev pub refusal : ℕ → ℕ → ℕ → Answer
+refusal n p b = record { number = n; place = p; byte = b; steps = 0; taken = 0; given = 0 }
 
--- Of what is lent: "1 to 4 (place 0)".
+-- Of what is lent: "1 to 4 (place 0)". The byte is 0 "for refusals without an instruction".
 abbrev pub judgedLent : List Row → Answer
-judgedLent rows = refusal (numberOf rows) 0
+judgedLent rows = refusal (numberOf rows) 0 0
 
--- Of the list by itself: "each instruction in turn, 5 to 11". "Place is the instruction's number". (Numbers from 0: docs/DECISIONS.md.)
+-- Of the list by itself: "each instruction in turn". "Place is the instruction's number". (Numbers from 0: docs/DECISIONS.md.)
 unfoldable pub judgedAlone : List ℕ → Answer
 judgedAlone list =
     let n = length list / 8 in
     let bad = first (faulty list) 0 n in
-    cond (ltb bad n) (refusal (faultOf (instructionAt list bad)) bad) (refusal 0 0)
+    let fault = faultOf (instructionAt list bad) in
+    cond (ltb bad n) (refusal (fault .number) bad (fault .byte)) (refusal 0 0 0)
 
--- "Done is 0, place 0; steps is the count of instructions, taken of source 4, given of kinds 4 and 5."
+-- "Done is 0, place 0", byte 0; "steps is the count of instructions, taken of source 4, given of kinds 4 and 5."
 abbrev pub done : List ℕ → Answer
 done list =
     record {
       number = 0;
       place = 0;
+      byte = 0;
       steps = length list / 8;
       taken = count (λ k. takes (instructionAt list k)) (length list / 8);
       given = count (λ k. gives (instructionAt list k)) (length list / 8);
     }
 
--- Of what it needs: "then 12; then 13". Place is, "for 12 and 13 the first that lacks its item or room".
+-- Of what it needs: "then 12; then 13". Place is, "for 12 and 13 the first that lacks its item or room"; the byte is 0.
 unfoldable pub judgedNeeds : Lengths → List ℕ → Answer
 judgedNeeds l list =
     let n = length list / 8 in
     let item = first (lacks takes list (l .items)) 0 n in
     let room = first (lacks gives list (l .out)) 0 n in
-    cond (ltb item n) (refusal 12 item) (cond (ltb room n) (refusal 13 room) (done list))
+    cond (ltb item n) (refusal 12 item 0) (cond (ltb room n) (refusal 13 room 0) (done list))
 
 -- ---- the order
 

@@ -9,15 +9,16 @@ use Rattle.bits.specs.Search.{count}
 use Rattle.judge.specs.declared.Instruction.{Instruction}
 use Rattle.judge.specs.declared.Lengths.{Lengths}
 use Rattle.judge.specs.declared.Answer.{Answer}
+use Rattle.judge.specs.ByteRows.{NoByteRow, FirstByteRow}
 use Rattle.judge.specs.Judge.{instructionAt, takes, gives, instructionRows}
 
--- Number n, at place k.
-abbrev pub Gives : Answer → ℕ → ℕ → Type 0
-Gives a n k = (a .number ≡ n) × (a .place ≡ k)
+-- Number n, at place k, for byte b.
+abbrev pub Gives : Answer → ℕ → ℕ → ℕ → Type 0
+Gives a n k b = (a .number ≡ n) × (a .place ≡ k) × (a .byte ≡ b)
 
--- None of the rows 5 to 11 holds at any instruction before k.
+-- No row holds at any instruction before k.
 abbrev pub Formed : List ℕ → ℕ → Type 0
-Formed list k = (j : ℕ) → j < k → NoRow (instructionRows (instructionAt list j))
+Formed list k = (j : ℕ) → j < k → NoByteRow (instructionRows (instructionAt list j))
 
 -- Instruction j has its item, or its room, in a buffer of `have` bytes: 32 beyond what those before it used.
 abbrev pub Has : (Instruction → Bool) → List ℕ → ℕ → ℕ → Type 0
@@ -31,19 +32,19 @@ Served wants list have k = (j : ℕ) → j < k → Has wants list have j
 abbrev pub Lacks : (Instruction → Bool) → List ℕ → ℕ → ℕ → Type 0
 Lacks wants list have k = (wants (instructionAt list k) ≡ true) × (have < 32 * count (λ i. wants (instructionAt list i)) k + 32)
 
--- When a list is refused with number n at place k, where `rows` judge what is lent. "Order: 1 to 4 (place 0); then each instruction in turn, 5 to 11; then 12; then 13."
-pub data Refused (rows : List Row) (l : Lengths) (list : List ℕ) : ℕ → ℕ → Type 0 where
+-- When a list is refused with number n at place k for byte b, where `rows` judge what is lent. "Order: 1 to 4 (place 0); then each instruction in turn ..; then 12; then 13." The byte "is 0 .. for refusals without an instruction and for 12 and 13".
+pub data Refused (rows : List Row) (l : Lengths) (list : List ℕ) : ℕ → ℕ → ℕ → Type 0 where
   -- row n of what is lent is the first that holds
-  by-lent : (n : ℕ) → FirstRow rows n → Refused rows l list n 0
-  -- nothing is wrong before instruction k, and row n of its table is the first that holds
-  by-instruction : (n k : ℕ) → NoRow rows → k < length list / 8 → Formed list k
-      → FirstRow (instructionRows (instructionAt list k)) n → Refused rows l list n k
+  by-lent : (n : ℕ) → FirstRow rows n → Refused rows l list n 0 0
+  -- nothing is wrong before instruction k, row n of its table is the first that holds, and byte b the first that is wrong by it
+  by-instruction : (n k b : ℕ) → NoRow rows → k < length list / 8 → Formed list k
+      → FirstByteRow (instructionRows (instructionAt list k)) n b → Refused rows l list n k b
   -- every instruction stands, and k is the first that lacks its item
   by-item : (k : ℕ) → NoRow rows → Formed list (length list / 8) → k < length list / 8
-      → Served takes list (l .items) k → Lacks takes list (l .items) k → Refused rows l list 12 k
+      → Served takes list (l .items) k → Lacks takes list (l .items) k → Refused rows l list 12 k 0
   -- every instruction stands and has its item, and k is the first that lacks its room
   by-room : (k : ℕ) → NoRow rows → Formed list (length list / 8) → Served takes list (l .items) (length list / 8) → k < length list / 8
-      → Served gives list (l .out) k → Lacks gives list (l .out) k → Refused rows l list 13 k
+      → Served gives list (l .out) k → Lacks gives list (l .out) k → Refused rows l list 13 k 0
 
 -- When it is not: no row holds anywhere, and every instruction has its item and its room.
 pub record Unrefused (rows : List Row) (l : Lengths) (list : List ℕ) : Type 0 where

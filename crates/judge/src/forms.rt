@@ -1,4 +1,4 @@
-// Has an instruction none of the numbers 5 to 11? Its bytes are read in the list, kind by kind, and the first that is wrong answers: every instruction of a
+// Has an instruction no number? Its bytes are read in the list, kind by kind, and the first that is wrong answers: every instruction of a
 // list that stands is asked this, and `rows::fault` makes the number of the one that is refused.
 use crate::kinds::LOGIC;
 use crate::kinds::MASKED_STORE;
@@ -7,12 +7,12 @@ use crate::kinds::OUTSIDE;
 use crate::kinds::RESOLVE;
 use crate::kinds::STORE;
 ghost use mathlib.Core.Path.{_≡_};
-ghost use mathlib.Core.Bool.{true, false, not};
+ghost use mathlib.Core.Bool.{true, false};
 ghost use Prim.Native.Nat.{_+_, _*_, _≤_};
 ghost use lib.Dec.{eqb};
 ghost use lib.ListN.{length};
-ghost use Rattle.judge.specs.Judge.{instructionAt, stores, wrongPass, faultOf};
-ghost use Rattle.judge.specs.Steps.{idle, fits};
+ghost use Rattle.judge.specs.Judge.{instructionAt, stores, faultOf};
+ghost use Rattle.judge.specs.Steps.{idle, fits, passes};
 
 // Are tag, mode and address 0?
 fn idle(list: &[u8], k: usize) -> bool
@@ -58,10 +58,10 @@ fn resolve_fits(list: &[u8], k: usize) -> bool
     (list[8 * k + 1] == 0) & idle(list, k)
 }
 
-// Row 10. Most instructions have no shift, which needs no search among the 37.
+// Rows 18, 16 and 17. Most instructions have no shift, which needs no search among the 37.
 fn pass_fits(list: &[u8], k: usize) -> bool
     requires { ⌜ 8 * k + 8 ≤ length (now list) ⌝ }
-    ensures { λ r. ⌜ r ≡ not (wrongPass (instructionAt (now (list .entry)) k)) ⌝ }
+    ensures { λ r. ⌜ r ≡ passes (instructionAt (now (list .entry)) k) ⌝ }
 {
     let at = 8 * k;
     let kind = list[at];
@@ -81,7 +81,7 @@ fn pass_fits(list: &[u8], k: usize) -> bool
 // The pass, byte 7, then the rest by kind.
 pub fn formed(list: &[u8], k: usize) -> bool
     requires { ⌜ 8 * k + 8 ≤ length (now list) ⌝ }
-    ensures { λ r. ⌜ r ≡ eqb (faultOf (instructionAt (now (list .entry)) k)) 0 ⌝ }
+    ensures { λ r. ⌜ r ≡ eqb (faultOf (instructionAt (now (list .entry)) k) .number) 0 ⌝ }
 {
     let at = 8 * k;
     let kind = list[at];

@@ -1,4 +1,4 @@
-// The judge: the number that a run gives back, with its place and its counts, from the lengths and the list alone. Document 01, Numbers given back.
+// The judge: the number that a run gives back, with its place, its byte and its counts, from the lengths and the list alone. Document 01, Numbers given back; document 02, Six.
 mod forms;
 pub mod kinds;
 pub mod rows;
@@ -39,10 +39,17 @@ pub struct Lengths {
     pub out: usize,
 }
 
+// What is wrong with an instruction: a number, 0 for nothing, and the first byte that is wrong by it.
+pub struct Fault {
+    pub number: u8,
+    pub byte: u8,
+}
+
 // What a run gives back.
 pub struct Answer {
     pub number: u8,
     pub place: usize,
+    pub byte: u8,
     pub steps: usize,
     pub taken: usize,
     pub given: usize,
@@ -100,19 +107,20 @@ fn step_fault(l: Lengths, instruction: &[u8]) -> u8
     number_or(!(l.memory == MEMORY_BYTES), 1, from3)
 }
 
-fn refused(number: u8, place: usize) -> Answer
-    ensures { λ r. ⌜ r ≡ refusal number place ⌝ }
+fn refused(number: u8, place: usize, byte: u8) -> Answer
+    ensures { λ r. ⌜ r ≡ refusal number place byte ⌝ }
 {
     Answer {
         number: number,
         place: place,
+        byte: byte,
         steps: 0,
         taken: 0,
         given: 0,
     }
 }
 
-// Each instruction in turn, 5 to 11; then 12; then 13. A list that stands is walked once: what all of it takes and gives is there exactly if each instruction
+// Each instruction in turn; then 12; then 13. A list that stands is walked once: what all of it takes and gives is there exactly if each instruction
 // finds its own, so that only a list that lacks some is searched for the instruction.
 fn judge_list(l: Lengths, list: &[u8]) -> Answer
     requires { ⌜ length (now list) ≤ mostBytes ⌝ }
@@ -122,17 +130,19 @@ fn judge_list(l: Lengths, list: &[u8]) -> Answer
     let tally = searches::tally(list);
     let bad = tally.place;
     if bad < n {
-        return refused(rows::fault(decode(list, bad)), bad);
+        let fault = rows::fault(decode(list, bad));
+        return refused(fault.number, bad, fault.byte);
     }
     if l.items < 32 * tally.taken {
-        return refused(12, searches::shortage(false, list, l.items));
+        return refused(12, searches::shortage(false, list, l.items), 0);
     }
     if l.out < 32 * tally.given {
-        return refused(13, searches::shortage(true, list, l.out));
+        return refused(13, searches::shortage(true, list, l.out), 0);
     }
     Answer {
         number: 0,
         place: 0,
+        byte: 0,
         steps: n,
         taken: tally.taken,
         given: tally.given,
@@ -142,10 +152,10 @@ fn judge_list(l: Lengths, list: &[u8]) -> Answer
 // What is lent first, whose number is `wrong`; then the list.
 fn judge_by(wrong: u8, l: Lengths, list: &[u8]) -> Answer
     requires { ⌜ (wrong ≡ 0 → length (now list) ≤ mostBytes) ⌝ }
-    ensures { λ r. ⌜ r ≡ orElse (refusal wrong 0) (judgedList l (now (list .entry))) ⌝ }
+    ensures { λ r. ⌜ r ≡ orElse (refusal wrong 0 0) (judgedList l (now (list .entry))) ⌝ }
 {
     if wrong != 0 {
-        return refused(wrong, 0);
+        return refused(wrong, 0, 0);
     }
     judge_list(l, list)
 }

@@ -1,4 +1,5 @@
-// The rows of the table that look at one instruction, 5 to 11, each as the document words it.
+// The rows of the table that look at one instruction, condition by condition as the documents word them, each with the byte that it is about.
+use crate::Fault;
 use crate::Instruction;
 use crate::kinds::DELIVER;
 use crate::kinds::LOGIC;
@@ -8,9 +9,11 @@ use crate::kinds::OUTSIDE;
 use crate::kinds::RESOLVE;
 use crate::kinds::SET_M;
 use crate::kinds::STORE;
-use bits::choices::number_or;
 ghost use mathlib.Core.Path.{_≡_};
-ghost use Rattle.judge.specs.Judge.{stores, touches, wrongKind, wrongSource, lacksTag, wrongTag, idleAccess, wrongPass, wrongLogic, faultOf, takes, gives};
+ghost use mathlib.Core.Bool.{cond};
+ghost use Rattle.network.specs.Unlisted.{codeRows};
+ghost use Rattle.judge.specs.ByteRows.{faultBefore, aboutByte};
+ghost use Rattle.judge.specs.Judge.{stores, touches, wrongKind, wrongSource, lacksTag, wrongTag, idleAccess, barredFlip, barredShift, wrongLogic, faultOf, takes, gives};
 
 fn stores(i: Instruction) -> bool
     ensures { λ r. ⌜ r ≡ stores i ⌝ }
@@ -26,14 +29,14 @@ fn touches(i: Instruction) -> bool
         | ((i.source == MEMORY) & ((i.kind == LOGIC) | (i.kind == SET_M) | (i.kind == DELIVER)))
 }
 
-// 5
+// 5: kind over 5
 fn wrong_kind(i: Instruction) -> bool
     ensures { λ r. ⌜ r ≡ wrongKind i ⌝ }
 {
     i.kind > RESOLVE
 }
 
-// 6
+// 6: source over 4; 0 for a store; not 0 for a resolve
 fn wrong_source(i: Instruction) -> bool
     ensures { λ r. ⌜ r ≡ wrongSource i ⌝ }
 {
@@ -42,54 +45,90 @@ fn wrong_source(i: Instruction) -> bool
         | ((i.kind == RESOLVE) & !(i.source == 0))
 }
 
-// 7
+// 7: memory touched and tag 0
 fn lacks_tag(i: Instruction) -> bool
     ensures { λ r. ⌜ r ≡ lacksTag i ⌝ }
 {
     touches(i) & (i.tag == 0)
 }
 
-// 8
+// 8: memory touched and tag over 1
 fn wrong_tag(i: Instruction) -> bool
     ensures { λ r. ⌜ r ≡ wrongTag i ⌝ }
 {
     touches(i) & (i.tag > 1)
 }
 
-// 9
-fn idle_access(i: Instruction) -> bool
-    ensures { λ r. ⌜ r ≡ idleAccess i ⌝ }
+// 9: memory not touched and a byte, 2, 3 or 4, not 0
+fn idle_access(i: Instruction, value: u8) -> bool
+    ensures { λ r. ⌜ r ≡ idleAccess i value ⌝ }
 {
-    !touches(i) & (!(i.tag == 0) | !(i.mode == 0) | !(i.addr == 0))
+    !touches(i) & !(value == 0)
 }
 
-// 10
-fn wrong_pass(i: Instruction) -> bool
-    ensures { λ r. ⌜ r ≡ wrongPass i ⌝ }
+// 18, of byte 5: a resolve that flips
+fn barred_flip(i: Instruction) -> bool
+    ensures { λ r. ⌜ r ≡ barredFlip i ⌝ }
 {
-    !network::codes::is_code(i.code)
-        | (stores(i) & !(i.code == 0))
-        | ((i.kind == RESOLVE) & (!(i.flip == 0) | !(i.code == 0)))
+    (i.kind == RESOLVE) & !(i.flip == 0)
 }
 
-// 11
+// 18, of byte 6: a store or a resolve that shifts
+fn barred_shift(i: Instruction) -> bool
+    ensures { λ r. ⌜ r ≡ barredShift i ⌝ }
+{
+    (stores(i) | (i.kind == RESOLVE)) & !(i.code == 0)
+}
+
+// 11: choice over 4 in logic; byte 7 not 0 in another kind
 fn wrong_logic(i: Instruction) -> bool
     ensures { λ r. ⌜ r ≡ wrongLogic i ⌝ }
 {
     ((i.kind == LOGIC) & (i.logic / 16 > 4)) | (!(i.kind == LOGIC) & !(i.logic == 0))
 }
 
-// The number of an instruction, 5 to 11: 0 where it has none.
-pub fn fault(i: Instruction) -> u8
+// A condition about a byte: its row's number and the byte where it holds, else what is behind it.
+fn fault_or(holds: bool, number: u8, byte: u8, behind: Fault) -> Fault
+    ensures { λ r. ⌜ r ≡ cond holds (record { number = number; byte = byte }) behind ⌝ }
+{
+    if holds {
+        return Fault {
+            number: number,
+            byte: byte,
+        };
+    }
+    behind
+}
+
+// 16 and 17: byte 6 is searched among the 37, and only one that is not found is split.
+fn shift_fault(code: u8, behind: Fault) -> Fault
+    ensures { λ r. ⌜ r ≡ faultBefore (aboutByte 6 (codeRows code)) behind ⌝ }
+{
+    if network::codes::is_code(code) {
+        return behind;
+    }
+    Fault {
+        number: network::codes::unlisted(code),
+        byte: 6,
+    }
+}
+
+// The number and the byte of an instruction: 0 and 0 where it has none. The conditions stand from the last of the table to the first: `from9_3` is what the
+// table gives from row 9's condition about byte 3 on.
+pub fn fault(i: Instruction) -> Fault
     ensures { λ r. ⌜ r ≡ faultOf i ⌝ }
 {
-    let from11 = number_or(wrong_logic(i), 11, 0);
-    let from10 = number_or(wrong_pass(i), 10, from11);
-    let from9 = number_or(idle_access(i), 9, from10);
-    let from8 = number_or(wrong_tag(i), 8, from9);
-    let from7 = number_or(lacks_tag(i), 7, from8);
-    let from6 = number_or(wrong_source(i), 6, from7);
-    number_or(wrong_kind(i), 5, from6)
+    let from11 = fault_or(wrong_logic(i), 11, 7, Fault { number: 0, byte: 0 });
+    let from16 = shift_fault(i.code, from11);
+    let from18_6 = fault_or(barred_shift(i), 18, 6, from16);
+    let from18 = fault_or(barred_flip(i), 18, 5, from18_6);
+    let from9_4 = fault_or(idle_access(i, i.addr), 9, 4, from18);
+    let from9_3 = fault_or(idle_access(i, i.mode), 9, 3, from9_4);
+    let from9 = fault_or(idle_access(i, i.tag), 9, 2, from9_3);
+    let from8 = fault_or(wrong_tag(i), 8, 2, from9);
+    let from7 = fault_or(lacks_tag(i), 7, 2, from8);
+    let from6 = fault_or(wrong_source(i), 6, 1, from7);
+    fault_or(wrong_kind(i), 5, 0, from6)
 }
 
 // Does it take an item?

@@ -10,7 +10,7 @@ use Rattle.network.specs.declared.Passed.{Passed}
 use Rattle.network.specs.Answer.{answer}
 use Rattle.registers.specs.declared.Registers.{Registers}
 use Rattle.judge.specs.declared.Answer.{Answer as Verdict}
-use Rattle.judge.proofs.Bounds.{Bounded as Bounded5, judged-bounds, step-bounds}
+use Rattle.judge.proofs.Bounds.{Bounded as Bounded6, judged-bounds, step-bounds}
 use Rattle.module.specs.Run.{Lent, Left, runLengths, stepLengths, ran, stepped}
 use Rattle.module.proofs.RunLaws.{ran-answer}
 use Rattle.module.proofs.StepLaws.{stepped-answer}
@@ -24,28 +24,28 @@ use Rattle.contents.specs.declared.Moved.{Moved}
 use Rattle.contents.specs.Content.{targetFits, ContentLeft, contentRead, contentWritten}
 use Rattle.contents.proofs.Bounds.{Bounded as Bounded3, read-bounds, write-bounds, write-content-bounds}
 use Rattle.pictures.specs.Picture.{pictureFits, PictureLeft, pictureRead, pictureWritten}
-use Rattle.library.specs.Left.{five, three, runLeft, stepLeft, PassLeft, passLeft, BufferLeft, builtLeft, sumLeft, differenceLeft, greatestLeft, TwoLeft, builtTwoLeft, equalLeft, lessLeft, closingLeft, spreadingLeft, movedLeft, readLeft, writeLeft, writePictureLeft, TargetsLeft, readPictureLeft}
+use Rattle.library.specs.Left.{six, three, runLeft, stepLeft, PassLeft, passLeft, BufferLeft, builtLeft, sumLeft, differenceLeft, greatestLeft, TwoLeft, builtTwoLeft, equalLeft, lessLeft, closingLeft, spreadingLeft, movedLeft, readLeft, writeLeft, writePictureLeft, TargetsLeft, readPictureLeft}
 
 -- ---- the array
 
-small-five : (a b : Verdict) → a ≡ b → Bounded5 b → (a .place ≤ 4096) × (a .steps ≤ 4096) × (a .taken ≤ 4096) × (a .given ≤ 4096)
-small-five a b e h = let s = subst Bounded5 (sym e) h in (s .place, s .steps, s .taken, s .given)
+small-six : (a b : Verdict) → a ≡ b → Bounded6 b → (a .place ≤ 4096) × (a .steps ≤ 4096) × (a .taken ≤ 4096) × (a .given ≤ 4096)
+small-six a b e h = let s = subst Bounded6 (sym e) h in (s .place, s .steps, s .taken, s .given)
 
 module _ {R : Type 0} (u v : Left R Verdict) where
   -- the same registers and buffers, and the answer's numbers in its place
   abbrev numbers : Left R Verdict → Left R (List ℕ)
-  numbers x = record { memory = x .memory; registers = x .registers; out = x .out; answer = five (x .answer) }
+  numbers x = record { memory = x .memory; registers = x .registers; out = x .out; answer = six (x .answer) }
 
-  left-as : (w : List ℕ) → u ≡ v → w ≡ five (u .answer)
+  left-as : (w : List ℕ) → u ≡ v → w ≡ six (u .answer)
       → _≡_ {A = Left R (List ℕ)} (record { memory = u .memory; registers = u .registers; out = u .out; answer = w }) (numbers v)
   left-as w e d = ap (λ (x : List ℕ). record { memory = u .memory; registers = u .registers; out = u .out; answer = x }) d ∙ ap numbers e
 
 module _ (l : Lent (List ℕ)) (u : Left (List ℕ) Verdict) where
   pub ran-small : u ≡ ran l → (u .answer .place ≤ 4096) × (u .answer .steps ≤ 4096) × (u .answer .taken ≤ 4096) × (u .answer .given ≤ 4096)
   ran-small e =
-      small-five (u .answer) _ (ap (λ (x : Left (List ℕ) Verdict). x .answer) e ∙ ran-answer l) (judged-bounds (runLengths l) (l .list))
+      small-six (u .answer) _ (ap (λ (x : Left (List ℕ) Verdict). x .answer) e ∙ ran-answer l) (judged-bounds (runLengths l) (l .list))
 
-  pub run-left : (w : List ℕ) → u ≡ ran l → w ≡ five (u .answer)
+  pub run-left : (w : List ℕ) → u ≡ ran l → w ≡ six (u .answer)
       → _≡_ {A = Left (List ℕ) (List ℕ)} (record { memory = u .memory; registers = u .registers; out = u .out; answer = w }) (runLeft l)
   unfolding runLeft
   run-left = left-as u (ran l)
@@ -53,9 +53,9 @@ module _ (l : Lent (List ℕ)) (u : Left (List ℕ) Verdict) where
 module _ (l : Lent Registers) (u : Left Registers Verdict) where
   pub stepped-small : u ≡ stepped l → (u .answer .place ≤ 4096) × (u .answer .steps ≤ 4096) × (u .answer .taken ≤ 4096) × (u .answer .given ≤ 4096)
   stepped-small e =
-      small-five (u .answer) _ (ap (λ (x : Left Registers Verdict). x .answer) e ∙ stepped-answer l) (step-bounds (stepLengths l) (l .list))
+      small-six (u .answer) _ (ap (λ (x : Left Registers Verdict). x .answer) e ∙ stepped-answer l) (step-bounds (stepLengths l) (l .list))
 
-  pub step-left : (w : List ℕ) → u ≡ stepped l → w ≡ five (u .answer)
+  pub step-left : (w : List ℕ) → u ≡ stepped l → w ≡ six (u .answer)
       → _≡_ {A = Left Registers (List ℕ)} (record { memory = u .memory; registers = u .registers; out = u .out; answer = w }) (stepLeft l)
   unfolding stepLeft
   step-left = left-as u (stepped l)

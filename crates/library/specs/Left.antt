@@ -15,9 +15,9 @@ use Rattle.pictures.specs.Picture.{pictureRead, pictureWritten}
 
 -- ---- answers as numbers
 
--- "A run gives number, place, steps, items taken and items given."
-abbrev pub five : Verdict → List ℕ
-five a = a .number ∷ a .place ∷ a .steps ∷ a .taken ∷ a .given ∷ []
+-- "A run gives number, place, steps, items taken and items given"; document 02, Six: the offending byte after the place.
+abbrev pub six : Verdict → List ℕ
+six a = a .number ∷ a .place ∷ a .byte ∷ a .steps ∷ a .taken ∷ a .given ∷ []
 
 -- "Success gives 0, place 0 and the number of bytes put out; a refusal gives 0 bytes."
 abbrev pub three : Moved → List ℕ
@@ -26,10 +26,10 @@ three a = a .number ∷ a .place ∷ a .bytes ∷ []
 -- ---- the array
 
 unfoldable pub runLeft : Lent (List ℕ) → Left (List ℕ) (List ℕ)
-runLeft l = let s = ran l in record { memory = s .memory; registers = s .registers; out = s .out; answer = five (s .answer) }
+runLeft l = let s = ran l in record { memory = s .memory; registers = s .registers; out = s .out; answer = six (s .answer) }
 
 unfoldable pub stepLeft : Lent Registers → Left Registers (List ℕ)
-stepLeft l = let s = stepped l in record { memory = s .memory; registers = s .registers; out = s .out; answer = five (s .answer) }
+stepLeft l = let s = stepped l in record { memory = s .memory; registers = s .registers; out = s .out; answer = six (s .answer) }
 
 -- ---- the network: either form
 

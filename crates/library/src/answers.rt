@@ -5,28 +5,29 @@ use contents::Moved;
 ghost use mathlib.Core.Path.{_≡_};
 ghost use mathlib.Core.List.{[], _∷_};
 ghost use Prim.Native.Nat.{_≤_};
-ghost use Rattle.library.specs.Left.{five, three};
+ghost use Rattle.library.specs.Left.{six, three};
 
-// Number, place, steps, taken, given.
-pub fn five(a: judge::Answer) -> [u32; 5]
+// Number, place, byte, steps, taken, given.
+pub fn six(a: judge::Answer) -> [u32; 6]
     requires { ⌜ (a .place ≤ 4096) × (a .steps ≤ 4096) × (a .taken ≤ 4096) × (a .given ≤ 4096) ⌝ }
-    ensures { λ r. ⌜ r ≡ five a ⌝ }
+    ensures { λ r. ⌜ r ≡ six a ⌝ }
 {
     [
         a.number as u32,
         a.place as u32,
+        a.byte as u32,
         a.steps as u32,
         a.taken as u32,
         a.given as u32,
     ]
 }
 
-// The same five, put into the lent array: `staran_step` hands its own on to here.
-pub fn put_five(a: judge::Answer, answer: &mut [u32; 5])
+// The same six, put into the lent array: `staran_step_4` hands its own on to here.
+pub fn put_six(a: judge::Answer, answer: &mut [u32; 6])
     requires { ⌜ (a .place ≤ 4096) × (a .steps ≤ 4096) × (a .taken ≤ 4096) × (a .given ≤ 4096) ⌝ }
-    ensures { λ _. ⌜ now (answer .exit) ≡ five a ⌝ }
+    ensures { λ _. ⌜ now (answer .exit) ≡ six a ⌝ }
 {
-    *answer = five(a);
+    *answer = six(a);
 }
 
 // Number, place, bytes put out.

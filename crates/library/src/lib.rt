@@ -7,15 +7,15 @@ use registers::Registers;
 ghost use mathlib.Core.Path.{_≡_};
 ghost use Rattle.library.specs.Left.{runLeft, stepLeft, passLeft, sumLeft, differenceLeft, equalLeft, lessLeft, greatestLeft, closingLeft, spreadingLeft, readLeft, writeLeft, readPictureLeft, writePictureLeft, version};
 
-// A run of an instruction list.
+// A run of an instruction list. The 4 is the version since which the answer has six numbers: a program compiled for five does not link.
 #[no_mangle]
-pub extern "C" fn staran_run(
+pub extern "C" fn staran_run_4(
     memory: &mut [u8],
     registers: &mut [u8],
     list: &[u8],
     items: &[u8],
     out: &mut [u8],
-    answer: &mut [u32; 5],
+    answer: &mut [u32; 6],
 )
     ensures { λ _. ⌜
         record { memory = now (memory .exit); registers = now (registers .exit); out = now (out .exit); answer = now (answer .exit) }
@@ -23,18 +23,18 @@ pub extern "C" fn staran_run(
         ⌝ }
 {
     let a = module::run(memory, registers, list, items, out);
-    *answer = answers::five(a);
+    *answer = answers::six(a);
 }
 
 // A step: an operator's console lends the register record and finds it updated there.
 #[no_mangle]
-pub extern "C" fn staran_step(
+pub extern "C" fn staran_step_4(
     memory: &mut [u8],
     registers: &mut Registers,
     instruction: &[u8],
     items: &[u8],
     out: &mut [u8],
-    answer: &mut [u32; 5],
+    answer: &mut [u32; 6],
 )
     ensures { λ _. ⌜
         record { memory = now (memory .exit); registers = now (registers .exit); out = now (out .exit); answer = now (answer .exit) }
@@ -42,7 +42,7 @@ pub extern "C" fn staran_step(
         ⌝ }
 {
     let a = module::step(memory, registers, instruction, items, out);
-    answers::put_five(a, answer);
+    answers::put_six(a, answer);
 }
 
 // A pass of the network in arithmetic form.
@@ -255,7 +255,7 @@ pub extern "C" fn staran_write_picture(
 // The version of the library that is linked, to be held to the header's.
 #[no_mangle]
 pub extern "C" fn staran_version() -> u32
-    ensures { λ r. ⌜ r ≡ version 3 1 ⌝ }
+    ensures { λ r. ⌜ r ≡ version 4 0 ⌝ }
 {
-    196609
+    262144
 }

@@ -108,7 +108,7 @@ module _ (i : Instruction) (items : List ℕ) (s : State) where
   acted-kind n e = ap (byKind (passedBy i (s .mem) items (s .regs) (s .taken))) e
 
   -- a masked store in the unscrambled table: line p by M's bit p, and its bit from the source item's line across the flip
-  pub masks-by-line : i .kind ≡ 3 → faultOf i ≡ 0 → modeOf i (s .regs) < 256 → i .addr < 256
+  pub masks-by-line : i .kind ≡ 3 → faultOf i .number ≡ 0 → modeOf i (s .regs) < 256 → i .addr < 256
       → Updated 8 (modeOf i (s .regs)) (i .addr) (bitOf (s .regs .m)) (flipped (sourceItem i (s .mem) items (s .regs) (s .taken)) (i .flip))
       (table (cell (s .mem))) (table (cell (acted i items s .mem)))
   unfolding passedBy

@@ -58,7 +58,7 @@ ready-at l mem out k i taken given fit h e em eo et eg =
     let size = fit .size in
     record {
       memory = em ∙ fit .memory;
-      formed = ap faultOf e ∙ fit .formed k h;
+      formed = ap (λ (x : Instruction). faultOf x .number) e ∙ fit .formed k h;
       supplied = λ t. let r = fit .supplied k h (sym (ap takes e) ∙ t) in omega arith;
       roomy = λ t. let r = fit .roomy k h (sym (ap gives e) ∙ t) in omega arith;
       few-taken = let n = count-le (λ j. takes (instructionAt list j)) k in omega arith;

@@ -9,7 +9,7 @@ use lib.Dec.{eqb}
 use lib.ListN.{length}
 use borrow.Author.Tests.{eq-eqb, ne-eqb}
 use Rattle.registers.specs.declared.Registers.{Registers}
-use Rattle.registers.specs.Rows.{registersOf, bytesOf}
+use Rattle.registers.specs.Rows.{bytesOf}
 use Rattle.judge.specs.declared.Answer.{Answer}
 use Rattle.judge.specs.Judge.{refusal, judged, judgedStep}
 use Rattle.judge.specs.Steps.{Accepted}
@@ -92,6 +92,6 @@ module _ (l : Lent Registers) where
       split false a = refl
 
   -- an instruction of any other length is 3, unless the memory is wrong, which is 1; nothing changes
-  pub step-not-eight : length (l .memory) ≡ 8192 → (length (l .list) ≡ 8 → ⊥) → stepped l ≡ unmoved l (refusal 3 0)
+  pub step-not-eight : length (l .memory) ≡ 8192 → (length (l .list) ≡ 8 → ⊥) → stepped l ≡ unmoved l (refusal 3 0 0)
   step-not-eight e u =
-      sym (stepped-refused l (refusal 3 0) (sym (step-unlike (stepLengths l) (l .list) e u)) (λ z. omega arith))
+      sym (stepped-refused l (refusal 3 0 0) (sym (step-unlike (stepLengths l) (l .list) e u)) (λ z. omega arith))

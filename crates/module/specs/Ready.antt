@@ -10,7 +10,7 @@ use Rattle.judge.specs.Judge.{faultOf, takes, gives}
 
 pub record Ready (mem items out : List ℕ) (i : Instruction) (taken given : ℕ) : Type 0 where
   pub memory : length mem ≡ memoryBytes
-  pub formed : faultOf i ≡ 0
+  pub formed : faultOf i .number ≡ 0
   pub supplied : takes i ≡ true → 32 * taken + 32 ≤ length items
   pub roomy : gives i ≡ true → 32 * given + 32 ≤ length out
   pub few-taken : taken ≤ 4096

@@ -1,6 +1,6 @@
 -- What a pass answers, from where byte 6 stands in the table; the passed item in each form; that there is one answer. Assumes nothing.
 use mathlib.Core.Path.{_≡_, refl, sym, ap, _∙_, subst}
-use mathlib.Core.Bool.{Bool, true, false, cond, true≢false, false≢true}
+use mathlib.Core.Bool.{Bool, true, false, cond}
 use mathlib.Core.List.{List}
 use mathlib.Core.Logic.{_↔_}
 use Prim.Native.Nat.{ℕ, _/_, _%_, _≤_, _<_}
@@ -9,19 +9,22 @@ use lib.Bits.{bitOr, bitXor, xor-zero-r, xor-lt, or-add-and, and-le-l, and-le-r}
 use lib.ListN.{length, getD, replicate}
 use borrow.Author.Tests.{lt-ltb, le-ltb}
 use Rattle.bits.specs.Bits.{bitOf, byteOf, item, flipped}
+use Rattle.bits.specs.Rows.{numberOf, FirstRow}
+use Rattle.bits.proofs.Rows.{none-number, number-none, number-first, first-number}
 use Rattle.bits.specs.Quarters.{quarters, lineAt, flippedQuarters}
 use Rattle.bits.proofs.Xor.{xor-cancel}
 use Rattle.bits.proofs.Items.{length-listed, bitOf-bit, bitOf-pack, pack-ext, pack-bitOf}
 use Rattle.bits.proofs.QuarterLaws.{lineAt-bit, lineAt-quarters}
 use Rattle.bits.proofs.FlipLaws.{line-flipped}
 use Rattle.network.specs.Shifts.{codes, shiftOf, permitted, pOf, mOf}
+use Rattle.network.specs.Unlisted.{codeRows}
 use Rattle.network.specs.Pass.{moved, unshifted, source, passed}
 use Rattle.network.specs.Wired.{wiredItem}
 use Rattle.network.specs.Answer.{passedItem, answer}
 use Rattle.network.specs.declared.Passed.{Passed}
 use Rattle.network.proofs.PassLaws.{unshifted-lt, unshifted-none, passed-bit, passed-only}
 use Rattle.network.proofs.Agreement.{agree-item}
-use Rattle.network.proofs.TableRules.{none-permitted, shift, entry-of}
+use Rattle.network.proofs.TableRules.{none-permitted, listed-none, shift, entry-of}
 
 -- ---- whether a code is permitted, from where it was found
 
@@ -39,26 +42,31 @@ pub given : (l : List ℕ) (f c : ℕ) (r : List ℕ) → permitted c ≡ true �
 unfolding answer
 given l f c r t e = rw t (ap (λ (x : List ℕ). record { number = 0; item = x }) e)
 
-pub refused : (l : List ℕ) (f c : ℕ) → permitted c ≡ false → _≡_ {A = Passed} (record { number = 10; item = replicate 32 0 }) (answer l f c)
+pub refused : (l : List ℕ) (f c n : ℕ) → permitted c ≡ false → n ≡ numberOf (codeRows c) → _≡_ {A = Passed} (record { number = n; item = replicate 32 0 }) (answer l f c)
 unfolding answer
-refused l f c t = rw t
+refused l f c n t e = rw t (ap (λ (x : ℕ). record { number = x; item = replicate 32 0 }) e)
 
--- both ways: 10 exactly if byte 6 is none of the 37, else 0
-pub pass-10 : (l : List ℕ) (f c : ℕ) → (answer l f c .number ≡ 10) ↔ (permitted c ≡ false)
+-- the number is that of byte 6 by itself, so that each is given exactly where its row is the first that holds
+pub pass-number : (l : List ℕ) (f c : ℕ) → answer l f c .number ≡ numberOf (codeRows c)
 unfolding answer
-pass-10 l f c = go (permitted c)
+pass-number l f c = go (permitted c) refl
   where
-    go : (t : Bool) → (cond {A = Passed} t (record { number = 0; item = passedItem l f c }) (record { number = 10; item = replicate 32 0 }) .number ≡ 10) ↔ (t ≡ false)
-    go true = (λ e. absurd (omega arith), λ e. absurd (true≢false e))
-    go false = (λ e. refl, λ e. refl)
+    go : (t : Bool) → permitted c ≡ t
+        → cond {A = Passed} t (record { number = 0; item = passedItem l f c }) (record { number = numberOf (codeRows c); item = replicate 32 0 }) .number ≡ numberOf (codeRows c)
+    go true e = sym (none-number (codeRows c) (listed-none c .1 e))
+    go false e = refl
 
 pub pass-0 : (l : List ℕ) (f c : ℕ) → (answer l f c .number ≡ 0) ↔ (permitted c ≡ true)
-unfolding answer
-pass-0 l f c = go (permitted c)
-  where
-    go : (t : Bool) → (cond {A = Passed} t (record { number = 0; item = passedItem l f c }) (record { number = 10; item = replicate 32 0 }) .number ≡ 0) ↔ (t ≡ true)
-    go true = (λ e. refl, λ e. refl)
-    go false = (λ e. absurd (omega arith), λ e. absurd (false≢true e))
+pass-0 l f c = (
+  λ e. listed-none c .0 (number-none (codeRows c) refl (sym (pass-number l f c) ∙ e)),
+  λ t. pass-number l f c ∙ none-number (codeRows c) (listed-none c .1 t),
+)
+
+pub pass-refusals : (l : List ℕ) (f c n : ℕ) → (n ≡ 0 → ⊥) → (answer l f c .number ≡ n) ↔ FirstRow (codeRows c) n
+pass-refusals l f c n u = (
+  λ e. number-first (codeRows c) n u (sym (pass-number l f c) ∙ e),
+  λ w. pass-number l f c ∙ first-number (codeRows c) n w,
+)
 
 -- ---- the passed item in each form
 
@@ -68,15 +76,15 @@ unfolding passedItem
 passedItem-is l f c t = ap (λ (k : ℕ). item (passed l f (k / 16) (k % 16))) (entry-of c t)
 
 -- a flip and then a shift, of its quarters
-pub flip-shift : (l q r t : List ℕ) (f c : ℕ) → c < 256 → f < 256 → permitted c ≡ true → q ≡ quarters (bitOf l) → r ≡ flippedQuarters q f
+pub flip-shift : (l q r t : List ℕ) (f c : ℕ) → f < 256 → permitted c ≡ true → q ≡ quarters (bitOf l) → r ≡ flippedQuarters q f
     → t ≡ quarters (λ k. lineAt r (unshifted (c / 16) (c % 16) k)) → item (lineAt t) ≡ passedItem l f c
 unfolding passed source
-flip-shift l q r t f c b d y eq er et =
+flip-shift l q r t f c d y eq er et =
     let from : ℕ → ℕ = unshifted (c / 16) (c % 16) in
     ap (λ (x : List ℕ). item (lineAt x)) et
     ∙ pack-ext (lineAt (quarters (λ k. lineAt r (from k)))) (λ k. flipped l f (from k)) 32
     (λ k h. lineAt-quarters (λ i. lineAt r (from i)) (λ i. lineAt-bit r (from i)) k h
-    ∙ line-flipped l q r f d eq er (from k) (unshifted-lt 8 (c / 16) (c % 16) k (shift c b y .within) h))
+    ∙ line-flipped l q r f d eq er (from k) (unshifted-lt 8 (c / 16) (c % 16) k (shift c y .within) h))
     ∙ sym (passedItem-is l f c y)
 
 -- no shift, and no flip either
@@ -99,10 +107,10 @@ none-moved l f c e =
     stay-none l f (omega arith) ∙ flip-none l f c (omega arith)
 
 -- eight levels, by the agreement
-pub wired-passed : (l r : List ℕ) (f c s : ℕ) → c < 256 → f < 256 → s ≡ shiftOf c → s < 37 → r ≡ wiredItem 8 f (pOf s) (mOf s) l → r ≡ passedItem l f c
-wired-passed l r f c s b q e h d =
+pub wired-passed : (l r : List ℕ) (f c s : ℕ) → f < 256 → s ≡ shiftOf c → s < 37 → r ≡ wiredItem 8 f (pOf s) (mOf s) l → r ≡ passedItem l f c
+wired-passed l r f c s q e h d =
     let t : permitted c ≡ true = found-permitted c s e h in
-    let w = shift c b t in
+    let w = shift c t in
     d
     ∙ ap (λ (k : ℕ). wiredItem 8 f (k / 16) (k % 16) l) (ap (λ (k : ℕ). getD codes k 0) e ∙ entry-of c t)
     ∙ agree-item f (c / 16) (c % 16) l (w .below) (w .within) q
@@ -137,8 +145,8 @@ flip-undone l f q n b =
 -- ---- one answer
 
 -- an answer 0 that has each bit of the item at the line where the pass moves it is that one
-pub answer-only : (l : List ℕ) (f c : ℕ) (r : List ℕ) → c < 256 → f < 256 → permitted c ≡ true → length r ≡ 32 → ((i : ℕ) → getD r i 0 < 256)
+pub answer-only : (l : List ℕ) (f c : ℕ) (r : List ℕ) → f < 256 → permitted c ≡ true → length r ≡ 32 → ((i : ℕ) → getD r i 0 < 256)
     → ((i : ℕ) → i < 256 → bitOf r (moved f (c / 16) (c % 16) i) ≡ bitOf l i) → _≡_ {A = Passed} (record { number = 0; item = r }) (answer l f c)
-answer-only l f c r b q t n bytes at =
-    let w = shift c b t in
+answer-only l f c r q t n bytes at =
+    let w = shift c t in
     given l f c r t (passed-only l f (c / 16) (c % 16) (w .below) (w .within) q r n bytes at ∙ sym (passedItem-is l f c t))

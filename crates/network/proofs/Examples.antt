@@ -44,14 +44,18 @@ pub half-is-flip : (i : ℕ) → i < 256 → moved 0 8 7 i ≡ moved 128 0 0 i
 unfolding as-flip
 half-is-flip i h = eqb→eq _ _ (all-at 256 as-flip as-flip-tested i h)
 
--- "Byte 6 = 136 or 1: refused 10", whatever the item and the flip.
-pub refused-136 : (l : List ℕ) (f : ℕ) → answer l f 136 ≡ record { number = 10; item = replicate 32 0 }
+-- "Byte 6 = 136 or 1: refused", whatever the item and the flip: 17, since document 02, Six. A group of 512 lines is 16, also where m is not below p.
+pub refused-136 : (l : List ℕ) (f : ℕ) → answer l f 136 ≡ record { number = 17; item = replicate 32 0 }
 unfolding answer permitted indexOf codes codesTo listed
 refused-136 l f = refl
 
-pub refused-1 : (l : List ℕ) (f : ℕ) → answer l f 1 ≡ record { number = 10; item = replicate 32 0 }
+pub refused-1 : (l : List ℕ) (f : ℕ) → answer l f 1 ≡ record { number = 17; item = replicate 32 0 }
 unfolding answer permitted indexOf codes codesTo listed
 refused-1 l f = refl
+
+pub refused-159 : (l : List ℕ) (f : ℕ) → answer l f 159 ≡ record { number = 16; item = replicate 32 0 }
+unfolding answer permitted indexOf codes codesTo listed
+refused-159 l f = refl
 
 -- "byte 6 = 48" is 1 mod 8, and stands.
 pub passed-48 : (l : List ℕ) (f : ℕ) → answer l f 48 ≡ record { number = 0; item = item (passed l f 3 0) }

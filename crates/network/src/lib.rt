@@ -14,7 +14,7 @@ ghost use lib.ListN.{length};
 ghost use Rattle.network.specs.Shifts.{permitted};
 ghost use Rattle.network.specs.Answer.{passedItem, answer};
 
-// What a pass answers: 0 and the passed item, or 10 and a zero item.
+// What a pass answers: 0 and the passed item, or 16 or 17 and a zero item.
 pub struct Passed {
     pub number: u8,
     pub item: [u8; 32],
@@ -56,7 +56,7 @@ pub fn pass(lines: &[u8; 32], flip: u8, code: u8) -> Passed
         }
     } else {
         Passed {
-            number: 10,
+            number: codes::unlisted(code),
             item: [0u8; 32],
         }
     }
@@ -78,7 +78,7 @@ pub fn wired_pass(lines: &[u8; 32], flip: u8, code: u8) -> Passed
         }
     } else {
         Passed {
-            number: 10,
+            number: codes::unlisted(code),
             item: [0u8; 32],
         }
     }

@@ -11,7 +11,7 @@ use lib.Seq.{take-all, take-add, length-take-le, getD-take}
 use borrow.Author.Tests.{eqb-true}
 use Rattle.bits.specs.Steps.{putAt}
 use Rattle.bits.proofs.Puts.{put-nil, put-put, put-all, length-put, put-bytes}
-use Rattle.blocks.proofs.BlockLaws.{and-left, and-right}
+use Rattle.bits.proofs.Rows.{and-left, and-right}
 use Rattle.words.proofs.PlainLaws.{length-plain, plain-bytes, scrambled-front, plain-scrambled, scrambled-plain}
 use Rattle.contents.specs.declared.Moved.{Moved}
 use Rattle.contents.specs.File.{done, contentOf, sizeFits, fileJudged, blockCount, blocksOf}

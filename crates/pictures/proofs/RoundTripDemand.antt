@@ -9,7 +9,7 @@ use lib.ListN.{length, take, drop, length-drop, take-append-drop}
 use lib.Seq.{take-at, drop-at}
 use borrow.Author.Tests.{le-leb, eq-eqb}
 use Rattle.blocks.specs.Sums.{at}
-use Rattle.blocks.proofs.BlockLaws.{and-left, and-right}
+use Rattle.bits.proofs.Rows.{and-left, and-right}
 use Rattle.words.proofs.PlainLaws.{length-plain, length-scrambled}
 use Rattle.contents.specs.declared.Moved.{Moved}
 use Rattle.contents.specs.File.{done, contentOf, kindRight, sizeFits, fileJudged, blockCount, blocksOf}

@@ -102,7 +102,7 @@ fn main() {
     let l = load(b"run.lst", &mut list);
     let i = load(b"in.itm", &mut items);
     let mut after = [0u8; 8704];
-    let mut text = [0u8; 16697];
+    let mut text = [0u8; 16708];
     let counts = session::session(p, l, i, &picture, &list, &items, &mut after, &mut text);
     let size = counts.after;
     if size > 0 {

@@ -29,8 +29,8 @@ use Rattle.contents.proofs.write_content as write_content
 use Rattle.pictures.proofs.read_picture as read_picture
 use Rattle.pictures.proofs.write_picture as write_picture
 use Rattle.library.specs.Left.{sumLeft, differenceLeft, equalLeft, lessLeft, greatestLeft, closingLeft, spreadingLeft, readLeft, writeLeft, writePictureLeft}
-use Rattle.library.proofs.staran_run as staran_run
-use Rattle.library.proofs.staran_step as staran_step
+use Rattle.library.proofs.staran_run_4 as library_run
+use Rattle.library.proofs.staran_step_4 as library_step
 use Rattle.library.proofs.staran_pass as staran_pass
 use Rattle.library.proofs.staran_wired_pass as staran_wired_pass
 use Rattle.library.proofs.staran_sum_list as staran_sum_list
@@ -124,12 +124,12 @@ module _ {M : Type 1} (𝓤 : URA M) (H : Heap 𝓤) (A : Atoms 𝓤) (memory : 
 
   -- ---- the library for C
 
-  pub library-run-clauses : Says staran_run.ended (staran_run.clauses 𝓤 H A memory runs) (λ κs a r e.
+  pub library-run-clauses : Says library_run.ended (library_run.clauses 𝓤 H A memory runs) (λ κs a r e.
       ⌜ LibraryRun (record { memory = now (a .0); registers = now (a .1 .0); list = now (a .1 .1 .0); items = now (a .1 .1 .1 .0); out = now (a .1 .1 .1 .1 .0) })
       (record { memory = now (e .0); registers = now (e .1 .0); out = now (e .1 .1 .1 .1 .0); answer = now (e .1 .1 .1 .1 .1 .0) }) ⌝)
   library-run-clauses κs a g r e = (refl, refl)
 
-  pub library-step-clauses : Says staran_step.ended (staran_step.clauses 𝓤 H A memory runs) (λ κs a r e.
+  pub library-step-clauses : Says library_step.ended (library_step.clauses 𝓤 H A memory runs) (λ κs a r e.
       ⌜ LibraryStep (record { memory = now (a .0); registers = now (a .1 .0); list = now (a .1 .1 .0); items = now (a .1 .1 .1 .0); out = now (a .1 .1 .1 .1 .0) })
       (record { memory = now (e .0); registers = now (e .1 .0); out = now (e .1 .1 .1 .1 .0); answer = now (e .1 .1 .1 .1 .1 .0) }) ⌝)
   library-step-clauses κs a g r e = (refl, refl)

@@ -6,10 +6,11 @@ use mathlib.Core.Logic.{_↔_, _≢_}
 use Prim.Native.Nat.{ℕ}
 use lib.ListN.{length, drop}
 use Rattle.bits.specs.Rows.{Row, FirstRow}
-use Rattle.bits.proofs.Rows.{numbered}
+use Rattle.bits.proofs.Rows.{numbered, among}
 use Rattle.network.specs.declared.Passed.{Passed}
 use Rattle.network.specs.Answer.{passedItem, answer}
-use Rattle.network.proofs.AnswerLaws.{pass-10, pass-0, given, refused}
+use Rattle.network.proofs.TableRules.{listed-none}
+use Rattle.network.proofs.AnswerLaws.{pass-refusals, pass-0, given, refused}
 use Rattle.registers.specs.declared.Registers.{Registers}
 use Rattle.judge.specs.declared.Lengths.{Lengths}
 use Rattle.judge.specs.declared.Answer.{Answer}
@@ -39,7 +40,7 @@ use Rattle.contents.proofs.AnswerLaws.{changed-not, left-parts}
 use Rattle.contents.proofs.Numbers as blocks
 use Rattle.pictures.specs.Picture.{pictureOf, scrambled, pictureFits, pictureRead, pictureWritten}
 use Rattle.pictures.proofs.PictureLaws.{both-parts}
-use Rattle.library.specs.Left.{five, three, runLeft, stepLeft, PassLeft, passLeft, BufferLeft, sumLeft, differenceLeft, TwoLeft, builtTwoLeft, equalLeft, lessLeft, greatestLeft, closingLeft, spreadingLeft, readLeft, writeLeft, writePictureLeft, TargetsLeft, readPictureLeft}
+use Rattle.library.specs.Left.{six, three, runLeft, stepLeft, PassLeft, passLeft, BufferLeft, sumLeft, differenceLeft, TwoLeft, builtTwoLeft, equalLeft, lessLeft, greatestLeft, closingLeft, spreadingLeft, readLeft, writeLeft, writePictureLeft, TargetsLeft, readPictureLeft}
 use Rattle.promises.specs.Clauses.{Run, Step, SumList, DifferenceList, GreatestList, ClosingList, SpreadingList, ReadContent, WriteContent, ReadPicture, WritePicture, LibraryRun, LibraryStep, LibraryPass, LibraryBuffer, LibraryTwo, LibraryReadPicture}
 use Rattle.promises.specs.DemandOne.{AnswerTable, PassTable, ListTable, TwoTable, FieldsTable, SearchTable, GreatestTable, MovingTable, ClosingTable, SpreadingTable, ReadTable, WriteTable, Kept, AllKept, DemandOne}
 
@@ -48,18 +49,19 @@ use Rattle.promises.specs.DemandOne.{AnswerTable, PassTable, ListTable, 
 pass-table : (lines : List ℕ) (flip code : ℕ) → PassTable lines flip code (answer lines flip code)
 pass-table lines flip code =
     record {
-      row-10 = pass-10 lines flip code;
+      refused = pass-refusals lines flip code;
       row-0 = pass-0 lines flip code;
-      zero-item = λ t. sym (ap (λ (r : Passed). r .item) (refused lines flip code t));
+      zero-item = λ t. sym (ap (λ (r : Passed). r .item) (refused lines flip code _ t refl));
       passed = λ t. sym (ap (λ (r : Passed). r .item) (given lines flip code (passedItem lines flip code) t refl));
     }
 
-answer-table : (rows : List Row) (l : Lengths) (list : List ℕ) → numbered rows ≡ true → AnswerTable rows l list (judgedBy rows l list)
-answer-table rows l list apart =
+answer-table : (rows : List Row) (l : Lengths) (list : List ℕ) → numbered rows ≡ true → among 10 rows ≡ false → AnswerTable rows l list (judgedBy rows l list)
+answer-table rows l list apart off =
     record {
       refused = numbers.refusals rows l list apart;
       unrefused = numbers.unrefused rows l list apart;
       done-is = λ z. numbers.done-is rows l list (numbers.unrefused rows l list apart .0 z);
+      never-10 = numbers.never-10 rows l list apart off;
       refused-is = numbers.refusal-counts rows l list apart;
     }
 
@@ -120,7 +122,7 @@ run-meets l u h =
     let e = ap (λ (x : Left (List ℕ) Answer). x .answer) h ∙ ran-answer l in
     let rows = runRows (runLengths l) (l .list) in (
       e,
-      subst (AnswerTable rows (runLengths l) (l .list)) (sym e) (answer-table rows (runLengths l) (l .list) refl),
+      subst (AnswerTable rows (runLengths l) (l .list)) (sym e) (answer-table rows (runLengths l) (l .list) refl refl),
       all-kept l u (λ n. h ∙ sym (ran-refused l (u .answer) e n)),
     )
 
@@ -131,7 +133,7 @@ step-meets l u h =
     let e = ap (λ (x : Left Registers Answer). x .answer) h ∙ stepped-answer l in
     let rows = stepRows (stepLengths l) (l .list) in (
       e,
-      subst (AnswerTable rows (stepLengths l) (l .list)) (sym e) (answer-table rows (stepLengths l) (l .list) refl),
+      subst (AnswerTable rows (stepLengths l) (l .list)) (sym e) (answer-table rows (stepLengths l) (l .list) refl refl),
       all-kept l u (λ n. h ∙ sym (stepped-refused l (u .answer) e n)),
     )
 
@@ -283,7 +285,7 @@ library-pass item flip code passed′ answer′ h =
     (answer item flip code, ap (λ (l : PassLeft). l .answer) h, ap (λ (l : PassLeft). l .passed) h, pass-table item flip code)
 
 library-run : (l : Lent (List ℕ)) (u : Left (List ℕ) (List ℕ)) → LibraryRun l u
-    → (a : Answer) × (u .answer ≡ five a) × AnswerTable (runRows (runLengths l) (l .list)) (runLengths l) (l .list) a × AllKept (a .number) l u
+    → (a : Answer) × (u .answer ≡ six a) × AnswerTable (runRows (runLengths l) (l .list)) (runLengths l) (l .list) a × AllKept (a .number) l u
 unfolding runLeft
 library-run l u h =
     let a = ran l .answer in
@@ -292,7 +294,7 @@ library-run l u h =
     (a, ap (λ (x : Left (List ℕ) (List ℕ)). x .answer) h, m .1, m .2)
 
 library-step : (l : Lent Registers) (u : Left Registers (List ℕ)) → LibraryStep l u
-    → (a : Answer) × (u .answer ≡ five a) × AnswerTable (stepRows (stepLengths l) (l .list)) (stepLengths l) (l .list) a × AllKept (a .number) l u
+    → (a : Answer) × (u .answer ≡ six a) × AnswerTable (stepRows (stepLengths l) (l .list)) (stepLengths l) (l .list) a × AllKept (a .number) l u
 unfolding stepLeft
 library-step l u h =
     let a = stepped l .answer in
@@ -392,6 +394,8 @@ library-write-picture kind memory registers out out′ answer′ h =
 pub demand-one : DemandOne
 demand-one =
     record {
+      listed = listed-none;
+      firstWrong = numbers.in-order;
       pass = λ lines flip code r e. subst (PassTable lines flip code) (sym e) (pass-table lines flip code);
       run = run-meets;
       step = step-meets;

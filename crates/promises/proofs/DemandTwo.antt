@@ -69,11 +69,11 @@ demand-two =
             none = none-permitted;
             shifts = pair-permitted;
             noOthers = permitted-pair;
-            moves = λ l f c i hf hc t hi. ap (λ (x : List ℕ). bitOf x (moved f (c / 16) (c % 16) i)) (passedItem-is l f c t) ∙ passed-at l f (c / 16) (c % 16) (shift c hc t .below) (shift c hc t .within) hf i hi;
-            apart = λ f c i j hc t. moved-injective f (c / 16) (c % 16) i j (shift c hc t .below);
-            reaches = λ f c k hf hc t hk. moved-onto 8 f (c / 16) (c % 16) k (shift c hc t .below) (shift c hc t .within) hf hk;
+            moves = λ l f c i hf t hi. ap (λ (x : List ℕ). bitOf x (moved f (c / 16) (c % 16) i)) (passedItem-is l f c t) ∙ passed-at l f (c / 16) (c % 16) (shift c t .below) (shift c t .within) hf i hi;
+            apart = λ f c i j t. moved-injective f (c / 16) (c % 16) i j (shift c t .below);
+            reaches = λ f c k hf t hk. moved-onto 8 f (c / 16) (c % 16) k (shift c t .below) (shift c t .within) hf hk;
             wiredLine = agree;
-            wiredPass = λ l f c hf hc t. agree-item f (c / 16) (c % 16) l (shift c hc t .below) (shift c hc t .within) hf ∙ sym (passedItem-is l f c t);
+            wiredPass = λ l f c hf t. agree-item f (c / 16) (c % 16) l (shift c t .below) (shift c t .within) hf ∙ sym (passedItem-is l f c t);
           };
       registers =
           record {

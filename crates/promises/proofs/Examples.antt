@@ -1,4 +1,4 @@
--- The examples of specs/Examples.antt: the crates' own Examples compute the starred ones and those of the resolver; the office's of the mask is an instance of `masked-slice`. Assumes nothing.
+-- The examples of specs/Examples.antt: the crates' own Examples compute the starred ones, those of the resolver and those of the byte; the office's of the mask is an instance of `masked-slice`. Assumes nothing.
 use mathlib.Core.Path.{_≡_, refl, ap, ap₂, _∙_}
 use mathlib.Core.Bool.{Bool, cond, _&&_}
 use mathlib.Core.List.{List}
@@ -14,17 +14,18 @@ use Rattle.bits.proofs.Xor.{xor-mirror}
 use Rattle.memory.specs.Table.{table}
 use Rattle.memory.specs.Memory.{cell}
 use Rattle.memory.proofs.Examples.{mode-seven, mode-zero, mode-all}
-use Rattle.network.proofs.Examples.{passed-48, one-mod-8, eight-mod-256, back-31, half-is-flip, refused-136, refused-1}
+use Rattle.network.proofs.Examples.{passed-48, one-mod-8, eight-mod-256, back-31, half-is-flip, refused-136, refused-1, refused-159}
 use Rattle.registers.proofs.Examples.{none-responds, zero-responds, all-respond}
 use Rattle.judge.specs.declared.Instruction.{Instruction}
+use Rattle.judge.proofs.Examples.{store-shifts, resolve-moves, group-of-512, not-below-p, mode-unused}
 use Rattle.module.specs.Act.{State, partAt, modeOf, held, heldItem, sourceItem, acted}
 use Rattle.builders.proofs.Examples.{one-bit, the-fourth, stands, overlaps, reaches, goes-beyond}
 use Rattle.fields.proofs.LineLaws.{masked-slice}
 use Rattle.fields.proofs.SumRuns.{sum-built, difference-built, sum-listed}
 use Rattle.report.specs.Report.{printed}
-use Rattle.report.proofs.Examples.{printed-example}
+use Rattle.report.proofs.Examples.{printed-example, printed-byte}
 use Rattle.promises.proofs.DemandThree.{demand-three}
-use Rattle.promises.specs.Examples.{Starred, Mirrors, EverySecond, SaysNone}
+use Rattle.promises.specs.Examples.{Starred, Mirrors, EverySecond, SaysNone, NamesByte}
 
 pub starred : Starred
 starred =
@@ -107,4 +108,18 @@ every-second = record { written = written; stays = stays }
 -- ---- the resolver says none
 
 pub says-none : SaysNone
-says-none = record { nothing = none-responds; stationZero = zero-responds; printedItem = ap (printed 114 0 0 2 0 1) all-respond ∙ printed-example }
+says-none = record { nothing = none-responds; stationZero = zero-responds; printedItem = ap (printed 114 0 0 0 2 0 1) all-respond ∙ printed-example }
+
+-- ---- the byte
+
+pub names-byte : NamesByte
+names-byte =
+    record {
+      storeShifts = store-shifts;
+      resolveMoves = resolve-moves;
+      groupOf512 = group-of-512;
+      passOf512 = refused-159;
+      notBelowP = not-below-p;
+      modeUnused = mode-unused;
+      printedByte = printed-byte;
+    }

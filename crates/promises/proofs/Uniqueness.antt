@@ -114,7 +114,7 @@ module _ {M : Type 1} (𝓤 : URA M) (H : Heap 𝓤) (A : Atoms 𝓤) (memory : 
   program =
       record {
         session = record { told = _; tells = λ κs a g r e. two 𝓤 _ _ _ (shown-told (now (a .1 .1 .1 .1 .1 .1 .0))) };
-        report = record { told = _; tells = λ κs a g r e. three 𝓤 _ _ _ _ (λ room. followed (λ n. printed (a .0) (a .1 .0) (a .1 .1 .0) (a .1 .1 .1 .0) (a .1 .1 .1 .1 .0) (a .1 .1 .1 .1 .1 .0) (now (a .1 .1 .1 .1 .1 .1 .0)) ++ drop n (now (a .1 .1 .1 .1 .1 .1 .1 .0)))) };
+        report = record { told = _; tells = λ κs a g r e. three 𝓤 _ _ _ _ (λ room. followed (λ n. printed (a .0) (a .1 .0) (a .1 .1 .0) (a .1 .1 .1 .0) (a .1 .1 .1 .1 .0) (a .1 .1 .1 .1 .1 .0) (a .1 .1 .1 .1 .1 .1 .0) (now (a .1 .1 .1 .1 .1 .1 .1 .0)) ++ drop n (now (a .1 .1 .1 .1 .1 .1 .1 .1 .0)))) };
       }
 
   of-bits : OfBits 𝓤 H A memory runs
@@ -161,6 +161,7 @@ module _ {M : Type 1} (𝓤 : URA M) (H : Heap 𝓤) (A : Atoms 𝓤) (memory : 
         passPart = equation 𝓤 _ (λ κs a g r e. refl);
         find = equation 𝓤 _ (λ κs a g r e. refl);
         isCode = equation 𝓤 _ (λ κs a g r e. refl);
+        unlisted = equation 𝓤 _ (λ κs a g r e. refl);
         copied = equation 𝓤 _ (λ κs a g r e. refl);
       }
 

@@ -93,11 +93,11 @@ WritePicture kind memory registers out out′ r =
 
 -- ---- the library for C: each contract is one equation of all that a function leaves, its answer's numbers included
 
--- `staran_run`
+-- `staran_run_4`
 abbrev pub LibraryRun : Lent (List ℕ) → Left (List ℕ) (List ℕ) → Type 0
 LibraryRun l u = u ≡ runLeft l
 
--- `staran_step`
+-- `staran_step_4`
 abbrev pub LibraryStep : Lent Registers → Left Registers (List ℕ) → Type 0
 LibraryStep l u = u ≡ stepLeft l
 
@@ -118,6 +118,6 @@ abbrev pub LibraryReadPicture : (kind : ℕ) (bytes memory registers memory′ r
 LibraryReadPicture kind bytes memory registers memory′ registers′ answer′ =
     _≡_ {A = TargetsLeft} (record { memory = memory′; registers = registers′; answer = answer′ }) (readPictureLeft kind bytes memory registers)
 
--- `staran_version`: 3.1
+-- `staran_version`: 4.0
 abbrev pub LibraryVersion : ℕ → Type 0
-LibraryVersion r = r ≡ version 3 1
+LibraryVersion r = r ≡ version 4 0

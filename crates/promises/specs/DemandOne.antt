@@ -1,5 +1,5 @@
--- Demand 1, on a page: "Every public entry takes arbitrary bytes and lengths, and ends. A list is judged whole before its first instruction acts. A refusal gives the number and place that document 01 fixes, exactly when it says, and no lent byte has changed."
--- A record states each table of document 01; `DemandOne`, below them, has a field for each public entry and for each function of the library. A table is a list of rows with their numbers, in the order in which they are judged; `FirstRow rows n` says that row n is the first that holds. The names are those of specs/. It is proved in proofs/DemandOne.antt, and assumes nothing.
+-- Demand 1, on a page: "Every public entry takes arbitrary bytes and lengths, and ends. A list is judged whole before its first instruction acts. A refusal gives the number and place that document 01 fixes, exactly when it says, and no lent byte has changed." Document 02, Six: "Demand 1 reads with the finer table", and a run's or step's refusal gives the offending byte.
+-- A record states each table of document 01; `DemandOne`, below them, has a field for each public entry and for each function of the library. A table is a list of rows with their numbers, in the order in which they are judged; `FirstRow rows n` says that row n is the first that holds, and `FirstByteRow rows n b` also that its condition about byte b is the first of its conditions that does. The names are those of specs/. It is proved in proofs/DemandOne.antt, and assumes nothing.
 -- What is lent is any list of bytes, and a kind, a start or a width any number: no contract of an entry has a `requires`, so no field has a condition on them. That an entry ends is part of every check. A name with ′ is what a buffer lent for writing holds afterwards; one lent for reading cannot change. What stands before a field's last arrow is the entry's promise, its contract's clauses as specs/Clauses.antt has them.
 use mathlib.Core.Path.{_≡_}
 use mathlib.Core.Bool.{Bool, true, false}
@@ -7,14 +7,17 @@ use mathlib.Core.List.{List, [], _∷_}
 use mathlib.Core.Logic.{_↔_, _≢_}
 use Prim.Native.Nat.{ℕ, _*_, _^_, _<_, _≤_}
 use lib.ListN.{length, replicate}
-use Rattle.bits.specs.Rows.{Row, FirstRow}
+use Rattle.bits.specs.Rows.{Row, NoRow, FirstRow}
 use Rattle.network.specs.declared.Passed.{Passed}
 use Rattle.network.specs.Shifts.{permitted}
+use Rattle.network.specs.Unlisted.{codeRows}
 use Rattle.network.specs.Answer.{passedItem}
 use Rattle.registers.specs.declared.Registers.{Registers}
+use Rattle.judge.specs.declared.Instruction.{Instruction}
 use Rattle.judge.specs.declared.Lengths.{Lengths}
 use Rattle.judge.specs.declared.Answer.{Answer}
-use Rattle.judge.specs.Judge.{runRows, stepRows, refusal, done, judged, judgedStep}
+use Rattle.judge.specs.ByteRows.{InOrder}
+use Rattle.judge.specs.Judge.{instructionRows, runRows, stepRows, refusal, done, judged, judgedStep}
 use Rattle.judge.specs.Numbers.{Gives, Refused, Unrefused}
 use Rattle.module.specs.Run.{Lent, Left, unmoved, runLengths, stepLengths, lentBytes, leftBytes}
 use Rattle.builders.specs.declared.Built.{Built}
@@ -29,27 +32,29 @@ use Rattle.contents.specs.File.{pictureBytes, contentOf, kindRight, sizeFits, b
 use Rattle.contents.specs.Content.{targetFits, contentFits}
 use Rattle.contents.specs.Numbers.{Answers, Sound, ReadRefused, writeRows}
 use Rattle.pictures.specs.Picture.{pictureFits}
-use Rattle.library.specs.Left.{five, three, sumLeft, differenceLeft, equalLeft, lessLeft, greatestLeft, closingLeft, spreadingLeft, readLeft, writeLeft, writePictureLeft}
+use Rattle.library.specs.Left.{six, three, sumLeft, differenceLeft, equalLeft, lessLeft, greatestLeft, closingLeft, spreadingLeft, readLeft, writeLeft, writePictureLeft}
 use Rattle.promises.specs.Clauses.{Run, Step, Pass, SumList, DifferenceList, EqualList, LessList, GreatestList, ClosingList, SpreadingList, ReadContent, WriteContent, ReadPicture, WritePicture, LibraryRun, LibraryStep, LibraryPass, LibraryBuffer, LibraryTwo, LibraryReadPicture, LibraryVersion}
 
--- ---- Network: "it gives 10 and a zero item where byte 6 is none of the 37, and otherwise 0 and the passed item"
+-- ---- Network: "a zero item where byte 6 is none of the 37, and otherwise 0 and the passed item"; document 02, Six: "16, group over 256 lines; 17, m not below p in a byte 6 that is not 0", in this order
 pub record PassTable (lines : List ℕ) (flip code : ℕ) (r : Passed) : Type 0 where
-  pub row-10 : (r .number ≡ 10) ↔ (permitted code ≡ false)
+  pub refused : (n : ℕ) → n ≢ 0 → (r .number ≡ n) ↔ FirstRow (codeRows code) n
   pub row-0 : (r .number ≡ 0) ↔ (permitted code ≡ true)
   pub zero-item : permitted code ≡ false → r .item ≡ replicate 32 0
   pub passed : permitted code ≡ true → r .item ≡ passedItem lines flip code
 
 -- ---- Numbers given back: what a run or a step answers, from the lengths of what is lent and the list
 
--- `rows` are those of what is lent, 1 to 4: `runRows` or `stepRows`. Those of an instruction, 5 to 11, are `instructionRows`; `Refused` has the order of all: "1 to 4 (place 0); then each instruction in turn, 5 to 11; then 12; then 13. Place is the instruction's number; for 12 and 13 the first that lacks its item or room."
+-- `rows` are those of what is lent, 1 to 4: `runRows` or `stepRows`. Those of an instruction, 5 to 9, 18, 16, 17 and 11, are `instructionRows`, with the byte of each condition; `Refused` has the order of all: "1 to 4 (place 0); then each instruction in turn ..; then 12; then 13. Place is the instruction's number; for 12 and 13 the first that lacks its item or room." The byte "is 0 .. for refusals without an instruction and for 12 and 13".
 pub record AnswerTable (rows : List Row) (l : Lengths) (list : List ℕ) (a : Answer) : Type 0 where
-  -- number n is given at place k exactly where the tables say so
-  pub refused : (n k : ℕ) → n ≢ 0 → Gives a n k ↔ Refused rows l list n k
-  -- no row holds anywhere: "Done is 0, place 0; steps is the count of instructions, taken of source 4, given of kinds 4 and 5"
+  -- number n is given at place k for byte b exactly where the tables say so
+  pub refused : (n k b : ℕ) → n ≢ 0 → Gives a n k b ↔ Refused rows l list n k b
+  -- no row holds anywhere: "Done is 0, place 0", byte 0; "steps is the count of instructions, taken of source 4, given of kinds 4 and 5"
   pub unrefused : (a .number ≡ 0) ↔ Unrefused rows l list
   pub done-is : a .number ≡ 0 → a ≡ done list
+  -- "Number 10 is split and no longer given"
+  pub never-10 : a .number ≢ 10
   -- "A refusal has the last three 0"
-  pub refused-is : a .number ≢ 0 → a ≡ refusal (a .number) (a .place)
+  pub refused-is : a .number ≢ 0 → a ≡ refusal (a .number) (a .place) (a .byte)
 
 -- ---- Builders of lists: "In that order; nothing is written and the count is 0. Else .. their count is given"
 
@@ -120,6 +125,10 @@ abbrev pub AllKept : {R A : Type 0} → ℕ → Lent R → Left R A → Type 0
 AllKept number l u = Kept number (l .memory) (u .memory) × Kept number (l .registers) (u .registers) × Kept number (l .out) (u .out)
 
 pub record DemandOne : Type 0 where
+  -- a byte 6 that is neither 16 nor 17 is one of the 37, and the other way
+  pub listed : (c : ℕ) → NoRow (codeRows c) ↔ (permitted c ≡ true)
+  -- the byte is "the first one wrong": the conditions of each row of an instruction stand in the order of the bytes
+  pub firstWrong : (i : Instruction) → InOrder (instructionRows i)
   -- `pass` and `wired_pass`, whose contracts are the same; nothing is lent for writing
   pub pass : (lines : List ℕ) (flip code : ℕ) (r : Passed) → Pass lines flip code r → PassTable lines flip code r
   -- `run`: judged whole before its first instruction acts, since the answer is the judge's, of the lengths and the list alone, whatever the other bytes are
@@ -136,7 +145,7 @@ pub record DemandOne : Type 0 where
       → Step l u → Run (lentBytes l) (leftBytes u)
   -- "Its instruction is exactly 8 bytes, else 3"
   pub stepNotEight : (l : Lent Registers) (u : Left Registers Answer) → length (l .memory) ≡ 8192 → length (l .list) ≢ 8
-      → Step l u → u ≡ unmoved l (refusal 3 0)
+      → Step l u → u ≡ unmoved l (refusal 3 0 0)
   -- `sum_list` and `difference_list`
   pub sumList : (a b s n : ℕ) (list list′ : List ℕ) (r : Built) → SumList a b s n list list′ r
       → FieldsTable 1 a b s n (length list) r × Kept (r .number) list list′
@@ -173,15 +182,15 @@ pub record DemandOne : Type 0 where
       → WriteTable kind (pictureFits kind (length memory) (length registers)) pictureBytes (length out) r × Kept (r .number) out out′
   -- ---- the library for C: the numbers in its answer array are those of the same tables, and a refusal leaves every other lent byte as it was
 
-  -- `staran_pass` and `staran_wired_pass`: "it gives 10 and a zero item", so the item is always written
+  -- `staran_pass` and `staran_wired_pass`: a refusal gives a zero item, so the item is always written
   pub libraryPass : (item : List ℕ) (flip code : ℕ) (passed′ answer′ : List ℕ) → LibraryPass item flip code passed′ answer′
       → (r : Passed) × (answer′ ≡ r .number ∷ []) × (passed′ ≡ r .item) × PassTable item flip code r
-  -- `staran_run`
+  -- `staran_run_4`
   pub libraryRun : (l : Lent (List ℕ)) (u : Left (List ℕ) (List ℕ)) → LibraryRun l u
-      → (a : Answer) × (u .answer ≡ five a) × AnswerTable (runRows (runLengths l) (l .list)) (runLengths l) (l .list) a × AllKept (a .number) l u
-  -- `staran_step`
+      → (a : Answer) × (u .answer ≡ six a) × AnswerTable (runRows (runLengths l) (l .list)) (runLengths l) (l .list) a × AllKept (a .number) l u
+  -- `staran_step_4`
   pub libraryStep : (l : Lent Registers) (u : Left Registers (List ℕ)) → LibraryStep l u
-      → (a : Answer) × (u .answer ≡ five a) × AnswerTable (stepRows (stepLengths l) (l .list)) (stepLengths l) (l .list) a × AllKept (a .number) l u
+      → (a : Answer) × (u .answer ≡ six a) × AnswerTable (stepRows (stepLengths l) (l .list)) (stepLengths l) (l .list) a × AllKept (a .number) l u
   -- `staran_sum_list` and `staran_difference_list`
   pub librarySumList : (a b s n : ℕ) (list list′ answer′ : List ℕ) → LibraryBuffer (sumLeft a b s n list) list′ answer′
       → (r : Built) × (answer′ ≡ r .number ∷ r .count ∷ []) × FieldsTable 1 a b s n (length list) r × Kept (r .number) list list′
@@ -218,5 +227,5 @@ pub record DemandOne : Type 0 where
   pub libraryWritePicture : (kind : ℕ) (memory registers out out′ answer′ : List ℕ) → LibraryBuffer (writePictureLeft kind memory registers out) out′ answer′
       → (r : Moved) × (answer′ ≡ three r) × WriteTable kind (pictureFits kind (length memory) (length registers)) pictureBytes (length out) r
       × Kept (r .number) out out′
-  -- `staran_version` has no number of the tables: 3.1, and nothing else
-  pub libraryVersion : (r : ℕ) → LibraryVersion r → r ≡ 196609
+  -- `staran_version` has no number of the tables: 4.0, and nothing else
+  pub libraryVersion : (r : ℕ) → LibraryVersion r → r ≡ 262144

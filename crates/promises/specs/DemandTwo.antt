@@ -53,15 +53,15 @@ pub record Network : Type 0 where
   -- the shifts of 2^m modulo 2^p are those with 0 ≤ m < p ≤ 8, and none
   pub none : permitted 0 ≡ true
   pub shifts : (p m : ℕ) → m < p → p ≤ 8 → permitted (16 * p + m) ≡ true
-  pub noOthers : (c : ℕ) → c < 256 → permitted c ≡ true → (c ≡ 0) ⊎ ((c % 16 < c / 16) × (c / 16 ≤ 8))
+  pub noOthers : (c : ℕ) → permitted c ≡ true → (c ≡ 0) ⊎ ((c % 16 < c / 16) × (c / 16 ≤ 8))
   -- a pass takes the bit of line I to the line where flip and shift move I; no two lines meet, and each line is reached
-  pub moves : (l : List ℕ) (f c i : ℕ) → f < 256 → c < 256 → permitted c ≡ true → i < 256
+  pub moves : (l : List ℕ) (f c i : ℕ) → f < 256 → permitted c ≡ true → i < 256
       → bitOf (passedItem l f c) (moved f (c / 16) (c % 16) i) ≡ bitOf l i
-  pub apart : (f c i j : ℕ) → c < 256 → permitted c ≡ true → moved f (c / 16) (c % 16) i ≡ moved f (c / 16) (c % 16) j → i ≡ j
-  pub reaches : (f c k : ℕ) → f < 256 → c < 256 → permitted c ≡ true → k < 256 → (i : ℕ) × (i < 256) × (moved f (c / 16) (c % 16) i ≡ k)
+  pub apart : (f c i j : ℕ) → permitted c ≡ true → moved f (c / 16) (c % 16) i ≡ moved f (c / 16) (c % 16) j → i ≡ j
+  pub reaches : (f c k : ℕ) → f < 256 → permitted c ≡ true → k < 256 → (i : ℕ) × (i < 256) × (moved f (c / 16) (c % 16) i ≡ k)
   -- "The wired form must also be there and agree": line by line over the number of levels, so for 3 and 8, and for an item
   pub wiredLine : (n f p m i : ℕ) → p ≤ n → f < 2 ^ n → i < 2 ^ n → wired n f p m i ≡ moved f p m i
-  pub wiredPass : (l : List ℕ) (f c : ℕ) → f < 256 → c < 256 → permitted c ≡ true → wiredItem 8 f (c / 16) (c % 16) l ≡ passedItem l f c
+  pub wiredPass : (l : List ℕ) (f c : ℕ) → f < 256 → permitted c ≡ true → wiredItem 8 f (c / 16) (c % 16) l ≡ passedItem l f c
 
 -- ---- logic and the resolver
 
@@ -116,10 +116,10 @@ pub record Acts (i : Instruction) (items f : List ℕ) (s : State) : Type 0 wher
   pub deliver : i .kind ≡ 4 → acted i items s ≡ left i s (s .mem) (putPart (s .out) (s .given) f) (s .regs)
   pub resolve : i .kind ≡ 5 → acted i items s ≡ left i s (s .mem) (putPart (s .out) (s .given) (resolved (bitOf (s .regs .y)))) (s .regs)
 
--- Document 02, Three: "a masked store writes line P's bit exactly if M's bit P is 1." P is the line that points at the memory's bit, after the flip F, and only the source item goes through the network: where M's bit P is 1, the bit that line P meets becomes the source item's bit P xor F; every other bit of the table stays. Of any masked store that no row of 5 to 11 refuses; mode and address are bytes.
+-- Document 02, Three: "a masked store writes line P's bit exactly if M's bit P is 1." P is the line that points at the memory's bit, after the flip F, and only the source item goes through the network: where M's bit P is 1, the bit that line P meets becomes the source item's bit P xor F; every other bit of the table stays. Of any masked store that no row refuses; mode and address are bytes.
 abbrev pub MasksByLine : Instruction → List ℕ → State → Type 0
 MasksByLine i items s =
-    i .kind ≡ 3 → faultOf i ≡ 0 → modeOf i (s .regs) < 256 → i .addr < 256
+    i .kind ≡ 3 → faultOf i .number ≡ 0 → modeOf i (s .regs) < 256 → i .addr < 256
     → Updated 8 (modeOf i (s .regs)) (i .addr)
     (bitOf (s .regs .m))
     (flipped (sourceItem i (s .mem) items (s .regs) (s .taken)) (i .flip))

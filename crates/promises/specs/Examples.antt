@@ -1,6 +1,7 @@
--- The starred examples of document 01 as one table, in the document's order: its sentences, and of what each is; sums and differences are those of a run of the list that a builder wrote. Then the office's examples of document 02, Three and Four. All are proved in proofs/Examples.antt, and assume nothing.
+-- The starred examples of document 01 as one table, in the document's order: its sentences, and of what each is; sums and differences are those of a run of the list that a builder wrote. Then the office's examples of document 02, Three, Four and Six. All are proved in proofs/Examples.antt, and assume nothing.
 use mathlib.Core.Path.{_≡_}
 use mathlib.Core.List.{List, [], _∷_, _++_}
+use mathlib.Core.Logic.{_⊎_}
 use Prim.Native.Nat.{ℕ, _-_, _*_, _%_, _<_, _≤_}
 use lib.ListN.{length, take, drop, replicate}
 use Rattle.bits.specs.Bits.{bitOf, item}
@@ -36,8 +37,8 @@ pub record Starred : Type 0 where
   pub twoPasses : (moved 255 8 0 (moved 255 8 5 40) ≡ 9) × (moved 255 8 0 (moved 255 8 5 10) ≡ 235)
   -- "128 mod 256 moves all lines as flip 128."
   pub halfIsFlip : (i : ℕ) → i < 256 → moved 0 8 7 i ≡ moved 128 0 0 i
-  -- "Byte 6 = 136 or 1: refused 10."
-  pub noShift : (l : List ℕ) (f : ℕ) → (answer l f 136 ≡ record { number = 10; item = replicate 32 0 }) × (answer l f 1 ≡ record { number = 10; item = replicate 32 0 })
+  -- "Byte 6 = 136 or 1: refused": both with 17, since document 02, Six, splits number 10.
+  pub noShift : (l : List ℕ) (f : ℕ) → (answer l f 136 ≡ record { number = 17; item = replicate 32 0 }) × (answer l f 1 ≡ record { number = 17; item = replicate 32 0 })
   -- "n 8: 200 + 100 leaves 44, Y 1."
   pub adds : (a b s : ℕ) (buffer buffer′ : List ℕ) (lent : Lent (List ℕ)) → Given a b s 8 buffer buffer′ lent → (w : ℕ) → w < 256
       → value (lent .memory) w a 8 ≡ 200 → value (lent .memory) w b 8 ≡ 100
@@ -68,7 +69,7 @@ pub record Mirrors (i : Instruction) (s : State) : Type 0 where
   pub slice : i .mode ≡ 0
   pub bit : i .addr < 256
   pub mirrored : i .flip ≡ 255
-  pub accepted : faultOf i ≡ 0
+  pub accepted : faultOf i .number ≡ 0
   pub everySecond : s .regs .m ≡ replicate 32 85
 
 -- Now the half that M marks is written, whatever the memory held: that bit of a marked station becomes the Y bit of the station across, and every other bit of every station stays.
@@ -78,10 +79,28 @@ pub record EverySecond : Type 0 where
   pub stays : (i : Instruction) (items : List ℕ) (s : State) → Mirrors i s
       → (w b : ℕ) → w < 256 → b < 256 → (w % 2 ≡ 0 → b ≡ i .addr → ⊥) → table (cell (acted i items s .mem)) w b ≡ table (cell (s .mem)) w b
 
--- Document 02, Four: "Operators read "0" as station 0 when nothing answered." The two items, which differ in all three things said, activity, smallest and count; and "document 01's printed item line then starts 0100000001 and goes on in zeros": what the program prints of a full Y, "r 0 0 2 0 1" and the item's 64 digits.
+-- Document 02, Four: "Operators read "0" as station 0 when nothing answered." The two items, which differ in all three things said, activity, smallest and count; and "document 01's printed item line then starts 0100000001 and goes on in zeros": what the program prints of a full Y, "r 0 0 0 2 0 1", with the byte of Six, and the item's 64 digits.
 pub record SaysNone : Type 0 where
   pub nothing : resolved (bitOf (replicate 32 0)) ≡ 0 ∷ 0 ∷ 1 ∷ 0 ∷ 0 ∷ replicate 27 0
   pub stationZero : resolved (bitOf (1 ∷ replicate 31 0)) ≡ 1 ∷ 0 ∷ 0 ∷ 1 ∷ 0 ∷ replicate 27 0
-  pub printedItem : printed 114 0 0 2 0 1 (resolved (bitOf (replicate 32 255)))
-      ≡ (114 ∷ 32 ∷ 48 ∷ 32 ∷ 48 ∷ 32 ∷ 50 ∷ 32 ∷ 48 ∷ 32 ∷ 49 ∷ 10 ∷ [])
+  pub printedItem : printed 114 0 0 0 2 0 1 (resolved (bitOf (replicate 32 255)))
+      ≡ (114 ∷ 32 ∷ 48 ∷ 32 ∷ 48 ∷ 32 ∷ 48 ∷ 32 ∷ 50 ∷ 32 ∷ 48 ∷ 32 ∷ 49 ∷ 10 ∷ [])
       ++ (48 ∷ 49 ∷ 48 ∷ 48 ∷ 48 ∷ 48 ∷ 48 ∷ 48 ∷ 48 ∷ 49 ∷ (replicate 54 48 ++ (10 ∷ [])))
+
+-- Document 02, Six: "A list author gets "10 at 57" and has eight bytes to stare at." Instructions that were refused with 10, and one with 9, by what is wrong now: a number, and the first byte that is wrong by it.
+pub record NamesByte : Type 0 where
+  -- a store of Y with byte 6 = 144, a group of 512 lines: 18 comes before 16
+  pub storeShifts : faultOf (record { kind = 2; source = 3; tag = 1; mode = 0; addr = 9; flip = 0; code = 144; logic = 0 }) ≡ record { number = 18; byte = 6 }
+  -- a resolve with a flip and a shift, and with the shift alone
+  pub resolveMoves : (faultOf (record { kind = 5; source = 0; tag = 0; mode = 0; addr = 0; flip = 1; code = 136; logic = 0 }) ≡ record { number = 18; byte = 5 })
+      × (faultOf (record { kind = 5; source = 0; tag = 0; mode = 0; addr = 0; flip = 0; code = 136; logic = 0 }) ≡ record { number = 18; byte = 6 })
+  -- byte 6 = 159, p 9 and m 15, in a set M from X, and of a pass by itself: 16 comes before 17
+  pub groupOf512 : faultOf (record { kind = 1; source = 2; tag = 0; mode = 0; addr = 0; flip = 0; code = 159; logic = 0 }) ≡ record { number = 16; byte = 6 }
+  pub passOf512 : (l : List ℕ) (f : ℕ) → answer l f 159 ≡ record { number = 16; item = replicate 32 0 }
+  -- document 01's two, 136 and 1
+  pub notBelowP : (c : ℕ) → (c ≡ 136) ⊎ (c ≡ 1)
+      → faultOf (record { kind = 1; source = 2; tag = 0; mode = 0; addr = 0; flip = 0; code = c; logic = 0 }) ≡ record { number = 17; byte = 6 }
+  -- a delivery of Y that has mode and address, but no tag: the mode is the first
+  pub modeUnused : faultOf (record { kind = 4; source = 3; tag = 0; mode = 255; addr = 13; flip = 0; code = 0; logic = 0 }) ≡ record { number = 9; byte = 3 }
+  -- and what the program prints of it as instruction 57: "r 9 57 3 0 0 0"
+  pub printedByte : (out : List ℕ) → printed 114 9 57 3 0 0 0 out ≡ 114 ∷ 32 ∷ 57 ∷ 32 ∷ 53 ∷ 55 ∷ 32 ∷ 51 ∷ 32 ∷ 48 ∷ 32 ∷ 48 ∷ 32 ∷ 48 ∷ 10 ∷ []

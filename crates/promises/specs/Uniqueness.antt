@@ -42,6 +42,7 @@ use Rattle.network.proofs.pass_item as pass_item
 use Rattle.network.proofs.pass_part as pass_part
 use Rattle.network.proofs.codes.find as find
 use Rattle.network.proofs.codes.is_code as is_code
+use Rattle.network.proofs.codes.unlisted as unlisted
 use Rattle.network.proofs.items.copied as copied
 use Rattle.registers.proofs.set_m as set_m
 use Rattle.registers.proofs.logic as logic
@@ -94,8 +95,8 @@ use Rattle.pictures.specs.Picture.{PictureLeft}
 use Rattle.pictures.proofs.read_picture as read_picture
 use Rattle.pictures.proofs.write_picture as write_picture
 use Rattle.library.specs.Left.{PassLeft, BufferLeft, TwoLeft, TargetsLeft}
-use Rattle.library.proofs.staran_run as staran_run
-use Rattle.library.proofs.staran_step as staran_step
+use Rattle.library.proofs.staran_run_4 as library_run
+use Rattle.library.proofs.staran_step_4 as library_step
 use Rattle.library.proofs.staran_pass as staran_pass
 use Rattle.library.proofs.staran_wired_pass as staran_wired_pass
 use Rattle.library.proofs.staran_sum_list as staran_sum_list
@@ -170,8 +171,8 @@ module _ {M : Type 1} (𝓤 : URA M) (H : Heap 𝓤) (A : Atoms 𝓤) (memory : 
   -- ---- the library for C
 
   pub record Library : Type 2 where
-    pub run : OneOutcome 𝓤 staran_run.ended (staran_run.clauses 𝓤 H A memory runs) {O = Left (List ℕ) (List ℕ)} (λ κs r e. record { memory = now (e .0); registers = now (e .1 .0); out = now (e .1 .1 .1 .1 .0); answer = now (e .1 .1 .1 .1 .1 .0) })
-    pub step : OneOutcome 𝓤 staran_step.ended (staran_step.clauses 𝓤 H A memory runs) {O = Left Registers (List ℕ)} (λ κs r e. record { memory = now (e .0); registers = now (e .1 .0); out = now (e .1 .1 .1 .1 .0); answer = now (e .1 .1 .1 .1 .1 .0) })
+    pub run : OneOutcome 𝓤 library_run.ended (library_run.clauses 𝓤 H A memory runs) {O = Left (List ℕ) (List ℕ)} (λ κs r e. record { memory = now (e .0); registers = now (e .1 .0); out = now (e .1 .1 .1 .1 .0); answer = now (e .1 .1 .1 .1 .1 .0) })
+    pub step : OneOutcome 𝓤 library_step.ended (library_step.clauses 𝓤 H A memory runs) {O = Left Registers (List ℕ)} (λ κs r e. record { memory = now (e .0); registers = now (e .1 .0); out = now (e .1 .1 .1 .1 .0); answer = now (e .1 .1 .1 .1 .1 .0) })
     pub pass : OneOutcome 𝓤 staran_pass.ended (staran_pass.clauses 𝓤 H A memory runs) {O = PassLeft} (λ κs r e. record { passed = now (e .1 .1 .1 .0); answer = now (e .1 .1 .1 .1 .0) })
     pub wiredPass : OneOutcome 𝓤 staran_wired_pass.ended (staran_wired_pass.clauses 𝓤 H A memory runs) {O = PassLeft} (λ κs r e. record { passed = now (e .1 .1 .1 .0); answer = now (e .1 .1 .1 .1 .0) })
     pub sumList : OneOutcome 𝓤 staran_sum_list.ended (staran_sum_list.clauses 𝓤 H A memory runs) {O = BufferLeft} (λ κs r e. record { buffer = now (e .1 .1 .1 .1 .0); answer = now (e .1 .1 .1 .1 .1 .0) })
@@ -191,7 +192,7 @@ module _ {M : Type 1} (𝓤 : URA M) (H : Heap 𝓤) (A : Atoms 𝓤) (memory : 
 
   pub record Program : Type 2 where
     pub session : OneOutcome 𝓤 session.ended (session.clauses 𝓤 H A memory runs) {O = Counts × List ℕ × List ℕ} (λ κs r e. (r, now (e .1 .1 .1 .1 .1 .1 .0), now (e .1 .1 .1 .1 .1 .1 .1 .0)))
-    pub report : OneOutcome 𝓤 report.ended (report.clauses 𝓤 H A memory runs) {O = ℕ × List ℕ} (λ κs r e. (r, now (e .1 .1 .1 .1 .1 .1 .1 .0)))
+    pub report : OneOutcome 𝓤 report.ended (report.clauses 𝓤 H A memory runs) {O = ℕ × List ℕ} (λ κs r e. (r, now (e .1 .1 .1 .1 .1 .1 .1 .1 .0)))
 
   -- ---- the inner functions, by crate
 
@@ -232,6 +233,7 @@ module _ {M : Type 1} (𝓤 : URA M) (H : Heap 𝓤) (A : Atoms 𝓤) (memory : 
     pub passPart : OneOutcome 𝓤 pass_part.ended (pass_part.clauses 𝓤 H A memory runs) (λ κs r e. r)
     pub find : OneOutcome 𝓤 find.ended (find.clauses 𝓤 H A memory runs) (λ κs r e. r)
     pub isCode : OneOutcome 𝓤 is_code.ended (is_code.clauses 𝓤 H A memory runs) (λ κs r e. r)
+    pub unlisted : OneOutcome 𝓤 unlisted.ended (unlisted.clauses 𝓤 H A memory runs) (λ κs r e. r)
     pub copied : OneOutcome 𝓤 copied.ended (copied.clauses 𝓤 H A memory runs) (λ κs r e. r)
 
   -- `registers`

@@ -17,10 +17,10 @@ decimal n = decimalIn (suc n) n
 abbrev pub spaced : ℕ → List ℕ
 spaced n = 32 ∷ decimal n
 
--- "It prints: p, l, i or r for picture, list, items or run; number; place; steps; taken; given"; "a line feed ends every line."
-unfoldable pub line : ℕ → ℕ → ℕ → ℕ → ℕ → ℕ → List ℕ
-line letter number place steps taken given =
-    letter ∷ (spaced number ++ (spaced place ++ (spaced steps ++ (spaced taken ++ (spaced given ++ (10 ∷ []))))))
+-- "It prints: p, l, i or r for picture, list, items or run; number; place; steps; taken; given"; document 02, Six: the byte "after the place on every such line"; "a line feed ends every line."
+unfoldable pub line : ℕ → ℕ → ℕ → ℕ → ℕ → ℕ → ℕ → List ℕ
+line letter number place byte steps taken given =
+    letter ∷ (spaced number ++ (spaced place ++ (spaced byte ++ (spaced steps ++ (spaced taken ++ (spaced given ++ (10 ∷ [])))))))
 
 -- A digit below 16 as a lower-case hex digit, and bytes as two each, the first byte first.
 abbrev pub hexDigit : ℕ → ℕ
@@ -36,5 +36,5 @@ itemLines out zero = []
 itemLines out (suc k) = itemLines out k ++ (hexed (take 32 (drop (32 * k) out)) ++ (10 ∷ []))
 
 -- All that is printed: the line, and after it the items that were given.
-unfoldable pub printed : ℕ → ℕ → ℕ → ℕ → ℕ → ℕ → List ℕ → List ℕ
-printed letter number place steps taken given out = line letter number place steps taken given ++ itemLines out given
+unfoldable pub printed : ℕ → ℕ → ℕ → ℕ → ℕ → ℕ → ℕ → List ℕ → List ℕ
+printed letter number place byte steps taken given out = line letter number place byte steps taken given ++ itemLines out given

@@ -38,26 +38,28 @@ fn put_spaced(text: &mut [u8], at: usize, n: u32) -> usize
     put_decimal(text, next, n)
 }
 
-// The line: a letter, five numbers and a line feed.
+// The line: a letter, six numbers and a line feed.
 fn put_line(
     text: &mut [u8],
     letter: u8,
     number: u32,
     place: u32,
+    byte: u32,
     steps: u32,
     taken: u32,
     given: u32,
 ) -> usize
-    requires { ⌜ 57 ≤ length (now text) ⌝ }
-    ensures { λ r. ⌜ (r ≤ 57) × Put 0 (line letter number place steps taken given) (now (text .entry)) r (now (text .exit)) ⌝ }
+    requires { ⌜ 68 ≤ length (now text) ⌝ }
+    ensures { λ r. ⌜ (r ≤ 68) × Put 0 (line letter number place byte steps taken given) (now (text .entry)) r (now (text .exit)) ⌝ }
 {
     let start = put(text, 0, letter);
     let first = put_spaced(text, start, number);
     let second = put_spaced(text, first, place);
-    let third = put_spaced(text, second, steps);
-    let fourth = put_spaced(text, third, taken);
-    let fifth = put_spaced(text, fourth, given);
-    put(text, fifth, 10)
+    let third = put_spaced(text, second, byte);
+    let fourth = put_spaced(text, third, steps);
+    let fifth = put_spaced(text, fourth, taken);
+    let sixth = put_spaced(text, fifth, given);
+    put(text, sixth, 10)
 }
 
 // A digit below 16 as a character.
@@ -110,17 +112,18 @@ pub fn report<'a>(
     letter: u8,
     number: u32,
     place: u32,
+    byte: u32,
     steps: u32,
     taken: u32,
     given: u32,
     out: &'a [u8],
     text: &mut [u8],
 ) -> usize
-    requires { ⌜ (32 * given ≤ length (now out)) × (57 + 65 * given ≤ length (now text)) ⌝ }
+    requires { ⌜ (32 * given ≤ length (now out)) × (68 + 65 * given ≤ length (now text)) ⌝ }
     ensures room { λ r. ⌜ r ≤ length (now (text .exit)) ⌝ }
-    ensures count { λ r. ⌜ r ≡ length (printed letter number place steps taken given (now (out .entry))) ⌝ }
-    ensures text { λ r. ⌜ now (text .exit) ≡ printed letter number place steps taken given (now (out .entry)) ++ drop r (now (text .entry)) ⌝ }
+    ensures count { λ r. ⌜ r ≡ length (printed letter number place byte steps taken given (now (out .entry))) ⌝ }
+    ensures text { λ r. ⌜ now (text .exit) ≡ printed letter number place byte steps taken given (now (out .entry)) ++ drop r (now (text .entry)) ⌝ }
 {
-    let next = put_line(text, letter, number, place, steps, taken, given);
+    let next = put_line(text, letter, number, place, byte, steps, taken, given);
     put_items(text, next, out, given as usize)
 }

@@ -49,7 +49,7 @@ run-small l out′ a e h =
 -- ---- the outcome, by the first refused file
 
 -- a line that gives no items says nothing of the out buffer
-pub line-alone : (letter number place : ℕ) (out : List ℕ) → printed letter number place 0 0 0 out ≡ printed letter number place 0 0 0 []
+pub line-alone : (letter number place : ℕ) (out : List ℕ) → printed letter number place 0 0 0 0 out ≡ printed letter number place 0 0 0 0 []
 unfolding printed itemLines
 line-alone letter number place out = refl
 
@@ -84,8 +84,8 @@ next-shown letter a b next next′ r old text after after′ e z q s =
 -- a run's lines and its picture
 pub finished-shown : (o : Outcome) (s : Left (List ℕ) Answer) (m g out : List ℕ) (a : Answer) (n w : ℕ) (old text after after′ : List ℕ)
     → o ≡ finished s → _≡_ {A = Left (List ℕ) Answer} (record { memory = m; registers = g; out = out; answer = a }) s
-    → n ≤ length text → n ≡ length (printed 114 (a .number) (a .place) (a .steps) (a .taken) (a .given) out)
-    → text ≡ printed 114 (a .number) (a .place) (a .steps) (a .taken) (a .given) out ++ drop n old
+    → n ≤ length text → n ≡ length (printed 114 (a .number) (a .place) (a .byte) (a .steps) (a .taken) (a .given) out)
+    → text ≡ printed 114 (a .number) (a .place) (a .byte) (a .steps) (a .taken) (a .given) out ++ drop n old
     → w ≤ 8704 → w ≡ length (afterOf (a .number) m g) → after′ ≡ over (afterOf (a .number) m g) after
     → Both o (record { text = n; after = w }) old text after after′
 unfolding finished

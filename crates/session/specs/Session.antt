@@ -57,9 +57,9 @@ pub record Outcome : Type 0 where
   pub text : List ℕ
   pub after : List ℕ
 
--- "The first refused file gives the only line, p, l or i, with zeros for the counts."
+-- "The first refused file gives the only line, p, l or i, with zeros for the counts", and for the byte.
 abbrev pub onlyLine : ℕ → Moved → Outcome
-onlyLine letter a = record { text = printed letter (a .number) (a .place) 0 0 0 []; after = [] }
+onlyLine letter a = record { text = printed letter (a .number) (a .place) 0 0 0 0 []; after = [] }
 
 -- "If done writes after.pic": the picture of memory and registers after the run, and nothing where the number is not 0.
 unfoldable pub afterOf : ℕ → List ℕ → List ℕ → List ℕ
@@ -69,7 +69,7 @@ afterOf number mem regs = cond (eqb number 0) (blocksOf 1 (pictureOf mem regs)) 
 unfoldable pub finished : Left (List ℕ) Answer → Outcome
 finished s =
     record {
-      text = printed 114 (s .answer .number) (s .answer .place) (s .answer .steps) (s .answer .taken) (s .answer .given) (s .out);
+      text = printed 114 (s .answer .number) (s .answer .place) (s .answer .byte) (s .answer .steps) (s .answer .taken) (s .answer .given) (s .out);
       after = afterOf (s .answer .number) (s .memory) (s .registers);
     }
 

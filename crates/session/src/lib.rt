@@ -107,7 +107,7 @@ fn take_content(found: Found, kind: usize, buffer: &[u8], target: &mut [u8]) -> 
 
 // The line of a refused file.
 fn print_line(letter: u8, a: Moved, text: &mut [u8]) -> Counts
-    requires { ⌜ (a .place ≤ 17) × (57 ≤ length (now text)) ⌝ }
+    requires { ⌜ (a .place ≤ 17) × (68 ≤ length (now text)) ⌝ }
     ensures { λ r. ⌜ Shown (onlyLine letter a) r (now (text .entry)) (now (text .exit)) ⌝ }
 {
     let none = [0u8; 1];
@@ -115,6 +115,7 @@ fn print_line(letter: u8, a: Moved, text: &mut [u8]) -> Counts
         letter,
         a.number as u32,
         a.place as u32,
+        0,
         0,
         0,
         0,
@@ -126,17 +127,18 @@ fn print_line(letter: u8, a: Moved, text: &mut [u8]) -> Counts
 
 // The lines of a run: its numbers, and the items that it has given.
 fn print_run(a: judge::Answer, out: &[u8], text: &mut [u8]) -> usize
-    requires { ⌜ Small a (length (now out)) × (length (now out) ≡ 8192) × (16697 ≤ length (now text)) ⌝ }
+    requires { ⌜ Small a (length (now out)) × (length (now out) ≡ 8192) × (16708 ≤ length (now text)) ⌝ }
     ensures room { λ r. ⌜ r ≤ length (now (text .exit)) ⌝ }
     ensures count { λ r. ⌜ r
-        ≡ length (printed 114 (a .number) (a .place) (a .steps) (a .taken) (a .given) (now (out .entry))) ⌝ }
+        ≡ length (printed 114 (a .number) (a .place) (a .byte) (a .steps) (a .taken) (a .given) (now (out .entry))) ⌝ }
     ensures text { λ r. ⌜ now (text .exit)
-        ≡ printed 114 (a .number) (a .place) (a .steps) (a .taken) (a .given) (now (out .entry)) ++ drop r (now (text .entry)) ⌝ }
+        ≡ printed 114 (a .number) (a .place) (a .byte) (a .steps) (a .taken) (a .given) (now (out .entry)) ++ drop r (now (text .entry)) ⌝ }
 {
     report::report(
         b'r',
         a.number as u32,
         a.place as u32,
+        a.byte as u32,
         a.steps as u32,
         a.taken as u32,
         a.given as u32,
@@ -169,7 +171,7 @@ fn finish(
     text: &mut [u8],
 ) -> Counts
     requires { ⌜ (length (now memory) ≡ 8192) × (length (now registers) ≡ 96) × (length (now out) ≡ 8192)
-        × (length (now after) ≡ 8704) × (16697 ≤ length (now text)) ⌝ }
+        × (length (now after) ≡ 8704) × (16708 ≤ length (now text)) ⌝ }
     ensures text { λ r. ⌜ Shown
         (finished (ran (record {
           memory = now (memory .entry);
@@ -206,7 +208,7 @@ fn with_items(
     text: &mut [u8],
 ) -> Counts
     requires { ⌜ (length (now memory) ≡ 8192) × (length (now registers) ≡ 96)
-        × (length (now after) ≡ 8704) × (16697 ≤ length (now text)) ⌝ }
+        × (length (now after) ≡ 8704) × (16708 ≤ length (now text)) ⌝ }
     ensures text { λ r. ⌜ Shown (withItems (now (memory .entry)) (now (registers .entry)) (now (list .entry))
         (fileOf i (now (items .entry)))) r (now (text .entry)) (now (text .exit)) ⌝ }
     ensures after { λ r. ⌜ now (after .exit) ≡ over (withItems (now (memory .entry)) (now (registers .entry))
@@ -234,7 +236,7 @@ fn with_list(
     text: &mut [u8],
 ) -> Counts
     requires { ⌜ (length (now memory) ≡ 8192) × (length (now registers) ≡ 96)
-        × (length (now after) ≡ 8704) × (16697 ≤ length (now text)) ⌝ }
+        × (length (now after) ≡ 8704) × (16708 ≤ length (now text)) ⌝ }
     ensures text { λ r. ⌜ Shown (withList (now (memory .entry)) (now (registers .entry)) (fileOf l (now (list .entry)))
         (fileOf i (now (items .entry)))) r (now (text .entry)) (now (text .exit)) ⌝ }
     ensures after { λ r. ⌜ now (after .exit) ≡ over (withList (now (memory .entry)) (now (registers .entry))
@@ -262,7 +264,7 @@ pub fn session(
     after: &mut [u8],
     text: &mut [u8],
 ) -> Counts
-    requires { ⌜ (length (now after) ≡ 8704) × (16697 ≤ length (now text)) ⌝ }
+    requires { ⌜ (length (now after) ≡ 8704) × (16708 ≤ length (now text)) ⌝ }
     ensures text { λ r. ⌜ Shown (outcome (fileOf p (now (picture .entry))) (fileOf l (now (list .entry)))
         (fileOf i (now (items .entry)))) r (now (text .entry)) (now (text .exit)) ⌝ }
     ensures after { λ r. ⌜ now (after .exit) ≡ over (outcome (fileOf p (now (picture .entry))) (fileOf l (now (list .entry)))

@@ -20,16 +20,10 @@ fn narrow(x: usize) -> u32 {
     (x % 4294967296) as u32
 }
 
-// An answer of five numbers, the fewest of the protocol.
-pub(crate) fn five(a: u32, b: u32, c: u32, d: u32, e: u32) -> Numbers {
-    let mut w = [0u32; 16];
-    w[0] = a;
-    w[1] = b;
-    w[2] = c;
-    w[3] = d;
-    w[4] = e;
+// Every byte of the buffers is digested.
+fn fixed(count: usize, w: [u32; 16]) -> Numbers {
     Numbers {
-        count: 5,
+        count: count,
         unfixed: Unfixed {
             registers: 0,
             list: 0,
@@ -39,23 +33,40 @@ pub(crate) fn five(a: u32, b: u32, c: u32, d: u32, e: u32) -> Numbers {
     }
 }
 
+// An answer of five numbers, of which the last two are 0: the fewest of the protocol.
+pub(crate) fn three(a: u32, b: u32, c: u32) -> Numbers {
+    let mut w = [0u32; 16];
+    w[0] = a;
+    w[1] = b;
+    w[2] = c;
+    fixed(5, w)
+}
+
 // A run's or a step's answer.
 pub(crate) fn of_run(r: judge::Answer) -> Numbers {
-    five(
-        r.number as u32,
-        narrow(r.place),
-        narrow(r.steps),
-        narrow(r.taken),
-        narrow(r.given),
-    )
+    let mut w = [0u32; 16];
+    w[0] = r.number as u32;
+    w[1] = narrow(r.place);
+    w[2] = r.byte as u32;
+    w[3] = narrow(r.steps);
+    w[4] = narrow(r.taken);
+    w[5] = narrow(r.given);
+    fixed(6, w)
+}
+
+// The same where nothing is run, with the number of a builder that refused, or 0.
+pub(crate) fn of_none(number: u8) -> Numbers {
+    let mut w = [0u32; 16];
+    w[0] = number as u32;
+    fixed(6, w)
 }
 
 // A builder's answer.
 pub(crate) fn of_builder(r: builders::Built) -> Numbers {
-    five(r.number as u32, 0, narrow(r.count), 0, 0)
+    three(r.number as u32, 0, narrow(r.count))
 }
 
-// The answer of a builder of two buffers, and behind it the five numbers of its run.
+// The answer of a builder of two buffers, and behind it the six numbers of its run.
 fn of_two(r: builders::BuiltTwo, run: Numbers, unfixed: Unfixed) -> Numbers {
     let v = run.w;
     let mut w = [0u32; 16];
@@ -67,8 +78,9 @@ fn of_two(r: builders::BuiltTwo, run: Numbers, unfixed: Unfixed) -> Numbers {
     w[5] = v[2];
     w[6] = v[3];
     w[7] = v[4];
+    w[8] = v[5];
     Numbers {
-        count: 8,
+        count: 9,
         unfixed: unfixed,
         w: w,
     }
@@ -96,5 +108,5 @@ pub(crate) fn of_closing(r: builders::BuiltTwo, run: Numbers, done: bool) -> Num
 
 // The answer of an entry of the disk.
 pub(crate) fn of_disk(r: contents::Moved) -> Numbers {
-    five(r.number as u32, narrow(r.place), narrow(r.bytes), 0, 0)
+    three(r.number as u32, narrow(r.place), narrow(r.bytes))
 }

@@ -1,8 +1,9 @@
 // The entry that a case names is called on its buffers: each call takes those that it lends out of the room, and gives back those that may be written.
 use super::answers::Numbers;
-use super::answers::five;
 use super::answers::of_builder;
 use super::answers::of_disk;
+use super::answers::of_none;
+use super::answers::three;
 use super::closings::call_closing;
 use super::records::byte;
 use super::records::parameter;
@@ -35,7 +36,7 @@ fn call_pass(record: &[u8], room: &mut [u8], wires: bool) -> Numbers {
     let r = passed(&item, parameter(record, 0), parameter(record, 1), wires);
     let given = r.item;
     give(record, 4, room, &given);
-    five(r.number as u32, 0, 0, 0, 0)
+    three(r.number as u32, 0, 0)
 }
 
 // The builder of differences or of sums, on the case's numbers.
@@ -69,7 +70,7 @@ fn build(record: &[u8], room: &mut [u8], minus: bool) -> builders::Built {
 fn call_both(record: &[u8], room: &mut [u8], minus: bool) -> Numbers {
     let r = build(record, room, minus);
     if r.number != 0 {
-        return five(r.number as u32, 0, 0, 0, 0);
+        return of_none(r.number);
     }
     call_module(record, room, r.count, false)
 }

@@ -1,7 +1,7 @@
 // The calls of closing and spreading, kinds 15 and 16: a list is built into the case's list and items by the marks that its file is, and run if it was.
 use super::answers::Numbers;
-use super::answers::five;
 use super::answers::of_closing;
+use super::answers::of_none;
 use super::records::parameter;
 use super::rooms::front;
 use super::rooms::give;
@@ -65,7 +65,7 @@ fn build(record: &[u8], room: &mut [u8], back: bool) -> builders::BuiltTwo {
 pub(crate) fn call_closing(record: &[u8], room: &mut [u8], back: bool) -> Numbers {
     let r = build(record, room, back);
     if r.number != 0 {
-        return of_closing(r, five(0, 0, 0, 0, 0), false);
+        return of_closing(r, of_none(0), false);
     }
     let run = call_module(record, room, r.list, false);
     let w = run.w;

@@ -1,6 +1,6 @@
 // The searches' calls, kinds 12 to 14: a search is built into the case's list and items, and run if it was.
 use super::answers::Numbers;
-use super::answers::five;
+use super::answers::of_none;
 use super::answers::of_search;
 use super::records::parameter;
 use super::rooms::front;
@@ -61,7 +61,7 @@ fn build(record: &[u8], room: &mut [u8], kind: u8) -> builders::BuiltTwo {
 pub(crate) fn call_search(record: &[u8], room: &mut [u8], kind: u8) -> Numbers {
     let r = build(record, room, kind);
     if r.number != 0 {
-        return of_search(r, five(0, 0, 0, 0, 0));
+        return of_search(r, of_none(0));
     }
     let run = call_module(record, room, r.list, false);
     of_search(r, run)

@@ -4,7 +4,7 @@
 
 The repository is copied into a temporary directory; there each mistake in turn is put into the copy,
 the copy answers the stored cases (crates/vectors/stdin), and the answers are compared with its stdout. A mistake that no case
-notices is printed as SURVIVED.
+notices is printed as SURVIVED. Without numbers all are tried, else those with these numbers (from 0).
 """
 import os
 import shutil
@@ -29,11 +29,11 @@ M=[
 ('machine.rs','if touched && b[2] == 0 {','if touched && b[2] == 0 && b[3] != 0 {'),
 ('machine.rs','if touched && b[2] > 1 {','if touched && b[2] > 2 {'),
 ('machine.rs','if touched && b[2] > 1 {','if touched && b[2] % 2 == 0 {'),
-('machine.rs','if store && b[6] != 0 {','if kind == 2 && b[6] != 0 {'),
-('machine.rs','(b[5] != 0 || b[6] != 0)','(b[6] != 0)'),
-('machine.rs','(b[5] != 0 || b[6] != 0)','(b[5] != 0)'),
-('machine.rs','b[2] != 0 || b[3] != 0 || b[4] != 0','b[2] != 0 || b[3] != 0'),
-('machine.rs','b[2] != 0 || b[3] != 0 || b[4] != 0','b[3] != 0 || b[4] != 0'),
+('machine.rs','2 | 3 => zeros(b, &[6], 18)?','2 => zeros(b, &[6], 18)?'),
+('machine.rs','zeros(b, &[5, 6], 18)','zeros(b, &[6], 18)'),
+('machine.rs','zeros(b, &[5, 6], 18)','zeros(b, &[5], 18)'),
+('machine.rs','zeros(b, &[2, 3, 4], 9)','zeros(b, &[2, 3], 9)'),
+('machine.rs','zeros(b, &[2, 3, 4], 9)','zeros(b, &[3, 4], 9)'),
 ('machine.rs','if choice > 4 {','if choice > 5 {'),
 ('machine.rs','} else if b[7] != 0 {','} else if b[7] / 16 != 0 {'),
 ('machine.rs','} else if b[7] != 0 {','} else if kind != 5 && b[7] != 0 {'),
@@ -49,13 +49,13 @@ M=[
 ('machine.rs','if instruction.len() != 8 {','if instruction.len() % 8 != 0 {'),
 ('machine.rs','2 * (r as u8) + f as u8','r as u8 + 2 * f as u8'),
 ('machine.rs','self.y.iter().position','self.y.iter().rposition'),
-('machine.rs','map_err(|number| (number, place))','map_err(|number| (number, place + 1))'),
+('machine.rs','map_err(|fault| fault.at(place))','map_err(|fault| fault.at(place + 1))'),
 ('machine.rs','if masked {','if true {'),
 ('machine.rs','self.m = passed;','self.m = source_item;'),
 ('machine.rs','Some(pack(&passed))','Some(pack(&source_item))'),
 ('machine.rs','self.y[line] = new_y;\n                }\n                3 =>','self.y[line] = function_bit(function, old_y[line], new_x);\n                }\n                3 =>'),
-('machine.rs','return Err((12, place))','return Err((12, 0))'),
-('machine.rs','return Err((13, place))','return Err((13, 0))'),
+('machine.rs','Answer::refused(12, place)','Answer::refused(12, 0)'),
+('machine.rs','Answer::refused(13, place)','Answer::refused(13, 0)'),
 ('lists.rs','(overlap(&field_s, &field_a) && s != a) || (overlap(&field_s, &field_b) && s != b)','(overlap(&field_s, &field_a) || overlap(&field_s, &field_b)) && s != b && s != a'),
 ('lists.rs','(overlap(&field_s, &field_a) && s != a) ||','(overlap(&field_s, &field_a) && s > a) ||'),
 ('lists.rs','if difference { 9 } else { 6 }','6'),
@@ -235,11 +235,68 @@ M=[
 ('closing.rs','moved(way, fields, marks,','moved(way, fields, &registers[64..96],'),
 ('closing.rs','run(memory, registers, &[], items, &mut [])','run(memory, registers, &[], &items[..32 * way.taken(fields.width) as usize], &mut [])'),
 ('closing.rs','    if judged.number != 0 {','    if judged.number != 0 && judged.number != 4 {'),
+# document 02, Six: the split of 10 by byte 6 and its borders, in instructions and passes
+('network.rs','if p > 8 { 16 } else { 17 }','if p > 8 { 17 } else { 16 }'),
+('network.rs','if p > 8 { 16 } else { 17 }','16'),
+('network.rs','if p > 8 { 16 } else { 17 }','17'),
+('network.rs','if p > 8 { 16 } else { 17 }','if p > 8 { 10 } else { 10 }'),
+('network.rs','if p > 8 { 16','if p > 9 { 16'),
+('network.rs','if p > 8 { 16','if p > 7 { 16'),
+('network.rs','if p > 8 { 16','if p > 8 && byte6 != 0x90 { 16'),
+('network.rs','if p > 8 { 16','if p > 8 || byte6 == 0x8F { 16'),
+('network.rs','if p > 8 { 16','if p > 8 || byte6 == 0x88 { 16'),
+('network.rs','if p > 8 { 16','if p > 8 || p == 0 { 16'),
+('network.rs','if p > 8 { 16 } else { 17 }','if byte6 % 16 >= p { 17 } else { 16 }'),
+('network.rs','if byte6 == 0 {','if byte6 < 16 {'),
+('network.rs','if byte6 == 0 {','if byte6 == 0 || byte6 == 0x90 {'),
+('network.rs','if byte6 == 0 {','if byte6 == 0 || byte6 == 0x88 {'),
+('network.rs','if 16 * p + m == byte6 as u32 {','if 16 * p + m == byte6 as u32 && byte6 != 0x80 {'),
+('network.rs','Err(number) => (number, [0; 32])','Err(_) => (10, [0; 32])'),
+('network.rs','Err(number) => (number, [0; 32])','Err(_) => (18, [0; 32])'),
+('network.rs','Err(number) => (number, [0; 32])','Err(number) => (number, *item)'),
+# the order: 18 after 16 and 17, after 16 alone, after 17 alone; the moves before the access, 18 before 9 in a resolve;
+# 11 before the moves, before 18 in a store and in a resolve, before 16 and 17; 18 for kinds that may move
+('machine.rs','    match b[0] {\n        2 | 3 => zeros','    shift_of(b[6]).or_else(|number| wrong(number, 6))?;\n    match b[0] {\n        2 | 3 => zeros'),
+('machine.rs','    match b[0] {\n        2 | 3 => zeros','    if shift_of(b[6]) == Err(16) {\n        return wrong(16, 6);\n    }\n    match b[0] {\n        2 | 3 => zeros'),
+('machine.rs','    match b[0] {\n        2 | 3 => zeros','    if shift_of(b[6]) == Err(17) {\n        return wrong(17, 6);\n    }\n    match b[0] {\n        2 | 3 => zeros'),
+('machine.rs','    judge_access(b)?;\n    let shift = judge_move(b)?;','    let shift = judge_move(b)?;\n    judge_access(b)?;'),
+('machine.rs','    zeros(b, &[2, 3, 4], 9)','    if resolve {\n        zeros(b, &[5, 6], 18)?;\n    }\n    zeros(b, &[2, 3, 4], 9)'),
+('machine.rs','    let shift = judge_move(b)?;\n    let (choice, function) = judge_logic(b)?;','    let (choice, function) = judge_logic(b)?;\n    let shift = judge_move(b)?;'),
+('machine.rs','2 | 3 => zeros(b, &[6], 18)?','2 | 3 => judge_logic(b).and(zeros(b, &[6], 18))?'),
+('machine.rs','5 => zeros(b, &[5, 6], 18)?','5 => judge_logic(b).and(zeros(b, &[5, 6], 18))?'),
+('machine.rs','        _ => {}\n    }\n    shift_of','        _ => judge_logic(b).map(|_| ())?,\n    }\n    shift_of'),
+('machine.rs','        _ => {}\n    }\n    shift_of','        _ => shift_of(b[6]).map(|_| ()).or_else(|_| wrong(18, 6))?,\n    }\n    shift_of'),
+# the byte: the last and not the first, of 9 alone and of 18 alone; 0 and 2 for 9; byte 5 of a store judged, and named
+# beside a shift; byte 5 for 16 and 17; others for 6, 7, 8 and 11; from 1; never; only in front; not in a step
+('machine.rs','bytes.iter().find(','bytes.iter().rfind('),
+('machine.rs','zeros(b, &[2, 3, 4], 9)','zeros(b, &[4, 3, 2], 9)'),
+('machine.rs','zeros(b, &[2, 3, 4], 9)','zeros(b, &[2, 4, 3], 9)'),
+('machine.rs','zeros(b, &[5, 6], 18)','zeros(b, &[6, 5], 18)'),
+('machine.rs','zeros(b, &[2, 3, 4], 9)','zeros(b, &[2, 3, 4], 9).or(wrong(9, 0))'),
+('machine.rs','zeros(b, &[2, 3, 4], 9)','zeros(b, &[2, 3, 4], 9).or(wrong(9, 2))'),
+('machine.rs','2 | 3 => zeros(b, &[6], 18)?','2 | 3 => zeros(b, &[5, 6], 18)?'),
+('machine.rs','2 | 3 => zeros(b, &[6], 18)?','2 | 3 if b[6] != 0 => zeros(b, &[5, 6], 18)?'),
+('machine.rs','or_else(|number| wrong(number, 6))','or_else(|number| wrong(number, 5))'),
+('machine.rs','wrong(6, 1)','wrong(6, 0)'),
+('machine.rs','wrong(7, 2)','wrong(7, 3)'),
+('machine.rs','wrong(8, 2)','wrong(8, 3)'),
+('machine.rs','wrong(11, 7)','wrong(11, 6)'),
+('machine.rs','byte: self.byte as u32','byte: self.byte as u32 + 1'),
+('machine.rs','byte: self.byte as u32','byte: 0'),
+('machine.rs','byte: self.byte as u32','byte: if place == 0 { self.byte as u32 } else { 0 }'),
+('machine.rs','run_judged(memory, registers, instruction, items, out)','Answer { byte: 0, ..run_judged(memory, registers, instruction, items, out) }'),
+# a byte where there is none: 12, 13, 1 to 4, done
+('machine.rs','Answer::refused(12, place)','Fault { number: 12, byte: 1 }.at(place)'),
+('machine.rs','Answer::refused(13, place)','Fault { number: 13, byte: 7 }.at(place)'),
+('machine.rs','Answer { number, place: place as u32,','Answer { number, place: place as u32, byte: (number < 5) as u32,'),
+('machine.rs','Answer { steps: instructions','Answer { byte: 7, steps: instructions'),
 ]
 
 
 def main():
     only = [int(a) for a in sys.argv[1:]]
+    for i, (name, old, _) in enumerate(M):
+        assert old in open(os.path.join(HERE, 'emulator/src', name)).read(), (i, old)
     expected = open(os.path.join(HERE, '../../crates/vectors/stdout'), 'rb').read().split(b'\n')
     survived = 0
     with tempfile.TemporaryDirectory() as room:
@@ -250,7 +307,6 @@ def main():
                 continue
             path = os.path.join(copy, 'emulator/src', name)
             source = open(path).read()
-            assert old in source, (i, old)
             open(path, 'w').write(source.replace(old, new))
             subprocess.run(['cargo', 'build', '--offline', '--release', '-q', '-p', 'cases'], cwd=copy, check=True,
                            stderr=subprocess.DEVNULL)

@@ -1,6 +1,7 @@
 """The making of the buffers and the digest once more, from PROTOCOL.md alone: checks that page and
-the stored files against each other for every buffer that a call leaves as it was, and for the searches,
-for closing and for spreading every word of the answer.
+the stored files against each other for every buffer that a call leaves as it was, for runs, steps, passes,
+sums and differences built and run every number, and for the searches, for closing and for spreading every
+word of the answer.
 
     python3 extra/protocol.py ../../crates/vectors/stdin ../../crates/vectors/stdout
 """
@@ -62,12 +63,55 @@ def make(r):
         at+=4+n
     assert at==len(r)
     return kind,p,B
+def fault(b):
+    """Number and byte from the page's part on the offending byte; None if the instruction stands."""
+    kind,source=b[:2];store=kind in(2,3)
+    touches=store or kind in(0,1,4) and source==0
+    zero=lambda bytes_:[k for k in bytes_ if b[k]]
+    p,m=divmod(b[6],16)
+    table=[(5,[0]*(kind>5)),
+           (6,[1]*(source>4 or store and source==0 or kind==5 and source>0)),
+           (7,[2]*(touches and b[2]==0)),
+           (8,[2]*(touches and b[2]>1)),
+           (9,zero(() if touches else (2,3,4))),
+           (18,zero((6,) if store else (5,6) if kind==5 else ())),
+           (16,[6]*(p>8)),
+           (17,[6]*(b[6]>0 and m>=p)),
+           (11,[7]*(b[7]//16>4 if kind==0 else b[7]>0))]
+    return next(((number,wrong[0]) for number,wrong in table if wrong),None)
+def run(kind,B):
+    """Kinds 0 and 1: the six numbers."""
+    mem,reg,lst,itm,out=B[:5]
+    if kind and len(reg)!=96: return 6*[0]
+    bad=1 if len(mem)!=8192 else 2 if len(reg)!=96 else 3 if (len(lst)!=8 if kind else len(lst)%8 or len(lst)>32768) else 4 if len(itm)%32 or len(itm)>32768 else 0
+    if bad: return [bad,0,0,0,0,0]
+    code=[lst[k:k+8] for k in range(0,len(lst),8)]
+    for place,b in enumerate(code):
+        wrong=fault(b)
+        if wrong: return [wrong[0],place,wrong[1],0,0,0]
+    takes=[place for place,b in enumerate(code) if b[1]==4]
+    gives=[place for place,b in enumerate(code) if b[0]>3]
+    for number,places,there in((12,takes,len(itm)//32),(13,gives,len(out)//32)):
+        if len(places)>there: return [number,places[there],0,0,0,0]
+    return [0,0,0,len(code),len(takes),len(gives)]
+def built(kind,p,B):
+    """Kinds 10 and 11: the six numbers."""
+    a,b,s,n=p;steps=kind-9+5*n
+    meets=lambda f:abs(s-f)<n and s!=f
+    no=30 if not 1<=n<=64 else 31 if max(a,b,s)+n>256 else 32 if meets(a) or meets(b) else 33 if len(B[2])<8*steps else 0
+    bad=no or (1 if len(B[0])!=8192 else 2 if len(B[1])!=96 else 4 if len(B[3])%32 or len(B[3])>32768 else 0)
+    return [bad,0,0,0,0,0] if bad else [0,0,0,steps,0,0]
+def numbers(kind,p,B):
+    """The numbers of the answer of kinds 0 to 3, 10 and 11; of the others how many there are."""
+    if kind<2: return run(kind,B)
+    if kind<4: return [(fault([0,1,0,0,0,0,p[1],0]) or [0])[0],0,0,0,0]
+    return built(kind,p,B) if kind>9 else 5*[None]
 def search(kind,p,B):
     """Kinds 12 to 14 from the page's part on searches: all words of the answer."""
     mem,reg,lst,itm=B[:4];start,n,number=p[0],p[1],p[2]+(p[3]<<32)
     steps,taken=(1+11*n,0) if kind==14 else (2+3*n,n)
     no=30 if not 1<=n<=64 else 31 if start+n>256 else 34 if kind<14 and number>=2**n else 33 if len(lst)<8*steps or len(itm)<32*taken else 0
-    if no: return [no]+7*[0]+[digest(b) for b in B]
+    if no: return [no]+8*[0]+[digest(b) for b in B]
     for k in range(taken):itm[32*k:32*k+32]=bytes([255*(number>>k&1)])*32
     bad=1 if len(mem)!=8192 else 2 if len(reg)!=96 else 4 if len(itm)%32 or len(itm)>32768 else 0
     if not bad:
@@ -76,14 +120,14 @@ def search(kind,p,B):
         top=max([v[w] for w in was],default=0)
         y=sum(1<<w for w in range(256) if (v[w]==number if kind==12 else v[w]<number if kind==13 else w in was and v[w]==top)).to_bytes(32,'little')
         reg[32:96]=(bytes(32) if kind==14 else y)+y
-    return [0,8*steps,32*taken]+([bad,0,0,0,0] if bad else [0,0,steps,taken,0])+[digest(b[8*steps:] if k==2 else b) for k,b in enumerate(B)]
+    return [0,8*steps,32*taken]+([bad,0,0,0,0,0] if bad else [0,0,0,steps,taken,0])+[digest(b[8*steps:] if k==2 else b) for k,b in enumerate(B)]
 def closing(kind,p,B):
     """Kinds 15 and 16 from the page's part on closing and spreading: all words of the answer."""
     mem,reg,lst,itm,_,marks=B;a,s,n=p[:3]
     steps,taken=(10+19*n,9) if kind==15 else (1+18*n,1+8*n)
     common=max(a,s)<min(a,s)+n
     no=35 if len(marks)!=32 else 30 if not 1<=n<=32 else 31 if max(a,s)+n>256 else 32 if common else 33 if len(lst)<8*steps or len(itm)<32*taken else 0
-    if no: return [no]+7*[0]+[digest(b) for b in B]
+    if no: return [no]+8*[0]+[digest(b) for b in B]
     bad=1 if len(mem)!=8192 else 2 if len(reg)!=96 else 4 if len(itm)%32 or len(itm)>32768 else 0
     if not bad:
         # slice by slice, as numbers of 256 bits: bit w is that of word w
@@ -103,7 +147,7 @@ def closing(kind,p,B):
             if kind==15: put(s+b,new)
             else: put(a+b,old&~number|new)
     left=[mem,reg if bad else b'',lst[8*steps:],itm[32*taken:],B[4],marks]
-    return [0,8*steps,32*taken]+([bad,0,0,0,0] if bad else [0,0,steps,taken,0])+[digest(b) for b in left]
+    return [0,8*steps,32*taken]+([bad,0,0,0,0,0] if bad else [0,0,0,steps,taken,0])+[digest(b) for b in left]
 kept={0:[2,3,5],1:[2,3,5],2:[0,1,2,3,5],3:[0,1,2,3,5],4:[0,1,3,4,5],5:[0,1,3,4,5],6:[0,1,3,4,5],7:[2,3,4,5],8:[0,1,2,3,4],9:[0,1,2,3,4],10:[3,5],11:[3,5]}
 lines=open(sys.argv[1]).read().split('\n');ans=open(sys.argv[2]).read().split('\n')
 assert lines[-1]=='' and ans[-1]=='' and len(lines)==len(ans)
@@ -113,6 +157,8 @@ for k in range(0,len(lines)-1):
     w=[int(v,16) for v in ans[k].split(' ')];assert len(ans[k])==9*len(w)-1 and len(w)>=5+len(B)
     if kind>=12:
         assert w==(search if kind<15 else closing)(kind,p,B),k; checked+=len(B); continue
+    expected=numbers(kind,p,B);assert len(w)==len(expected)+len(B),k
+    if expected[0] is not None: assert w[:len(expected)]==expected,(k,expected)
     keep=kept[kind] if w[0]==0 else range(len(B))
     for b in keep:
         if kind in (2,3) and b==4: continue

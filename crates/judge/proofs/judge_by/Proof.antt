@@ -1,5 +1,5 @@
 -- `judge::judge_by`: by whether what is lent has a number. Assumes nothing.
-use mathlib.Core.Path.{_≡_, sym, ap, _∙_}
+use mathlib.Core.Path.{sym, ap, _∙_}
 use mathlib.Core.Bool.{Bool, cond}
 use mathlib.Core.List.{List}
 use Prim.Native.Nat.{ℕ}
@@ -14,7 +14,7 @@ use Rattle.judge.proofs.judge_by.Tie as tie
 
 -- the answer by the test
 abbrev by-test : ℕ → Lengths → List ℕ → Bool → Answer
-by-test wrong l list t = cond t (judgedList l list) (refusal wrong 0)
+by-test wrong l list t = cond t (judgedList l list) (refusal wrong 0 0)
 
 returns : tie.Need-returns
 returns c =

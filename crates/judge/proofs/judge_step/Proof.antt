@@ -1,5 +1,5 @@
 -- `judge::judge_step`: what a step is lent, then its instruction. Assumes nothing.
-use mathlib.Core.Path.{_≡_, refl, sym, ap, _∙_}
+use mathlib.Core.Path.{refl, sym, ap, _∙_}
 use Prim.Native.Nat.{ℕ}
 use denote.Ref.{now}
 use Rattle.bits.proofs.Rows.{number-none}
@@ -18,7 +18,7 @@ returns : tie.Need-returns
 unfolding judgedBy
 returns c =
     let a = c .before .before .before .args in
-    c .judge-by .ensures ∙ ap (λ (n : ℕ). orElse (refusal n 0) (judgedList (a .l) (now (a .instruction)))) (c .before .step-fault .ensures)
+    c .judge-by .ensures ∙ ap (λ (n : ℕ). orElse (refusal n 0 0) (judgedList (a .l) (now (a .instruction)))) (c .before .step-fault .ensures)
 
 pub judge-step-spec : {M : Type 1} → statement M
 judge-step-spec = tie.close (tie.spec (λ c κs. search needs) judge-by-requires returns)

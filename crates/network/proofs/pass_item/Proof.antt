@@ -25,7 +25,7 @@ returns-2 c =
 shift-requires : tie.Need-shift-requires
 shift-requires c κs =
     let s = c .before .before .before .before in
-    let w = shift (s .args .code) (s .fits .code .fits) (s .pre) in
+    let w = shift (s .args .code) (s .pre) in
     (w .below, w .within)
 
 returns-3 : tie.Need-returns-3
@@ -33,7 +33,7 @@ returns-3 c =
     let d = c .before .before .before in
     let s = d .before .before .before in
     c .lines-of2 .ensures
-    ∙ flip-shift (now (s .args .lines)) _ _ _ (s .args .flip) (s .args .code) (s .fits .code .fits) (s .fits .flip .fits) (s .pre) (d .before .quarters-of .ensures)
+    ∙ flip-shift (now (s .args .lines)) _ _ _ (s .args .flip) (s .args .code) (s .fits .flip .fits) (s .pre) (d .before .quarters-of .ensures)
     (d .flip-quarters .ensures) (c .before .shift .ensures)
 
 pub pass-item-spec : {M : Type 1} → statement M

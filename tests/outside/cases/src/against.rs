@@ -202,6 +202,7 @@ pub fn go_on(command: &str, seed: Option<u64>, count: usize, open_points: bool) 
                 };
                 println!("{}", small.line());
                 print!("{}", words::describe(&small));
+                print!("{}", words::answered(&small, &small.answer()));
                 let got = if alone { ask(command, std::slice::from_ref(&small)).first().cloned() } else { answers.get(k).cloned() };
                 print!("{}", words::differences("the emulator", Some(&small.answer().line()), "the command", got.as_deref()));
                 std::process::exit(1);

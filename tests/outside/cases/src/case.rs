@@ -21,7 +21,11 @@ pub const LONGEST_RECORD: usize = 1000;
 pub const HEADER: usize = 9;
 pub const BUFFER: usize = 3;
 pub const PARAMETER: usize = 4;
-/// The fewest numbers of an answer.
+/// The numbers of a run or step: number, place, byte, steps, taken, given.
+pub const OF_RUN: usize = 6;
+/// The numbers of the builder of a search, closing or spreading: number, bytes of the list, bytes of the items.
+pub const OF_BUILDER: usize = 3;
+/// The numbers of any other entry, and the fewest of an answer.
 pub const NUMBERS: usize = 5;
 
 pub const RUN: u8 = 0;
@@ -105,7 +109,7 @@ pub fn digest(bytes: &[u8]) -> u32 {
     65536 * d1 + d2
 }
 
-/// Turns any 8 bytes into an instruction that is not refused by 5 to 11.
+/// Turns any 8 bytes into an instruction that is not refused by 5 to 9, 11 or 16 to 18.
 pub fn shaped(r: &[u8], shape: u8) -> [u8; 8] {
     let kind = if shape == 1 {
         r[0] % 6
@@ -367,9 +371,18 @@ impl Case {
         emulator::Fields { a: self.p[0], s: self.p[1], width: self.p[2] }
     }
 
-    /// Whether the answer has the builder's three numbers and the run's five.
-    fn eight(&self) -> bool {
+    /// Whether the answer has the builder's three numbers before the run's six.
+    fn prepares(&self) -> bool {
         self.search().is_some() || self.way().is_some()
+    }
+
+    /// Where the six numbers of a run or step stand in the answer, if it has them.
+    pub fn run_numbers(&self) -> Option<std::ops::Range<usize>> {
+        match self.kind {
+            RUN | STEP | SUM_RUN | DIFFERENCE_RUN => Some(0..OF_RUN),
+            _ if self.prepares() => Some(OF_BUILDER..OF_BUILDER + OF_RUN),
+            _ => None,
+        }
     }
 
     /// Calls the emulator: the numbers of the answer.
@@ -380,10 +393,13 @@ impl Case {
         if let Some(way) = self.way() {
             return self.call_closing(way, buffers);
         }
-        self.call_base(buffers).to_vec()
+        if self.run_numbers().is_some() {
+            return self.call_run(buffers).to_vec();
+        }
+        self.call_other(buffers).to_vec()
     }
 
-    /// A search: the builder's three numbers, then the run's five.
+    /// A search: the builder's three numbers, then the run's six.
     fn call_search(&self, search: emulator::Search, buffers: &mut Buffers) -> Vec<u32> {
         let [memory, registers, list, items, _, _] = buffers;
         let (start, width) = (self.p[0], self.p[1]);
@@ -391,30 +407,32 @@ impl Case {
         let mut words = vec![built.number, built.list, built.items];
         let run = match built.number {
             0 => numbers(emulator::run_prepared(search, start, width, memory, registers, items)),
-            _ => [0; NUMBERS],
+            _ => [0; OF_RUN],
         };
         words.extend(run);
         words
     }
 
-    /// A closing or spreading: the builder's three numbers, then the run's five.
+    /// A closing or spreading: the builder's three numbers, then the run's six.
     fn call_closing(&self, way: emulator::Way, buffers: &mut Buffers) -> Vec<u32> {
         let [memory, registers, list, items, _, marks] = buffers;
         let built = emulator::closing::prepare(way, self.fields(), marks, list.len(), items.len());
         let mut words = vec![built.number, built.list, built.items];
         let run = match built.number {
             0 => numbers(emulator::closing::run_prepared(way, self.fields(), marks, memory, registers, items)),
-            _ => [0; NUMBERS],
+            _ => [0; OF_RUN],
         };
         words.extend(run);
         words
     }
 
-    fn call_base(&self, buffers: &mut Buffers) -> [u32; NUMBERS] {
-        let [memory, registers, list, items, out, file] = buffers;
-        let p = self.p;
+    /// A run, a step, or a sum or difference built and run: the run's six numbers, or the builder's number and zeros.
+    fn call_run(&self, buffers: &mut Buffers) -> [u32; OF_RUN] {
+        let [memory, registers, list, items, out, _] = buffers;
         match self.kind {
             RUN => numbers(emulator::run(memory, registers, list, items, out)),
+            // no case asks it: a step has no registers of another length, and does nothing
+            STEP if registers.len() != 96 => [0; OF_RUN],
             STEP => {
                 let mut record = [0u8; 96];
                 record.copy_from_slice(registers);
@@ -422,6 +440,29 @@ impl Case {
                 registers.copy_from_slice(&record);
                 numbers(answer)
             }
+            _ => {
+                let built = self.build(list);
+                if built.number != 0 {
+                    return [built.number, 0, 0, 0, 0, 0];
+                }
+                numbers(emulator::run(memory, registers, &list[..built.count as usize], items, out))
+            }
+        }
+    }
+
+    /// The sum or difference list of kinds 4, 5, 10 and 11.
+    fn build(&self, list: &mut [u8]) -> emulator::Built {
+        let [a, b, s, width] = self.p;
+        let sum = self.kind == SUM || self.kind == SUM_RUN;
+        let build = if sum { emulator::sum_list } else { emulator::difference_list };
+        build(a, b, s, width, list)
+    }
+
+    /// A pass, a builder alone, reading and writing.
+    fn call_other(&self, buffers: &mut Buffers) -> [u32; NUMBERS] {
+        let [memory, registers, list, items, out, file] = buffers;
+        let p = self.p;
+        match self.kind {
             PASS | WIRED => {
                 let mut item = [0u8; 32];
                 item.copy_from_slice(items);
@@ -431,22 +472,13 @@ impl Case {
                 [number, 0, 0, 0, 0]
             }
             SUM | DIFFERENCE => {
-                let build = if self.kind == SUM { emulator::sum_list } else { emulator::difference_list };
-                let built = build(p[0], p[1], p[2], p[3], list);
+                let built = self.build(list);
                 [built.number, 0, built.count, 0, 0]
             }
             READ_PLAIN => put(emulator::read_plain(p[0], file, list)),
             READ_PICTURE => put(emulator::read_picture(file, memory, registers)),
             WRITE_PLAIN => put(emulator::write_plain(p[0], list, file)),
             WRITE_PICTURE => put(emulator::write_picture(memory, registers, file)),
-            SUM_RUN | DIFFERENCE_RUN => {
-                let build = if self.kind == SUM_RUN { emulator::sum_list } else { emulator::difference_list };
-                let built = build(p[0], p[1], p[2], p[3], list);
-                if built.number != 0 {
-                    return [built.number, 0, 0, 0, 0];
-                }
-                numbers(emulator::run(memory, registers, &list[..built.count as usize], items, out))
-            }
             _ => panic!("no such case"),
         }
     }
@@ -454,14 +486,14 @@ impl Case {
     pub fn answer(&self) -> Reply {
         let mut buffers = self.make();
         let mut words = self.call(&mut buffers);
-        if self.eight() {
+        if self.prepares() {
             // no document fixes the bytes of a search's list, nor of a closing's or spreading's
             buffers[LIST].drain(..words[1] as usize);
         }
         if self.way().is_some() {
             // nor the bytes of its items, nor M, X and Y after its run
             buffers[ITEMS].drain(..words[2] as usize);
-            if words[0] == 0 && words[3] == 0 {
+            if words[0] == 0 && words[OF_BUILDER] == 0 {
                 buffers[REGISTERS].clear();
             }
         }
@@ -471,14 +503,14 @@ impl Case {
 
     /// The number and the place of its answer: the run's, where a list is built and run.
     pub fn number_and_place(&self, reply: &Reply) -> (u32, u32) {
-        let at = if self.eight() && reply.words[0] == 0 { 3 } else { 0 };
-        let place = if self.eight() && at == 0 { 0 } else { reply.words[at + 1] };
+        let at = if self.prepares() && reply.words[0] == 0 { OF_BUILDER } else { 0 };
+        let place = if self.prepares() && at == 0 { 0 } else { reply.words[at + 1] };
         (reply.words[at], place)
     }
 }
 
-fn numbers(a: emulator::Answer) -> [u32; NUMBERS] {
-    [a.number, a.place, a.steps, a.taken, a.given]
+fn numbers(a: emulator::Answer) -> [u32; OF_RUN] {
+    [a.number, a.place, a.byte, a.steps, a.taken, a.given]
 }
 
 fn put(a: emulator::Put) -> [u32; NUMBERS] {
@@ -597,6 +629,31 @@ mod tests {
         }
     }
 
+    /// How many numbers each kind of case answers with.
+    #[test]
+    fn the_numbers_are_five_six_or_nine() {
+        for kind in 0..KINDS.len() as u8 {
+            let mut case = Case::new(kind, 3);
+            case.lengths[REGISTERS] = 96;
+            (case.lengths[ITEMS], case.lengths[OUT]) = (32, 32);
+            let numbers = match kind {
+                RUN | STEP | SUM_RUN | DIFFERENCE_RUN => 6,
+                EQUAL_RUN..=SPREAD_RUN => 9,
+                _ => 5,
+            };
+            assert_eq!(case.answer().words.len(), numbers + COUNT, "{}", kind);
+        }
+    }
+
+    #[test]
+    fn a_step_of_other_registers_does_nothing() {
+        let mut case = Case::new(STEP, 3);
+        case.lengths = [8192, 95, 8, 32, 32, 0];
+        let mut buffers = case.make();
+        assert_eq!(case.call(&mut buffers), [0; 6]);
+        assert!(buffers == case.make());
+    }
+
     /// The values that PROTOCOL.md prints.
     #[test]
     fn the_values_of_the_protocol() {
@@ -605,7 +662,7 @@ mod tests {
         let mut checked = 0;
         let asked: Vec<&str> = lines.iter().copied().filter(|l| l.len() > 70 && l.bytes().all(|c| c.is_ascii_hexdigit())).collect();
         let answered: Vec<&str> = lines.iter().copied().filter(|l| Reply::from_line(l).is_some()).collect();
-        assert_eq!((asked.len(), answered.len()), (15, 15));
+        assert_eq!((asked.len(), answered.len()), (20, 20));
         for (line, reply) in asked.iter().zip(&answered) {
             let case = Case::from_line(line).unwrap();
             case.check();
@@ -613,7 +670,7 @@ mod tests {
             assert_eq!(case.answer().line(), *reply);
             checked += 1;
         }
-        assert_eq!(checked, 15);
+        assert_eq!(checked, 20);
         let mut case = Case::new(RUN, 1);
         case.lengths[LIST] = 8;
         assert_eq!(case.make()[LIST], [0x21, 0x01, 0xc5, 0x4f, 0xd1, 0xd0, 0x1a, 0xb2]);

@@ -4,6 +4,7 @@
 mod case;
 mod plan;
 mod against;
+mod bytes;
 mod closings;
 mod masks;
 mod resolves;
@@ -12,7 +13,7 @@ mod words;
 
 use case::*;
 use plan::Plan;
-use std::collections::BTreeMap;
+use std::collections::{BTreeMap, BTreeSet};
 use std::io::{BufRead, BufWriter, Write};
 
 /// The stored files: the planned cases and this many random ones of document 01.
@@ -109,10 +110,10 @@ fn generate(seed: Option<u64>, count: Option<usize>, directory: &str, open_point
     count_up(&plan.cases, &replies, asked.len(), answered.len());
 }
 
-/// Counts by kind and by number, for whoever runs it.
+/// Counts by kind and by number, with the bytes named, for whoever runs it.
 fn count_up(cases: &[Case], replies: &[Reply], asked: usize, answered: usize) {
     let mut by_kind: BTreeMap<u8, (usize, BTreeMap<u32, usize>)> = BTreeMap::new();
-    let mut by_number: BTreeMap<u32, (usize, BTreeMap<u32, usize>)> = BTreeMap::new();
+    let mut by_number: BTreeMap<u32, (usize, BTreeSet<u32>, BTreeSet<u32>)> = BTreeMap::new();
     for (case, reply) in cases.iter().zip(replies) {
         let (answer, place) = case.number_and_place(reply);
         let kind = by_kind.entry(case.kind).or_default();
@@ -120,7 +121,9 @@ fn count_up(cases: &[Case], replies: &[Reply], asked: usize, answered: usize) {
         *kind.1.entry(answer).or_default() += 1;
         let number = by_number.entry(answer).or_default();
         number.0 += 1;
-        *number.1.entry(place).or_default() += 1;
+        number.1.insert(place);
+        // the byte stands behind the place
+        number.2.extend(case.run_numbers().map(|at| reply.words[at.start + 2]));
     }
     println!("{} cases, {} + {} bytes", cases.len(), asked, answered);
     println!("kind                        cases   done  refused with");
@@ -128,9 +131,10 @@ fn count_up(cases: &[Case], replies: &[Reply], asked: usize, answered: usize) {
         let refused: Vec<String> = numbers.iter().filter(|n| *n.0 != 0).map(|n| format!("{}: {}", n.0, n.1)).collect();
         println!("{:<26} {:>6} {:>6}  {}", KINDS[kind as usize], all, numbers.get(&0).unwrap_or(&0), refused.join(", "));
     }
-    println!("number  cases  different places");
-    for (number, (all, places)) in by_number {
-        println!("{:>6} {:>6}  {:>6}", number, all, places.len());
+    println!("number  cases  different places  bytes");
+    for (number, (all, places, bytes)) in by_number {
+        let bytes: Vec<String> = bytes.iter().map(|byte| byte.to_string()).collect();
+        println!("{:>6} {:>6}  {:>6}            {}", number, all, places.len(), bytes.join(", "));
     }
 }
 
@@ -177,4 +181,5 @@ fn show(cases: &str, k: usize) {
     print!("{}", words::describe(&case));
     let reply = case.answer();
     println!("the emulator answers\n{}", reply.line());
+    print!("{}", words::answered(&case, &reply));
 }

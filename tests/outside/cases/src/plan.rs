@@ -35,6 +35,10 @@ pub type Instruction = [u8; 8];
 pub const NOTHING: Instruction = [0, 2, 0, 0, 0, 0, 0, 0x0C];
 pub const RESOLVE: Instruction = [5, 0, 0, 0, 0, 0, 0, 0];
 
+/// Stands for the numbers 18, 16 and 17 where a number is drawn from 5 to 11: it is document 01's number for all three,
+/// which no answer has since document 02's Six. So what is drawn, and with it the stored cases, stays as it was.
+const MOVE: u32 = 10;
+
 fn codes() -> Vec<u8> {
     emulator::network::codes()
 }
@@ -74,7 +78,7 @@ impl Plan {
 
     // ---- instructions
 
-    fn valid_of(&mut self, kind: u8, source: u8) -> Instruction {
+    pub fn valid_of(&mut self, kind: u8, source: u8) -> Instruction {
         let mut b = [kind, source, 0, 0, 0, 0, 0, 0];
         if kind == 5 {
             return RESOLVE;
@@ -105,7 +109,7 @@ impl Plan {
         self.valid_of(kind, source)
     }
 
-    fn valid(&mut self) -> Instruction {
+    pub fn valid(&mut self) -> Instruction {
         let kind = self.r.below(6) as u8;
         self.valid_kind(kind)
     }
@@ -137,7 +141,7 @@ impl Plan {
         }
     }
 
-    /// An instruction that is refused with this number, 5 to 11.
+    /// An instruction that is refused with this number: 5 to 9, 11, or MOVE for 18, 16 and 17.
     fn damaged(&mut self, number: u32) -> Instruction {
         let mut b = match number {
             7 | 8 => self.touching(),
@@ -159,7 +163,7 @@ impl Plan {
                 let at = 2 + self.r.below(3);
                 b[at] = self.wild();
             }
-            10 => match b[0] {
+            MOVE => match b[0] {
                 2 | 3 => b[6] = if self.r.one_in(2) { self.r.of(&codes()[1..]) } else { self.wild() },
                 5 => {
                     let at = 5 + self.r.below(2);
@@ -172,10 +176,11 @@ impl Plan {
                 }
             },
             11 => b[7] = if b[0] == 0 { 80 + self.r.below(176) as u8 } else { self.wild() },
-            _ => panic!("5 to 11"),
+            _ => panic!("5 to 9, MOVE and 11"),
         }
         let answer = emulator::run(&mut [0; 8192], &mut [0; 96], &b, &[0; 32], &mut [0; 32]);
-        assert_eq!(answer.number, number, "{:?}", b);
+        let given = if (16..=18).contains(&answer.number) { MOVE } else { answer.number };
+        assert_eq!(given, number, "{:?}", b);
         b
     }
 
@@ -574,14 +579,15 @@ impl Plan {
         self.write_plain(asked, content, output)
     }
 
-    /// One random case of any family; one in eight is a search, one in eight a closing or spreading, one in sixteen a
-    /// list of masked stores, one in sixteen a list of resolves.
+    /// One random case of any family; one in eight is a search, one in eight a closing or spreading, one in eight a run
+    /// or step with one instruction at fault, one in sixteen a list of masked stores, one in sixteen a list of resolves.
     fn random_case(&mut self) -> Case {
         match self.r.below(16) {
             0 | 1 => self.random_search(),
             2 => self.random_masks(),
             3 => self.random_resolves(),
             4 | 5 => self.random_closing(),
+            6 | 7 => self.random_fault(),
             _ => {
                 let mut case = self.random_base();
                 self.vary_responders(&mut case);
@@ -637,8 +643,8 @@ impl Plan {
     // ---- the planned cases
 
     /// The stored cases: those of document 01, planned and this many random ones, then the searches, then the
-    /// masked stores, then the resolves, then closing and spreading. What a later document adds stands behind, so
-    /// that the cases before it stay.
+    /// masked stores, then the resolves, then closing and spreading, then the offending byte. What a later document
+    /// adds stands behind, so that the cases before it stay.
     pub fn stored(&mut self, random: usize) {
         self.planned();
         for _ in 0..random {
@@ -649,6 +655,7 @@ impl Plan {
         self.all_masks();
         self.all_resolves();
         self.all_closings();
+        self.all_bytes();
     }
 
     fn planned(&mut self) {
@@ -1090,7 +1097,7 @@ impl Plan {
             let case = self.run_shaped(2, count, items, room);
             self.add(case);
         }
-        for (number, place) in [(5u32, 4095usize), (7, 4094), (11, 4095), (10, 4000)] {
+        for (number, place) in [(5u32, 4095usize), (7, 4094), (11, 4095), (MOVE, 4000)] {
             let mut case = self.run_shaped(2, 4096, 0, 0);
             let b = self.damaged(number);
             case.patch(LIST, 8 * place, &b);

@@ -1,4 +1,4 @@
-//! A case and a difference in words.
+//! A case, an answer and a difference in words.
 
 use crate::case::*;
 use crate::closings;
@@ -183,6 +183,48 @@ fn describe_closing(t: &mut String, case: &Case) {
     }
 }
 
+/// What a number of a run or step says.
+fn meaning(number: u32) -> &'static str {
+    match number {
+        1 => "memory not 8,192 bytes",
+        2 => "registers not 96 bytes",
+        3 => "list of no right length",
+        4 => "items of no right length",
+        5 => "kind over 5",
+        6 => "source that this kind has not",
+        7 => "memory touched and tag 0",
+        8 => "memory touched and tag over 1",
+        9 => "memory not touched and not 0",
+        11 => "choice over 4, or not 0 without logic",
+        12 => "items too few",
+        13 => "out too short",
+        16 => "group over 256 lines",
+        17 => "m not below p",
+        18 => "a move that this kind may not make",
+        _ => "the builder's",
+    }
+}
+
+/// The answer of a run or step, also of one that was built before, in words; of other entries nothing.
+pub fn answered(case: &Case, reply: &Reply) -> String {
+    let Some(at) = case.run_numbers() else { return String::new() };
+    let (before, run) = (&reply.words[..at.start], &reply.words[at]);
+    if before.first().is_some_and(|&number| number != 0) {
+        return format!("refused with {} by the builder\n", before[0]);
+    }
+    let (number, place, byte) = (run[0], run[1] as usize, run[2] as usize);
+    let why = meaning(number);
+    match number {
+        0 => format!("done: steps {}, taken {}, given {}\n", run[3], run[4], run[5]),
+        5..=11 | 16..=18 => {
+            let value = case.make()[LIST][8 * place + byte];
+            format!("refused with {} at instruction {}, byte {} (it is {}): {}\n", number, place, byte, value, why)
+        }
+        12 | 13 => format!("refused with {} at instruction {}, no byte: {}\n", number, place, why),
+        _ => format!("refused with {}: {}\n", number, why),
+    }
+}
+
 pub fn differences(one: &str, x: Option<&str>, other: &str, y: Option<&str>) -> String {
     let mut t = String::new();
     writeln!(t, "{}: {}", one, x.unwrap_or("(no line)")).unwrap();
@@ -195,10 +237,15 @@ pub fn differences(one: &str, x: Option<&str>, other: &str, y: Option<&str>) -> 
             return t;
         }
     };
-    const BASE: &[&str] = &["number", "place", "steps, count or bytes", "taken", "given"];
-    const SEARCH: &[&str] = &["builder's number", "bytes of the list", "bytes of the items", "run's number", "place", "steps", "taken", "given"];
+    const OTHER_NAMES: [&str; NUMBERS] = ["number", "place", "count or bytes", "word 3", "word 4"];
+    const RUN_NAMES: [&str; OF_RUN] = ["number", "place", "byte", "steps", "taken", "given"];
+    const BUILDER_NAMES: [&str; OF_BUILDER] = ["builder's number", "bytes of the list", "bytes of the items"];
     let numbers = a.len() - COUNT;
-    let names = if numbers == SEARCH.len() { SEARCH } else { BASE };
+    let names = match numbers {
+        NUMBERS => OTHER_NAMES.to_vec(),
+        OF_RUN => RUN_NAMES.to_vec(),
+        _ => [&BUILDER_NAMES[..], &RUN_NAMES[..]].concat(),
+    };
     for k in 0..a.len() {
         if a[k] != b[k] {
             if k < numbers {

@@ -1,9 +1,9 @@
-//! An emulator of the array module of document 01 with document 02's One, Three, Four and Five, written from documents
+//! An emulator of the array module of document 01 with document 02's One and Three to Six, written from documents
 //! 01, 02, 001, 003 and 004 alone. It keeps everything unpacked: the memory is a table of words and bits, a register
 //! is 256 bools, an item on the lines is 256 bools. Lent bytes are unpacked at the start of a call and
 //! packed again at its end, and only if the call is done.
 //!
-//! Points that the documents leave open follow the readings A to H; the comments name them.
+//! Points that the documents leave open follow the readings A to I; the comments name them.
 
 pub mod bits;
 pub mod blocks;

@@ -9,15 +9,32 @@ use crate::network::{pass_lines, shift_of, Shift};
 pub struct Answer {
     pub number: u32,
     pub place: u32,
+    /// The first byte of the instruction at the place that is wrong by the number; 0 for done, for refusals without
+    /// an instruction (1 to 4) and for 12 and 13 (document 02, Six).
+    pub byte: u32,
     pub steps: u32,
     pub taken: u32,
     pub given: u32,
 }
 
 impl Answer {
-    /// A refusal has the last three 0.
+    /// A refusal has the last three 0. Those that name no byte, 1 to 4, 12 and 13, are made here.
     fn refused(number: u32, place: usize) -> Answer {
         Answer { number, place: place as u32, ..Answer::default() }
+    }
+}
+
+/// What is wrong with an instruction: the number, and the first byte that is wrong by it (reading I2).
+#[derive(Clone, Copy, PartialEq, Eq, Debug)]
+struct Fault {
+    number: u32,
+    byte: usize,
+}
+
+impl Fault {
+    /// The refusal of a list whose instruction at this place has the fault.
+    fn at(self, place: usize) -> Answer {
+        Answer { byte: self.byte as u32, ..Answer::refused(self.number, place) }
     }
 }
 
@@ -54,80 +71,103 @@ impl Instruction {
     }
 }
 
-/// Refusals 5 to 11, in that order, or the instruction.
-fn judge_one(b: &[u8]) -> Result<Instruction, u32> {
+fn wrong<T>(number: u32, byte: usize) -> Result<T, Fault> {
+    Err(Fault { number, byte })
+}
+
+/// Each of these bytes must be 0; the first that is not is wrong by this number.
+fn zeros(b: &[u8], bytes: &[usize], number: u32) -> Result<(), Fault> {
+    match bytes.iter().find(|&&byte| b[byte] != 0) {
+        Some(&byte) => wrong(number, byte),
+        None => Ok(()),
+    }
+}
+
+/// Refusals 5 to 9, in that order: kind, source, and what stands in bytes 2 to 4.
+fn judge_access(b: &[u8]) -> Result<(), Fault> {
     let (kind, source) = (b[0], b[1]);
     if kind > 5 {
-        return Err(5);
+        return wrong(5, 0);
     }
     let store = kind == 2 || kind == 3;
     let resolve = kind == 5;
     if source > 4 || (store && source == 0) || (resolve && source != 0) {
-        return Err(6);
+        return wrong(6, 1);
     }
     // Kinds 0, 1 and 4 with source 0, and kinds 2 and 3 always, touch memory; kind 5 does not,
     // although its source byte is 0 (reading B6).
     let touched = store || (!resolve && source == 0);
     if touched && b[2] == 0 {
-        return Err(7);
+        return wrong(7, 2);
     }
     if touched && b[2] > 1 {
-        return Err(8);
+        return wrong(8, 2);
     }
-    if !touched && (b[2] != 0 || b[3] != 0 || b[4] != 0) {
-        return Err(9);
+    if touched {
+        return Ok(());
     }
-    let shift = match shift_of(b[6]) {
-        None => return Err(10),
-        Some(shift) => shift,
-    };
-    if store && b[6] != 0 {
-        return Err(10);
+    zeros(b, &[2, 3, 4], 9)
+}
+
+/// Refusals 18, 16 and 17, in that order, or the shift. 18 is a move that this kind may not make, whatever byte 6
+/// says: a store may flip and not shift, a resolve may do neither (document 02, Six; reading I5).
+fn judge_move(b: &[u8]) -> Result<Shift, Fault> {
+    match b[0] {
+        2 | 3 => zeros(b, &[6], 18)?,
+        5 => zeros(b, &[5, 6], 18)?,
+        _ => {}
     }
-    if resolve && (b[5] != 0 || b[6] != 0) {
-        return Err(10);
-    }
-    let (choice, function) = (b[7] / 16, b[7] % 16);
+    shift_of(b[6]).or_else(|number| wrong(number, 6))
+}
+
+/// Refusal 11, or the choice and the function.
+fn judge_logic(b: &[u8]) -> Result<(u8, u8), Fault> {
+    let (kind, choice, function) = (b[0], b[7] / 16, b[7] % 16);
     if kind == 0 {
         if choice > 4 {
-            return Err(11);
+            return wrong(11, 7);
         }
     } else if b[7] != 0 {
-        return Err(11);
+        return wrong(11, 7);
     }
+    Ok((choice, function))
+}
 
-    if resolve {
-        return Ok(Instruction::Resolve);
-    }
+/// Refusals 5 to 9, then 18, 16 and 17, then 11; or the instruction.
+fn judge_one(b: &[u8]) -> Result<Instruction, Fault> {
+    judge_access(b)?;
+    let shift = judge_move(b)?;
+    let (choice, function) = judge_logic(b)?;
     let (mode, address) = (b[3] as usize, b[4] as usize);
-    let source = match source {
+    let source = match b[1] {
         0 => Source::Memory { mode, address },
         1 => Source::M,
         2 => Source::X,
         3 => Source::Y,
         _ => Source::Outside,
     };
-    let act = match kind {
+    let act = match b[0] {
         0 => Act::Logic { choice, function },
         1 => Act::SetM,
         2 => Act::Store { mode, address, masked: false },
         3 => Act::Store { mode, address, masked: true },
-        _ => Act::Deliver,
+        4 => Act::Deliver,
+        _ => return Ok(Instruction::Resolve),
     };
     Ok(Instruction::Pass { source, flip: b[5] as usize, shift, act })
 }
 
-/// Refusals 5 to 11 for each instruction in turn; then 12; then 13.
-fn judge(list: &[u8], items: usize, room: usize) -> Result<Vec<Instruction>, (u32, usize)> {
+/// What each instruction in turn is refused for; then 12; then 13.
+fn judge(list: &[u8], items: usize, room: usize) -> Result<Vec<Instruction>, Answer> {
     let mut good = Vec::new();
     for (place, bytes) in list.chunks(8).enumerate() {
-        good.push(judge_one(bytes).map_err(|number| (number, place))?);
+        good.push(judge_one(bytes).map_err(|fault| fault.at(place))?);
     }
     let mut left = items;
     for (place, instruction) in good.iter().enumerate() {
         if instruction.takes() {
             if left == 0 {
-                return Err((12, place));
+                return Err(Answer::refused(12, place));
             }
             left -= 1;
         }
@@ -136,7 +176,7 @@ fn judge(list: &[u8], items: usize, room: usize) -> Result<Vec<Instruction>, (u3
     for (place, instruction) in good.iter().enumerate() {
         if instruction.gives() {
             if left == 0 {
-                return Err((13, place));
+                return Err(Answer::refused(13, place));
             }
             left -= 1;
         }
@@ -230,7 +270,7 @@ impl Module {
 fn run_judged(memory: &mut [u8], registers: &mut [u8], list: &[u8], items: &[u8], out: &mut [u8]) -> Answer {
     let instructions = match judge(list, items.len() / 32, out.len() / 32) {
         Ok(good) => good,
-        Err((number, place)) => return Answer::refused(number, place),
+        Err(refusal) => return refusal,
     };
     let mut module = Module {
         table: Table::from_chips(memory),
@@ -266,13 +306,7 @@ fn run_judged(memory: &mut [u8], registers: &mut [u8], list: &[u8], items: &[u8]
     registers[0..32].copy_from_slice(&pack(&module.m));
     registers[32..64].copy_from_slice(&pack(&module.x));
     registers[64..96].copy_from_slice(&pack(&module.y));
-    Answer {
-        number: 0,
-        place: 0,
-        steps: instructions.len() as u32,
-        taken: taken as u32,
-        given: given as u32,
-    }
+    Answer { steps: instructions.len() as u32, taken: taken as u32, given: given as u32, ..Answer::default() }
 }
 
 /// A run of a list.

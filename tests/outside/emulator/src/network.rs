@@ -10,19 +10,21 @@ pub enum Shift {
     By { m: u32, p: u32 },
 }
 
-/// Byte 6 is 16p + m, or 0 for none; None if it is none of the 37.
-pub fn shift_of(byte6: u8) -> Option<Shift> {
+/// Byte 6 is 16p + m, or 0 for none. Where it is none of the 37: 16 if p is over 8, a group over 256 lines; else
+/// 17, as m is not below p, also where p is 0 (document 02, Six; readings I3, I8).
+pub fn shift_of(byte6: u8) -> Result<Shift, u32> {
     if byte6 == 0 {
-        return Some(Shift::None);
+        return Ok(Shift::None);
     }
     for p in 1..=8u32 {
         for m in 0..p {
             if 16 * p + m == byte6 as u32 {
-                return Some(Shift::By { m, p });
+                return Ok(Shift::By { m, p });
             }
         }
     }
-    None
+    let p = byte6 / 16;
+    Err(if p > 8 { 16 } else { 17 })
 }
 
 /// All 37 values of byte 6 that stand: none first, then p rising, m rising (reading A5).
@@ -103,8 +105,8 @@ pub fn wired_lines(levels: usize, item: &[bool], flip: usize, shift: Shift) -> V
 
 fn on_bytes(item: &[u8; 32], byte6: u8, how: impl Fn(&[bool], Shift) -> Vec<bool>) -> (u32, [u8; 32]) {
     match shift_of(byte6) {
-        None => (10, [0; 32]),
-        Some(shift) => {
+        Err(number) => (number, [0; 32]),
+        Ok(shift) => {
             let lines = how(&unpack(item), shift);
             let mut row = [false; 256];
             row.copy_from_slice(&lines);
@@ -113,12 +115,13 @@ fn on_bytes(item: &[u8; 32], byte6: u8, how: impl Fn(&[bool], Shift) -> Vec<bool
     }
 }
 
-/// A pass called by itself, in the arithmetic form: number and item.
+/// A pass called by itself, in the arithmetic form: number and item. Where byte 6 is none of the 37 the number is 16
+/// or 17 and the item zero (reading I4).
 pub fn pass(item: &[u8; 32], flip: u8, byte6: u8) -> (u32, [u8; 32]) {
     on_bytes(item, byte6, |lines, shift| pass_lines(lines, flip as usize, shift))
 }
 
-/// A pass called by itself, in the wired form: number and item.
+/// A pass called by itself, in the wired form: number and item, as in the arithmetic form.
 pub fn wired_pass(item: &[u8; 32], flip: u8, byte6: u8) -> (u32, [u8; 32]) {
     on_bytes(item, byte6, |lines, shift| wired_lines(8, lines, flip as usize, shift))
 }

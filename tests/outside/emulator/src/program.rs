@@ -1,11 +1,19 @@
 //! The program: three files in, one line and the given items out, a picture if done.
 
 use crate::blocks::{read_picture, read_plain, write_picture, Put, ITEMS, LIST};
-use crate::machine::run;
+use crate::machine::{run, Answer};
+
+/// A line: the letter, number, place, byte, steps, taken and given (document 02, Six: the byte after the place).
+fn line(letter: char, a: Answer) -> String {
+    format!("{} {} {} {} {} {} {}\n", letter, a.number, a.place, a.byte, a.steps, a.taken, a.given)
+}
 
 /// What the program prints, and after.pic if it writes one. A file that is absent is None.
 pub fn program(before: Option<&[u8]>, list: Option<&[u8]>, items: Option<&[u8]>) -> (String, Option<Vec<u8>>) {
-    let refusal = |letter: char, put: Put| (format!("{} {} {} 0 0 0\n", letter, put.number, put.place), None);
+    // a refused file has no instruction: byte 0 (reading I1)
+    let refusal = |letter: char, put: Put| {
+        (line(letter, Answer { number: put.number, place: put.place, ..Answer::default() }), None)
+    };
     let twenty = Put { number: 20, place: 0, bytes: 0 };
 
     let mut memory = vec![0u8; 8192];
@@ -35,10 +43,7 @@ pub fn program(before: Option<&[u8]>, list: Option<&[u8]>, items: Option<&[u8]>)
 
     let mut out = vec![0u8; 8192];
     let answer = run(&mut memory, &mut registers, &contents[0], &contents[1], &mut out);
-    let mut text = format!(
-        "r {} {} {} {} {}\n",
-        answer.number, answer.place, answer.steps, answer.taken, answer.given
-    );
+    let mut text = line('r', answer);
     if answer.number != 0 {
         return (text, None);
     }

@@ -1,3 +1,5 @@
+//! Reading and writing of blocks, and the program.
+
 mod common;
 use common::*;
 use emulator::blocks::{seal, sums, ITEMS, LIST, PICTURE};
@@ -336,7 +338,7 @@ fn the_program() {
     // document 01's printed item line as document 02's Four makes it: 0100000001, then zeros
     let item = "0100000001".to_string() + &"0".repeat(54);
     assert_eq!(item.len(), 64);
-    let expected = format!("r 0 0 2 0 1\n{}\n", item);
+    let expected = format!("r 0 0 0 2 0 1\n{}\n", item);
     let (text, after) = program(Some(&zero_picture), Some(&list), Some(&items));
     assert_eq!(text, expected);
     let (answer, memory, registers) = read_pic(&after.unwrap(), 8192, 96);
@@ -346,31 +348,45 @@ fn the_program() {
     assert_eq!(program(Some(&zero_picture), Some(&list), None).0, expected);
     // with nothing set in Y: none
     let resolve = written(LIST, &[5, 0, 0, 0, 0, 0, 0, 0]);
-    let expected = format!("r 0 0 1 0 1\n{}{}\n", "0000010000", "0".repeat(54));
+    let expected = format!("r 0 0 0 1 0 1\n{}{}\n", "0000010000", "0".repeat(54));
     assert_eq!(program(Some(&zero_picture), Some(&resolve), None), (expected, Some(zero_picture.clone())));
     // absent list: the empty list, the same picture
     let (_, _, pic) = picture(&mut Random(81));
-    assert_eq!(program(Some(&pic), None, None), ("r 0 0 0 0 0\n".to_string(), Some(pic.clone())));
-    // refusals
+    assert_eq!(program(Some(&pic), None, None), ("r 0 0 0 0 0 0\n".to_string(), Some(pic.clone())));
+    // refusals; the byte after the place is 0 where there is no instruction
     let none = |text: &str| (text.to_string(), None);
-    assert_eq!(program(None, None, None), none("p 20 0 0 0 0\n"));
-    assert_eq!(program(Some(&[]), None, None), none("p 20 0 0 0 0\n"));
-    assert_eq!(program(Some(&vec![0; 18 * 512]), None, None), none("p 20 0 0 0 0\n"));
-    assert_eq!(program(Some(&pic[..512]), None, None), none("p 23 0 0 0 0\n"));
-    assert_eq!(program(Some(&made(PICTURE, 16, 496)), None, None), none("p 25 0 0 0 0\n"));
-    assert_eq!(program(Some(&pic), Some(&[]), None), none("l 20 0 0 0 0\n"));
-    assert_eq!(program(Some(&pic), None, Some(&[])), none("i 20 0 0 0 0\n"));
-    assert_eq!(program(Some(&pic), Some(&made(LIST, 17, 8)), Some(&[])), none("l 20 0 0 0 0\n"));
-    assert_eq!(program(Some(&pic), None, Some(&made(ITEMS, 17, 32))), none("i 20 0 0 0 0\n"));
+    assert_eq!(program(None, None, None), none("p 20 0 0 0 0 0\n"));
+    assert_eq!(program(Some(&[]), None, None), none("p 20 0 0 0 0 0\n"));
+    assert_eq!(program(Some(&vec![0; 18 * 512]), None, None), none("p 20 0 0 0 0 0\n"));
+    assert_eq!(program(Some(&pic[..512]), None, None), none("p 23 0 0 0 0 0\n"));
+    assert_eq!(program(Some(&made(PICTURE, 16, 496)), None, None), none("p 25 0 0 0 0 0\n"));
+    assert_eq!(program(Some(&pic), Some(&[]), None), none("l 20 0 0 0 0 0\n"));
+    assert_eq!(program(Some(&pic), None, Some(&[])), none("i 20 0 0 0 0 0\n"));
+    assert_eq!(program(Some(&pic), Some(&made(LIST, 17, 8)), Some(&[])), none("l 20 0 0 0 0 0\n"));
+    assert_eq!(program(Some(&pic), None, Some(&made(ITEMS, 17, 32))), none("i 20 0 0 0 0 0\n"));
     let mut bad = pic.clone();
     bad[512 * 7 + 40] ^= 128;
-    assert_eq!(program(Some(&bad), Some(&[]), Some(&[])), none("p 21 7 0 0 0\n"));
+    assert_eq!(program(Some(&bad), Some(&[]), Some(&[])), none("p 21 7 0 0 0 0\n"));
     let wrong = written(LIST, &[[0, 2, 0, 0, 0, 0, 0, 0], [6; 8]].concat());
-    assert_eq!(program(Some(&pic), Some(&wrong), Some(&[])), none("i 20 0 0 0 0\n"));
-    assert_eq!(program(Some(&pic), Some(&wrong), None), none("r 5 1 0 0 0\n"));
+    assert_eq!(program(Some(&pic), Some(&wrong), Some(&[])), none("i 20 0 0 0 0 0\n"));
+    assert_eq!(program(Some(&pic), Some(&wrong), None), none("r 5 1 0 0 0 0\n"));
+    // the byte of an instruction, also behind others; 0 again for 12
+    let refused = |instruction: [u8; 8]| {
+        let list = written(LIST, &[[0, 2, 0, 0, 0, 0, 0, 0], [0, 2, 0, 0, 0, 0, 0, 0], instruction].concat());
+        program(Some(&pic), Some(&list), None)
+    };
+    assert_eq!(refused([0, 5, 0, 0, 0, 0, 0, 0]), none("r 6 2 1 0 0 0\n"));
+    assert_eq!(refused([2, 3, 0, 255, 0, 0, 0, 0]), none("r 7 2 2 0 0 0\n"));
+    assert_eq!(refused([0, 1, 0, 3, 9, 0, 0, 0]), none("r 9 2 3 0 0 0\n"));
+    assert_eq!(refused([5, 0, 0, 0, 0, 8, 0x90, 0]), none("r 18 2 5 0 0 0\n"));
+    assert_eq!(refused([2, 1, 1, 0, 0, 8, 0x90, 0]), none("r 18 2 6 0 0 0\n"));
+    assert_eq!(refused([0, 1, 0, 0, 0, 0, 0x9F, 0]), none("r 16 2 6 0 0 0\n"));
+    assert_eq!(refused([0, 1, 0, 0, 0, 0, 136, 0]), none("r 17 2 6 0 0 0\n"));
+    assert_eq!(refused([1, 1, 0, 0, 0, 0, 0, 1]), none("r 11 2 7 0 0 0\n"));
+    assert_eq!(refused([1, 4, 0, 0, 0, 0, 0, 0]), none("r 12 2 0 0 0 0\n"));
     // 256 items fit the out buffer, 257 do not
     let fits = written(LIST, &[5, 0, 0, 0, 0, 0, 0, 0].repeat(256));
     assert_eq!(program(Some(&pic), Some(&fits), None).0.lines().count(), 257);
     let too_many = written(LIST, &[5, 0, 0, 0, 0, 0, 0, 0].repeat(257));
-    assert_eq!(program(Some(&pic), Some(&too_many), None), none("r 13 256 0 0 0\n"));
+    assert_eq!(program(Some(&pic), Some(&too_many), None), none("r 13 256 0 0 0 0\n"));
 }

@@ -1,3 +1,5 @@
+//! Runs and steps: the examples, every refusal with its place, logic, stores, deliveries and resolves.
+
 mod common;
 use common::*;
 use emulator::bits::{pack, unpack};
@@ -72,28 +74,10 @@ fn refusals_1_to_4_and_their_order() {
     assert_eq!(bench.run(&list(&vec![NOTHING; 4096])), ok(4096, 0, 0));
 }
 
-/// The number that the table gives to an instruction, worded as the table is, condition by
-/// condition, without the order of the emulator's code.
-fn table_number(b: &[u8]) -> u32 {
-    let k = b[0];
-    let touched = ((k == 0 || k == 1 || k == 4) && b[1] == 0) || k == 2 || k == 3;
-    let stands = codes().contains(&b[6]);
-    let conditions = [
-        (5, k > 5),
-        (6, b[1] > 4 || (b[1] == 0 && (k == 2 || k == 3)) || (b[1] != 0 && k == 5)),
-        (7, touched && b[2] == 0),
-        (8, touched && b[2] > 1),
-        (9, !touched && (b[2] != 0 || b[3] != 0 || b[4] != 0)),
-        (10, !stands || (b[6] != 0 && (k == 2 || k == 3)) || ((b[5] != 0 || b[6] != 0) && k == 5)),
-        (11, if k == 0 { b[7] >= 80 } else { b[7] != 0 }),
-    ];
-    conditions.iter().find(|c| c.1).map(|c| c.0).unwrap_or(0)
-}
-
 #[test]
-fn refusals_5_to_11_against_the_table() {
+fn refusals_of_an_instruction_against_the_tables() {
     let mut random = Random(8);
-    let mut seen = [0; 14];
+    let mut seen = [0; 19];
     let mut bench = Bench::zero();
     bench.items = vec![0; 32];
     bench.out = vec![0; 32];
@@ -110,7 +94,7 @@ fn refusals_5_to_11_against_the_table() {
         b[5] = pick(&mut random, 2);
         b[6] = if random.below(2) == 0 { 0 } else { random.byte() };
         b[7] = if random.below(2) == 0 { 0 } else { random.byte() };
-        let number = table_number(&b);
+        let (number, byte) = by_the_tables(&b);
         seen[number as usize] += 1;
         if number == 0 {
             continue; // the run of these is for other tests
@@ -119,57 +103,56 @@ fn refusals_5_to_11_against_the_table() {
         let mut instructions = vec![NOTHING; place];
         instructions.push(b);
         instructions.push([9; 8]);
-        bench.refused(&list(&instructions), number, place as u32);
+        bench.refused_at(&list(&instructions), number, place as u32, byte);
         let mut registers = [0u8; 96];
         let answer = step(&mut bench.memory, &mut registers, &b, &bench.items, &mut bench.out);
-        assert_eq!((answer.number, answer.place), (number, 0));
+        assert_eq!(answer, no(number, 0, byte));
     }
-    for number in 5..=11 {
+    for number in [0, 5, 6, 7, 8, 9, 18, 16, 17, 11] {
         assert!(seen[number] > 20, "{:?}", seen);
     }
-    assert!(seen[0] > 20, "{:?}", seen);
 }
 
 #[test]
 fn named_refusals() {
-    let cases: [([u8; 8], u32); 30] = [
-        ([6, 0, 0, 0, 0, 0, 0, 0], 5),
-        ([255, 9, 9, 9, 9, 9, 9, 9], 5),
-        ([0, 5, 0, 0, 0, 0, 0, 0], 6),
-        ([2, 0, 0, 0, 0, 0, 0, 0], 6), // reading B7
-        ([3, 0, 1, 0, 0, 0, 0, 0], 6),
-        ([5, 1, 0, 0, 0, 0, 0, 0], 6),
-        ([2, 3, 0, 255, 0, 0, 0, 0], 7), // a store with tag 0 and mode 255 is 7
-        ([2, 3, 0, 0, 0, 0, 0, 0], 7),
-        ([0, 0, 0, 0, 0, 0, 0, 0], 7),
-        ([1, 0, 0, 7, 7, 0, 0, 0], 7),
-        ([4, 0, 0, 7, 7, 0, 0, 0], 7),
-        ([3, 4, 2, 7, 7, 0, 0, 0], 8),
-        ([0, 0, 255, 7, 7, 0, 0, 0], 8),
-        ([0, 1, 1, 0, 0, 0, 0, 0], 9),
-        ([1, 2, 0, 1, 0, 0, 0, 0], 9),
-        ([4, 3, 0, 0, 1, 0, 0, 0], 9),
-        ([5, 0, 1, 0, 0, 0, 0, 0], 9), // reading B6
-        ([5, 0, 0, 0, 5, 0, 0, 0], 9),
-        ([0, 1, 0, 0, 0, 0, 1, 0], 10),
-        ([0, 1, 0, 0, 0, 0, 136, 0], 10),
-        ([0, 1, 0, 0, 0, 0, 0x90, 0], 10),
-        ([2, 1, 1, 0, 0, 0, 48, 0], 10),
-        ([3, 1, 1, 0, 0, 9, 0x87, 0], 10),
-        ([5, 0, 0, 0, 0, 1, 0, 0], 10),
-        ([5, 0, 0, 0, 0, 0, 16, 0], 10),
-        ([0, 1, 0, 0, 0, 0, 0, 0x50], 11),
-        ([0, 1, 0, 0, 0, 0, 0, 0xFF], 11),
-        ([1, 1, 0, 0, 0, 0, 0, 1], 11),
-        ([2, 1, 1, 0, 0, 0, 0, 0x10], 11),
-        ([5, 0, 0, 0, 0, 0, 0, 2], 11),
+    let cases: [([u8; 8], u32, u32); 30] = [
+        ([6, 0, 0, 0, 0, 0, 0, 0], 5, 0),
+        ([255, 9, 9, 9, 9, 9, 9, 9], 5, 0),
+        ([0, 5, 0, 0, 0, 0, 0, 0], 6, 1),
+        ([2, 0, 0, 0, 0, 0, 0, 0], 6, 1), // reading B7
+        ([3, 0, 1, 0, 0, 0, 0, 0], 6, 1),
+        ([5, 1, 0, 0, 0, 0, 0, 0], 6, 1),
+        ([2, 3, 0, 255, 0, 0, 0, 0], 7, 2), // a store with tag 0 and mode 255 is 7
+        ([2, 3, 0, 0, 0, 0, 0, 0], 7, 2),
+        ([0, 0, 0, 0, 0, 0, 0, 0], 7, 2),
+        ([1, 0, 0, 7, 7, 0, 0, 0], 7, 2),
+        ([4, 0, 0, 7, 7, 0, 0, 0], 7, 2),
+        ([3, 4, 2, 7, 7, 0, 0, 0], 8, 2),
+        ([0, 0, 255, 7, 7, 0, 0, 0], 8, 2),
+        ([0, 1, 1, 0, 0, 0, 0, 0], 9, 2),
+        ([1, 2, 0, 1, 0, 0, 0, 0], 9, 3),
+        ([4, 3, 0, 0, 1, 0, 0, 0], 9, 4),
+        ([5, 0, 1, 0, 0, 0, 0, 0], 9, 2), // reading B6
+        ([5, 0, 0, 0, 5, 0, 0, 0], 9, 4),
+        ([0, 1, 0, 0, 0, 0, 1, 0], 17, 6), // reading I7
+        ([0, 1, 0, 0, 0, 0, 136, 0], 17, 6),
+        ([0, 1, 0, 0, 0, 0, 0x90, 0], 16, 6),
+        ([2, 1, 1, 0, 0, 0, 48, 0], 18, 6),
+        ([3, 1, 1, 0, 0, 9, 0x87, 0], 18, 6),
+        ([5, 0, 0, 0, 0, 1, 0, 0], 18, 5),
+        ([5, 0, 0, 0, 0, 0, 16, 0], 18, 6),
+        ([0, 1, 0, 0, 0, 0, 0, 0x50], 11, 7),
+        ([0, 1, 0, 0, 0, 0, 0, 0xFF], 11, 7),
+        ([1, 1, 0, 0, 0, 0, 0, 1], 11, 7),
+        ([2, 1, 1, 0, 0, 0, 0, 0x10], 11, 7),
+        ([5, 0, 0, 0, 0, 0, 0, 2], 11, 7),
     ];
-    for (bytes, number) in cases {
+    for (bytes, number, byte) in cases {
         for place in [0usize, 1, 17] {
             let mut instructions = vec![NOTHING; place];
             instructions.push(bytes);
             let mut bench = Bench::zero();
-            bench.refused(&list(&instructions), number, place as u32);
+            bench.refused_at(&list(&instructions), number, place as u32, byte);
         }
     }
 }
@@ -178,8 +161,8 @@ fn named_refusals() {
 fn order_across_instructions() {
     let mut bench = Bench::zero();
     // an 11 at 0 comes before a 5 at 1
-    bench.refused(&list(&[[1, 1, 0, 0, 0, 0, 0, 1], [6; 8]]), 11, 0);
-    // 12 and 13 only after every 5 to 11
+    bench.refused_at(&list(&[[1, 1, 0, 0, 0, 0, 0, 1], [6; 8]]), 11, 0, 7);
+    // 12 and 13 only after what every instruction is refused for
     bench.refused(&list(&[[4, 4, 0, 0, 0, 0, 0, 0], [6; 8]]), 5, 1);
     // a 13 at instruction 0 yields to a 12 at instruction 2
     bench.refused(&list(&[[5, 0, 0, 0, 0, 0, 0, 0], NOTHING, [1, 4, 0, 0, 0, 0, 0, 0]]), 12, 2);
@@ -263,7 +246,7 @@ fn step_lengths() {
         let mut record = [5u8; 96];
         let instruction = vec![0u8; length];
         let answer = step(&mut bench.memory, &mut record, &instruction, &bench.items, &mut bench.out);
-        assert_eq!(answer, Answer { number: 3, ..Answer::default() });
+        assert_eq!(answer, no(3, 0, 0));
         let answer = step(&mut bench.memory, &mut record, &instruction, &[0; 31], &mut bench.out);
         assert_eq!(answer.number, 3);
         let answer = step(&mut bench.memory[..8191], &mut record, &instruction, &[0; 31], &mut bench.out);

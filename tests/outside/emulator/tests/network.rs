@@ -1,3 +1,5 @@
+//! The passes in both forms, each value of byte 6, and the access rule of the memory.
+
 mod common;
 use common::*;
 use emulator::bits::{pack, unpack, ZERO};
@@ -20,23 +22,26 @@ fn moved(line: usize, flip: u8, byte6: u8) -> usize {
     row.iter().position(|&b| b).unwrap()
 }
 
+/// Each value of byte 6, with several flips: 0 for the 37, else 16 for p over 8 and 17 for m not below p, with a zero
+/// item (document 02, Six; readings I3, I4).
 #[test]
 fn thirty_seven() {
     assert_eq!(codes().len(), 37);
-    let mut standing = 0;
+    let mut seen = std::collections::BTreeMap::new();
     for byte6 in 0..=255u8 {
-        let item = [0xA5; 32];
-        let number = pass(&item, 3, byte6).0;
-        assert_eq!(wired_pass(&item, 3, byte6).0, number);
-        if number == 0 {
-            standing += 1;
-            assert!(codes().contains(&byte6));
-        } else {
-            assert_eq!(pass(&item, 3, byte6), (10, [0; 32]));
-            assert_eq!(wired_pass(&item, 3, byte6), (10, [0; 32]));
+        let (p, m) = (byte6 / 16, byte6 % 16);
+        let number = if byte6 == 0 || (m < p && p <= 8) { 0 } else if p > 8 { 16 } else { 17 };
+        assert_eq!(codes().contains(&byte6), number == 0);
+        for flip in [0u8, 3, 255] {
+            let item = [0xA5; 32];
+            let passed = pass(&item, flip, byte6);
+            assert_eq!(passed, wired_pass(&item, flip, byte6));
+            assert_eq!(passed.0, number, "{}", byte6);
+            assert_eq!(passed.1 == [0; 32], number != 0);
         }
+        *seen.entry(number).or_insert(0) += 1;
     }
-    assert_eq!(standing, 37);
+    assert_eq!(seen.into_iter().collect::<Vec<_>>(), [(0, 37), (16, 112), (17, 107)]);
 }
 
 #[test]
@@ -123,14 +128,14 @@ fn examples() {
     // Flip 255 with 32 mod 256, then flip 255 with 1 mod 256: 40→9, 10→235.
     assert_eq!(moved(moved(40, 255, 16 * 8 + 5), 255, 16 * 8), 9);
     assert_eq!(moved(moved(10, 255, 16 * 8 + 5), 255, 16 * 8), 235);
-    // 128 mod 256 moves all lines as flip 128. Byte 6 = 136 or 1: refused 10.
+    // 128 mod 256 moves all lines as flip 128. Byte 6 = 136 or 1: refused, 10 until Six and now 17 (reading I7).
     for line in 0..256 {
         assert_eq!(moved(line, 0, 16 * 8 + 7), moved(line, 128, 0));
     }
     for byte6 in [136, 1] {
-        assert_eq!(pass(&[255; 32], 0, byte6), (10, [0; 32]));
-        assert_eq!(wired_pass(&[255; 32], 0, byte6), (10, [0; 32]));
-        Bench::zero().refused(&[0, 1, 0, 0, 0, 0, byte6, 0], 10, 0);
+        assert_eq!(pass(&[255; 32], 0, byte6), (17, [0; 32]));
+        assert_eq!(wired_pass(&[255; 32], 0, byte6), (17, [0; 32]));
+        Bench::zero().refused_at(&[0, 1, 0, 0, 0, 0, byte6, 0], 17, 0, 6);
     }
     // 1 mod 8 of a flipped item differs from the flip of a shifted one.
     let item = Random(5).item();

@@ -1,14 +1,14 @@
--- `judge::forms::formed`: row 10, row 11, then rows 5 to 9 by kind. Assumes nothing.
+-- `judge::forms::formed`: rows 18, 16 and 17, row 11, then rows 5 to 9 by kind. Assumes nothing.
 use mathlib.Core.Path.{_≡_, sym, ap, _∙_}
-use mathlib.Core.Bool.{true, not, _||_}
+use mathlib.Core.Bool.{true, _||_}
 use Prim.Native.Nat.{ℕ}
 use native.Mathlib.Omega.{arith}
 use denote.Ref.{now}
 use lib.Dec.{eqb}
 use borrow.Author.Tests.{not-true, not-false}
 use Rattle.judge.specs.declared.Instruction.{Instruction}
-use Rattle.judge.specs.Judge.{instructionAt, wrongPass, faultOf}
-use Rattle.judge.specs.Steps.{fits}
+use Rattle.judge.specs.Judge.{instructionAt, faultOf}
+use Rattle.judge.specs.Steps.{fits, passes}
 use Rattle.judge.proofs.FormLaws.{none-fits, pass-refused, choice-refused, logic-formed, byte-refused, other-formed}
 use borrow.Author.Needs.{needs}
 use Rattle.judge.proofs.forms.formed.Statement.{statement}
@@ -17,21 +17,21 @@ use Rattle.judge.proofs.forms.formed.Tie as tie
 abbrev instruction : tie.After-pass-fits → Instruction
 instruction c = let a = c .before .before .before .args in instructionAt (now (a .list)) (a .k)
 
--- past row 10
-passes : (c : tie.Else1) → not (wrongPass (instruction (c .before))) ≡ true
-passes c = sym (c .before .pass-fits .ensures) ∙ not-false _ (c .if1 .left)
+-- past rows 18, 16 and 17
+through : (c : tie.Else1) → passes (instruction (c .before)) ≡ true
+through c = sym (c .before .pass-fits .ensures) ∙ not-false _ (c .if1 .left)
 
 -- past row 11, for a kind that is not 0
-other : (c : tie.Else4) → let i = instruction (c .before .before .before .before) in fits i ≡ eqb (faultOf i) 0
+other : (c : tie.Else4) → let i = instruction (c .before .before .before .before) in fits i ≡ eqb (faultOf i .number) 0
 unfolding instructionAt
-other c = other-formed _ (passes (c .before .before .before)) (c .before .before .if2 .left) (c .if4 .left)
+other c = other-formed _ (through (c .before .before .before)) (c .before .before .if2 .left) (c .if4 .left)
 
 returns : tie.Need-returns
 returns c = pass-refused (instruction (c .before)) (sym (c .before .pass-fits .ensures) ∙ not-true _ (c .if1 .taken))
 
 returns-2 : tie.Need-returns-2
 unfolding instructionAt
-returns-2 c = choice-refused _ (passes (c .before .before .before)) (c .before .before .if2 .taken) (c .if3 .taken)
+returns-2 c = choice-refused _ (through (c .before .before .before)) (c .before .before .if2 .taken) (c .if3 .taken)
 
 source-fits-requires : tie.Need-source-fits-requires
 unfolding instructionAt
@@ -43,11 +43,11 @@ returns-3 : tie.Need-returns-3
 unfolding instructionAt
 returns-3 c =
     let d = c .before in
-    c .source-fits .ensures ∙ logic-formed _ (passes (d .before .before .before)) (d .before .before .if2 .taken) (d .if3 .left)
+    c .source-fits .ensures ∙ logic-formed _ (through (d .before .before .before)) (d .before .before .if2 .taken) (d .if3 .left)
 
 returns-4 : tie.Need-returns-4
 unfolding instructionAt
-returns-4 c = byte-refused _ (passes (c .before .before .before)) (c .before .before .if2 .left) (c .if4 .taken)
+returns-4 c = byte-refused _ (through (c .before .before .before)) (c .before .before .if2 .left) (c .if4 .taken)
 
 store-fits-requires : tie.Need-store-fits-requires
 unfolding instructionAt

@@ -1,4 +1,4 @@
--- `judge::forms::pass_fits`: row 10, by kind and by whether there is a shift. Assumes nothing.
+-- `judge::forms::pass_fits`: rows 18, 16 and 17, by kind and by whether there is a shift. Assumes nothing.
 use mathlib.Core.Path.{_∙_}
 use denote.Ref.{now}
 use borrow.Author.Tests.{eq-eqb, ne-eqb}

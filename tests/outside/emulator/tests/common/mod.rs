@@ -1,6 +1,6 @@
+//! Helpers of the tests: a small random source, set and read bits of words, calls that check that a refusal changes
+//! nothing, and the tables of refusals once more.
 #![allow(dead_code)]
-//! Helpers of the tests: a small random source, set and read bits of words, and calls that check
-//! that a refusal changes nothing.
 
 use emulator::memory::Table;
 use emulator::*;
@@ -66,10 +66,15 @@ impl Bench {
         answer
     }
 
-    /// The run must be refused with this number at this place.
+    /// The run must be refused with this number at this place, and name this byte.
+    pub fn refused_at(&mut self, list: &[u8], number: u32, place: u32, byte: u32) {
+        assert_eq!(self.run(list), no(number, place, byte), "{:?}", list);
+    }
+
+    /// The run must be refused with this number at this place and byte 0: 5, or a number that names no byte, 1 to 4, 12
+    /// and 13.
     pub fn refused(&mut self, list: &[u8], number: u32, place: u32) {
-        let answer = self.run(list);
-        assert_eq!((answer.number, answer.place), (number, place), "{:?}", list);
+        self.refused_at(list, number, place, 0);
     }
 
     pub fn table(&self) -> Table {
@@ -96,5 +101,33 @@ pub fn set_field(table: &mut Table, word: usize, start: usize, width: usize, val
 }
 
 pub fn ok(steps: u32, taken: u32, given: u32) -> Answer {
-    Answer { number: 0, place: 0, steps, taken, given }
+    Answer { number: 0, place: 0, byte: 0, steps, taken, given }
+}
+
+pub fn no(number: u32, place: u32, byte: u32) -> Answer {
+    Answer { number, place, byte, steps: 0, taken: 0, given: 0 }
+}
+
+/// The number and the byte that document 01's table gives to an instruction, with document 02's Six in place of 10:
+/// row by row the number and the bytes that are wrong by it, condition by condition, without the order of the
+/// emulator's code. The first row with any such byte decides, and of these bytes the first. (0, 0) if it stands.
+pub fn by_the_tables(b: &[u8]) -> (u32, u32) {
+    let k = b[0];
+    let store = k == 2 || k == 3;
+    let touched = ((k == 0 || k == 1 || k == 4) && b[1] == 0) || store;
+    let (p, m) = (b[6] >> 4, b[6] & 15);
+    let one = |byte: u32, is_wrong: bool| if is_wrong { vec![byte] } else { vec![] };
+    let not_0 = |bytes: &[u32]| bytes.iter().copied().filter(|&byte| b[byte as usize] != 0).collect::<Vec<u32>>();
+    let rows = [
+        (5, one(0, k > 5)),
+        (6, one(1, b[1] > 4 || (b[1] == 0 && store) || (b[1] != 0 && k == 5))),
+        (7, one(2, touched && b[2] == 0)),
+        (8, one(2, touched && b[2] > 1)),
+        (9, not_0(if touched { &[] } else { &[2, 3, 4] })),
+        (18, not_0(if store { &[6] } else if k == 5 { &[5, 6] } else { &[] })),
+        (16, one(6, p > 8)),
+        (17, one(6, b[6] != 0 && m >= p)),
+        (11, one(7, if k == 0 { b[7] >= 80 } else { b[7] != 0 })),
+    ];
+    rows.iter().find_map(|(number, bytes)| bytes.iter().min().map(|&byte| (*number, byte))).unwrap_or((0, 0))
 }

@@ -1,4 +1,4 @@
--- `staran_step` meets its contract: a walk of its MIR, by hand. Nothing is opened: the buffers and the record go to `module::step` for good, and the answer's array goes to `put_five`. Assumes nothing.
+-- `staran_step_4` meets its contract: a walk of its MIR, by hand. Nothing is opened: the buffers and the record go to `module::step` for good, and the answer's array goes to `put_six`. Assumes nothing.
 use mathlib.Core.Path.{_≡_, refl, sym, ap, subst}
 use Prim.Native.Nat.{ℕ}
 use mathlib.Core.List.{[], _∷_, List}
@@ -47,29 +47,29 @@ use Rattle.module.proofs.step as inner
 use Rattle.module.proofs.step.Symbol as inner-def
 use Rattle.module.proofs.step.Symbol.{name as #module·step}
 use Rattle.module.proofs.step.Met as inner-thm
-use Rattle.library.specs.Left.{five}
+use Rattle.library.specs.Left.{six}
 use Rattle.library.proofs.LeftLaws.{stepped-small, step-left}
-use Rattle.library.proofs.answers.put_five as put
-use Rattle.library.proofs.answers.put_five.Symbol as put-def
-use Rattle.library.proofs.answers.put_five.Symbol.{name as #library·answers·put-five}
-use Rattle.library.proofs.answers.put_five.Met as put-thm
-use Rattle.library.proofs.staran_step.Key.{name as #library·staran-step}
-use Rattle.library.proofs.staran_step as step
-use Rattle.library.proofs.staran_step.Statement as stated
-use Rattle.library.proofs.staran_step.Code as code
+use Rattle.library.proofs.answers.put_six as put
+use Rattle.library.proofs.answers.put_six.Symbol as put-def
+use Rattle.library.proofs.answers.put_six.Symbol.{name as #library·answers·put-six}
+use Rattle.library.proofs.answers.put_six.Met as put-thm
+use Rattle.library.proofs.staran_step_4.Key.{name as #library·staran-step-4}
+use Rattle.library.proofs.staran_step_4 as step
+use Rattle.library.proofs.staran_step_4.Statement as stated
+use Rattle.library.proofs.staran_step_4.Code as code
 
 abbrev R : RattleType
 R = T.the-row
 
--- five 32-bit numbers
+-- six 32-bit numbers
 abbrev F : RattleType
-F = Array u32 tt 5
+F = Array u32 tt 6
 
 abbrev B : Slot 6
 B = plain (λ _. u8)
 
 abbrev S : Slot 6
-S = ArrayOf (plain (λ _. u32)) (λ _. tt) 5
+S = ArrayOf (plain (λ _. u32)) (λ _. tt) 6
 
 -- the buffers, the record and the answer were given away; of the items and the instruction nothing is needed
 abbrev stayed : Stays (step.ended .signature .params) (step.ended .kept)
@@ -139,7 +139,7 @@ module _ {M : Type 1} (𝓤 : URA M) (H : Heap 𝓤) (A : Atoms 𝓤) (W : Given
   abbrev Lasts : Type 0
   Lasts = List ℕ × (Registers × (Unit {0} × (Unit {0} × (List ℕ × Unit {0}))))
 
-  -- what `put_five` is passed: the answer, as the machine has it, and the array
+  -- what `put_six` is passed: the answer, as the machine has it, and the array
   abbrev p′ : Answer → Answer × (Bytes × Unit {0})
   p′ r = (r, (xa, tt))
 
@@ -158,7 +158,7 @@ module _ {M : Type 1} (𝓤 : URA M) (H : Heap 𝓤) (A : Atoms 𝓤) (W : Given
   abbrev Lasts′ : Type 0
   Lasts′ = Unit {0} × (List ℕ × Unit {0})
 
-  exits : (r : Answer) (zm : List ℕ) (zr : Registers) (zo za : List ℕ) → length zm ≡ length (xm .now) → length zo ≡ length (xo .now) → Said r zm zr zo → za ≡ five r
+  exits : (r : Answer) (zm : List ℕ) (zr : Registers) (zo za : List ℕ) → length zm ≡ length (xm .now) → length zo ≡ length (xo .now) → Said r zm zr zo → za ≡ six r
       → ent 𝓤 (⋆ 𝓤 H A (Toks′ ∷ ‵ (fres (xa .name) (F .coded .code za)) ∷ Toks ∷ ‵ (finally u8 (xo .name) zo) ∷ ‵ (fres (xr .name) (R .coded .code zr)) ∷ ‵ (finally u8 (xm .name) zm) ∷ [])) (Post vunit)
   exits r zm zr zo za lm lo e d =
       qed W (Toks′ ∷ ‵ (fres (xa .name) (F .coded .code za)) ∷ Toks ∷ ‵ (finally u8 (xo .name) zo) ∷ ‵ (fres (xr .name) (R .coded .code zr)) ∷ ‵ (finally u8 (xm .name) zm) ∷ []) ∵
@@ -171,7 +171,7 @@ module _ {M : Type 1} (𝓤 : URA M) (H : Heap 𝓤) (A : Atoms 𝓤) (W : Given
       nothing ! $ move ! (1 ∷ 0 ∷ []) $ fjoin ! $ move ! (1 ∷ 0 ∷ []) $ fjoin ! $ nothing ! $ fjoin ! $ nothing ! $ fjoin ! $ move ! (1 ∷ 0 ∷ []) $ fjoin ! $ move ! (1 ∷ 0 ∷ []) $ fjoin ! $
       frame ! $ feqI ! (List Val) (vunit ∷ []) (vunit ∷ []) refl $ done !
 
-  module _ (C : Calls 𝓤 H) (Λ : Loops 𝓤 H) (fm : FmC 𝓤 H (W .laws) C) (known : Triple 𝓤 (C #module·step) (Inner 𝓤 H A at-mem run)) (known′ : Triple 𝓤 (C #library·answers·put-five) (Put 𝓤 H A at-mem run)) (roomm : Room u8 (length (xm .now))) (roomn : Room u8 (length (xn .now))) (roomi : Room u8 (length (xi .now))) (roomo : Room u8 (length (xo .now))) where
+  module _ (C : Calls 𝓤 H) (Λ : Loops 𝓤 H) (fm : FmC 𝓤 H (W .laws) C) (known : Triple 𝓤 (C #module·step) (Inner 𝓤 H A at-mem run)) (known′ : Triple 𝓤 (C #library·answers·put-six) (Put 𝓤 H A at-mem run)) (roomm : Room u8 (length (xm .now))) (roomn : Room u8 (length (xn .now))) (roomi : Room u8 (length (xi .now))) (roomo : Room u8 (length (xo .now))) where
     walk : ent 𝓤 (onEntry 𝓤 H A step.signature (κm, (κr, (κn, (κi, (κo, (κa, tt)))))) (qm, (qr, (qn, (qi, (qo, (qa, tt)))))) a at) (WpFn 𝓤 H C Λ code.function (val xm ∷ vptr (xr .ptr .0) (xr .ptr .1) ∷ val xn ∷ val xi ∷ val xo ∷ vptr (xa .ptr .0) (xa .ptr .1) ∷ []) Post)
     walk =
         qed W ((‵ (flft κm qm) ⊛ ‵ (flft κr qr) ⊛ ‵ (flft κn qn) ⊛ ‵ (flft κi qi) ⊛ ‵ (flft κo qo) ⊛ ‵ (flft κa qa) ⊛ ‵ ftrue) ∷ ‵ (owns (MutSlice (named 0) κm u8 ∷ MutRef (named 1) κr R ∷ ShrSlice (named 2) κn u8 ∷ ShrSlice (named 3) κi u8 ∷ MutSlice (named 4) κo u8 ∷ MutRef (named 5) κa F ∷ []) a at) ∷ []) ∵
@@ -204,13 +204,13 @@ module _ {M : Type 1} (𝓤 : URA M) (H : Heap 𝓤) (A : Atoms 𝓤) (W : Given
         -- [the result; the tokens; out's last; the record's last; memory's last; the answer's token; answer; _14 (7); …]
         land ! (from ! (stop !)) (init ! 21 refl (LL.lawful N.the-type N′.the-laws 𝓤 H A W .typed r _ is .0)) $
         assigns ! (addr ! (from ! (hop ! (look ! 23 refl) (stop !)))) (from ! (stop !)) (init ! 7 refl (tt, tt)) $
-        -- what `put_five` asks is put together
+        -- what `put_six` asks is put together
         nothing ! $ move ! (7 ∷ 0 ∷ []) $ fjoin ! $ move ! (1 ∷ 0 ∷ []) $ fjoin ! $ move ! (5 ∷ 0 ∷ []) $ use2 W (raw (Put 𝓤 H A at-mem run .pre (to′ r u))) (asked′ r u (zs .0) (zs .1 .0) (zs .1 .1 .1 .1 .0) e) $
         -- [what is asked; the tokens; out's last; the record's last; memory's last; _14 (5); …]
         calls-at ! fm (Put 𝓤 H A at-mem run) known′ (to′ r u) (and-then ! (local ! 33 refl) (and-then ! (local ! 33 refl) (no-more !))) (λ v.
         use1 W (later (some (λ (x : Unit {0}). (Toks′ ⊛ ‵ (Nothing .own x (v ∷ []))) ⊛ raw (ensured 𝓤 H A put.ended (put.clauses 𝓤 H A at-mem run) (κa, tt) (p′ r) tt x)))) (id⊢ 𝓤 _) $ await ! tt $ pick ! (λ x.
-        split ! $ move ! (1 ∷ []) $ use1 W (some (λ (ws : Lasts′). ‵ (lasts put.ended (κa, tt) (p′ r) ws) ⊛ raw (fact 𝓤 (ws .1 .0 ≡ five r)))) (id⊢ 𝓤 _) $ pick ! (λ ws.
-        split ! $ move ! (1 ∷ []) $ heard ! (ws .1 .0 ≡ five r) (λ d. fsplit ! $ drop ! $ fsplit ! $ move ! (1 ∷ []) $ drop ! $
+        split ! $ move ! (1 ∷ []) $ use1 W (some (λ (ws : Lasts′). ‵ (lasts put.ended (κa, tt) (p′ r) ws) ⊛ raw (fact 𝓤 (ws .1 .0 ≡ six r)))) (id⊢ 𝓤 _) $ pick ! (λ ws.
+        split ! $ move ! (1 ∷ []) $ heard ! (ws .1 .0 ≡ six r) (λ d. fsplit ! $ drop ! $ fsplit ! $ move ! (1 ∷ []) $ drop ! $
         -- [answer's last; the answer's token and the unit; the tokens; out's last; the record's last; memory's last; _14; …]
         move ! (1 ∷ []) $ split ! $ move ! (1 ∷ []) $ feqL ! (λ is-unit.
         -- [the answer's token; answer's last; the tokens; out's last; the record's last; memory's last; _14 (6); …]
@@ -222,7 +222,7 @@ module _ {M : Type 1} (𝓤 : URA M) (H : Heap 𝓤) (A : Atoms 𝓤) (W : Given
         by ! (exits r (zs .0) (zs .1 .0) (zs .1 .1 .1 .1 .0) (ws .1 .0) lm lo e d))))))))))))))))))))))))))))
 
 module _ {M : Type 1} (𝓤 : URA M) (H : Heap 𝓤) (A : Atoms 𝓤) (W : Given 𝓤 H A) (at-mem : Memory → SProp 𝓤) (run : Routine → Fun 𝓤) where
-  step-walks : (C : Calls 𝓤 H) (Λ : Loops 𝓤 H) → FmC 𝓤 H (W .laws) C → Triple 𝓤 (C #module·step) (Inner 𝓤 H A at-mem run) → Triple 𝓤 (C #library·answers·put-five) (Put 𝓤 H A at-mem run) → Walks 𝓤 H A step.ended stayed (WpFn 𝓤 H C Λ code.function) (step.clauses 𝓤 H A at-mem run)
+  step-walks : (C : Calls 𝓤 H) (Λ : Loops 𝓤 H) → FmC 𝓤 H (W .laws) C → Triple 𝓤 (C #module·step) (Inner 𝓤 H A at-mem run) → Triple 𝓤 (C #library·answers·put-six) (Put 𝓤 H A at-mem run) → Walks 𝓤 H A step.ended stayed (WpFn 𝓤 H C Λ code.function) (step.clauses 𝓤 H A at-mem run)
   step-walks C Λ fm known known′ = walked 𝓤 H A step.ended stayed (step.clauses 𝓤 H A at-mem run) (WpFn 𝓤 H C Λ code.function) (λ κs. (slice-vals, (ptr-vals, (slice-vals, (slice-vals, (slice-vals, (ptr-vals, tt)))))))
       (λ κs. (mut-slice-tells (named 0) (κs .0) u8, (mut-tells (named 1) (κs .1 .0) R, (shr-slice-tells (named 2) (κs .1 .1 .0) u8, (shr-slice-tells (named 3) (κs .1 .1 .1 .0) u8, (mut-slice-tells (named 4) (κs .1 .1 .1 .1 .0) u8, (mut-tells (named 5) (κs .1 .1 .1 .1 .1 .0) F, tt)))))))
       (λ κs qs bounds a _ are. via 𝓤 _ (fst∗ 𝓤 _ (emp 𝓤)) (walk 𝓤 H A W at-mem run (κs .0) (κs .1 .0) (κs .1 .1 .0) (κs .1 .1 .1 .0) (κs .1 .1 .1 .1 .0) (κs .1 .1 .1 .1 .1 .0) (qs .0) (qs .1 .0) (qs .1 .1 .0) (qs .1 .1 .1 .0) (qs .1 .1 .1 .1 .0) (qs .1 .1 .1 .1 .1 .0)
@@ -231,15 +231,15 @@ module _ {M : Type 1} (𝓤 : URA M) (H : Heap 𝓤) (A : Atoms 𝓤) (W : Given
   goes : AllGo 𝓤 H A W 6 (step.signature .params) (step.ended .kept) stayed
   goes = (goes-gave-slice 𝓤 H A W 6 0 tt B, (goes-gave-ref 𝓤 H A W 6 1 tt (plain (λ _. R)), (goes-dropped 𝓤 H A W 6 (shrSliceOf (2 ∷ []) tt B) yes (λ κs x f. refl), (goes-dropped 𝓤 H A W 6 (shrSliceOf (3 ∷ []) tt B) yes (λ κs x f. refl), (goes-gave-slice 𝓤 H A W 6 4 tt B, (goes-gave-ref 𝓤 H A W 6 5 tt S, tt))))))
 
-step-meets : {M : Type 1} (𝓤 : URA M) (H : Heap 𝓤) (A : Atoms 𝓤) → Given 𝓤 H A → (at-mem : Memory → SProp 𝓤) (run : Routine → Fun 𝓤) (𝓣 : Tables 𝓤 H) → Triple 𝓤 (𝓣 .C #module·step) (Inner 𝓤 H A at-mem run) → Triple 𝓤 (𝓣 .C #library·answers·put-five) (Put 𝓤 H A at-mem run)
+step-meets : {M : Type 1} (𝓤 : URA M) (H : Heap 𝓤) (A : Atoms 𝓤) → Given 𝓤 H A → (at-mem : Memory → SProp 𝓤) (run : Routine → Fun 𝓤) (𝓣 : Tables 𝓤 H) → Triple 𝓤 (𝓣 .C #module·step) (Inner 𝓤 H A at-mem run) → Triple 𝓤 (𝓣 .C #library·answers·put-six) (Put 𝓤 H A at-mem run)
     → Meets 𝓤 H A step.signature (WpFn 𝓤 H (𝓣 .C) (𝓣 .Λ) code.function) (step.spec 𝓤 H A at-mem run)
 step-meets 𝓤 H A W at-mem run 𝓣 known known′ = walk-meets 𝓤 H A step.ended stayed W (goes 𝓤 H A W at-mem run) (step.clauses 𝓤 H A at-mem run) (WpFn 𝓤 H (𝓣 .C) (𝓣 .Λ) code.function) (WpFn-mono 𝓤 H (W .laws) 𝓣 code.function) (step-walks 𝓤 H A W at-mem run (𝓣 .C) (𝓣 .Λ) (fmOf 𝓤 H (W .laws) 𝓣) known known′)
 
-pub staran-step-spec : {M : Type 1} → stated.statement M
+pub staran-step-4-spec : {M : Type 1} → stated.statement M
 unfolding code.routine tablesOf
-staran-step-spec 𝓤 H 𝓜 𝓖 𝓡 =
+staran-step-4-spec 𝓤 H 𝓜 𝓖 𝓡 =
     entered 𝓤 H (tripleOf 𝓤 H (𝓖 .A) step.signature (step.spec 𝓤 H (𝓖 .A) (𝓜 .mem) (𝓡 .run)))
-    (tables 𝓤 H 𝓜 𝓡 code.env .C) (tables 𝓤 H 𝓜 𝓡 code.env .Λ) #library·staran-step code.function (code.unfolded 𝓤 H 𝓜 𝓡)
+    (tables 𝓤 H 𝓜 𝓡 code.env .C) (tables 𝓤 H 𝓜 𝓡 code.env .Λ) #library·staran-step-4 code.function (code.unfolded 𝓤 H 𝓜 𝓡)
     (step-meets 𝓤 H (𝓖 .A) (givenOf 𝓤 H 𝓜 𝓖) (𝓜 .mem) (𝓡 .run) (tablesOf 𝓤 H 𝓜 (tables 𝓤 H 𝓜 𝓡 code.env))
     (cited 𝓤 H (Inner 𝓤 H (𝓖 .A) (𝓜 .mem) (𝓡 .run)) 𝓜 𝓡 code.env #module·step inner-def.routine code.calls-module·step (inner-thm.met 𝓤 H 𝓜 𝓖 𝓡))
-    (cited 𝓤 H (Put 𝓤 H (𝓖 .A) (𝓜 .mem) (𝓡 .run)) 𝓜 𝓡 code.env #library·answers·put-five put-def.routine code.calls-library·answers·put-five (put-thm.met 𝓤 H 𝓜 𝓖 𝓡)))
+    (cited 𝓤 H (Put 𝓤 H (𝓖 .A) (𝓜 .mem) (𝓡 .run)) 𝓜 𝓡 code.env #library·answers·put-six put-def.routine code.calls-library·answers·put-six (put-thm.met 𝓤 H 𝓜 𝓖 𝓡)))
