@@ -40,14 +40,19 @@
  *   whose words are all 0.
  * - Under mode M and address G, line P meets bit ((not M) and G) xor (M and P) of word (M and G) xor ((not M) and P). Mode 0 is bit G
  *   of every word, word P on line P; mode 255 is word G, bit P on line P.
- * - The registers are 96 bytes: M at 0 to 31, X at 32 to 63, Y at 64 to 95, an item each.
+ * - The registers are 100 bytes: M at 0 to 31, X at 32 to 63, Y at 64 to 95, an item each; then the two access mode registers, two bytes
+ *   each, A at 96 and 97, B at 98 and 99: first the flag, 1 if the register is set, else 0; then its mode, any byte if it is set, 0 if it
+ *   is not. Four zeros mean that neither is set. A flag over 1, or a mode that is not 0 behind flag 0, is refused with 15. Kind 6 sets a
+ *   register, and nothing unsets it.
+ * - No list that is built here sets a mode register, or takes a mode from one: its run takes them set or not, and leaves both as they were.
  *
  * INSTRUCTIONS, 8 bytes each: the names and macros below make them
  *
- *   byte 0   kind: 0 logic, 1 set M, 2 store, 3 masked store, 4 deliver, 5 resolve
+ *   byte 0   kind: 0 logic, 1 set M, 2 store, 3 masked store, 4 deliver, 5 resolve, 6 set a mode register
  *   byte 1   source: 0 memory, 1 M, 2 X, 3 Y, 4 outside (the next 32 bytes of the lent items, for each use)
- *   byte 2   mode tag: 1 where a mode is given. Kinds 0, 1 and 4 with source 0, and kinds 2 and 3 always, touch memory and need it
- *   byte 3   mode
+ *   byte 2   mode tag: 1 takes the mode from byte 3, 2 from mode register A, 3 from B. Kinds 0, 1 and 4 with source 0, and kinds 2 and 3
+ *            always, touch memory and need one; kind 6 needs 2 or 3, the register that it sets
+ *   byte 3   mode, with tag 1 and of kind 6; else 0
  *   byte 4   address
  *   byte 5   flip F: line I moves to line I xor F
  *   byte 6   shift, after the flip: 16p + m with m < p <= 8 keeps I div 2^p and moves the rest to (rest + 2^m) mod 2^p; 0 shifts
@@ -60,7 +65,12 @@
  * line after the flip: M does not go through the network; deliver puts the item into the next 32 bytes of the out buffer. Resolve
  * delivers an item of its own, about the responders, the lines whose bit of Y is 1: byte 0 is 1 if there is one, else 0; bytes 1 and
  * 2 are the smallest responder, 256 if there is none; bytes 3 and 4 are how many there are, 0 to 256; the other 27 are 0. Both
- * numbers have their low byte first: STARAN_SMALLEST_RESPONDER and STARAN_RESPONDER_COUNT read them. */
+ * numbers have their low byte first: STARAN_SMALLEST_RESPONDER and STARAN_RESPONDER_COUNT read them.
+ *
+ * Kind 6 puts byte 3 into mode register A, with tag 2, or B, with tag 3, and sets it; its other bytes are 0. It makes no pass, takes no
+ * item and gives none, and is a step as the others are. Where memory is touched with tag 2 or 3, the mode is what the kind 6 nearest
+ * before it in the list put into that register, or else what was set there at the start; where neither set it, the list is refused with
+ * 14, before anything acts. */
 #ifndef STARAN_H
 #define STARAN_H
 
@@ -74,16 +84,17 @@ extern "C" {
 #endif
 
 /* The version of this header, and the linked library's: see staran_version. */
-#define STARAN_VERSION_MAJOR 4
+#define STARAN_VERSION_MAJOR 5
 #define STARAN_VERSION_MINOR 0
 #define STARAN_VERSION (STARAN_VERSION_MAJOR * UINT32_C(65536) + STARAN_VERSION_MINOR)
 
-/* Lengths in bytes. */
+/* Lengths in bytes. A picture's registers are M, X and Y, the first 96 bytes of a run's: it has no mode registers. */
 #define STARAN_MEMORY_BYTES 8192
-#define STARAN_REGISTERS_BYTES 96
+#define STARAN_REGISTERS_BYTES 100
 #define STARAN_ITEM_BYTES 32
 #define STARAN_INSTRUCTION_BYTES 8
 #define STARAN_BLOCK_BYTES 512
+#define STARAN_PICTURE_REGISTERS_BYTES 96
 #define STARAN_PICTURE_FILE_BYTES 8704 /* 17 blocks */
 
 /* The length of a sum list and of a difference list of width n, 1 to 64. */
@@ -135,7 +146,8 @@ enum {
     STARAN_KIND_STORE = 2,
     STARAN_KIND_MASKED_STORE = 3,
     STARAN_KIND_DELIVER = 4,
-    STARAN_KIND_RESOLVE = 5
+    STARAN_KIND_RESOLVE = 5,
+    STARAN_KIND_SET_MODE = 6
 };
 
 /* Byte 1. */
@@ -146,6 +158,9 @@ enum {
     STARAN_SOURCE_Y = 3,
     STARAN_SOURCE_OUTSIDE = 4
 };
+
+/* Byte 2: where the mode stands, if there is one. */
+enum { STARAN_TAG_NONE = 0, STARAN_TAG_GIVEN = 1, STARAN_TAG_A = 2, STARAN_TAG_B = 3 };
 
 /* Byte 3: the two modes with a name; each of the 256 is a mode. */
 enum { STARAN_MODE_SLICE = 0, STARAN_MODE_WORD = 255 };
@@ -180,26 +195,38 @@ enum {
 #define STARAN_NO_FLIP 0
 
 /* An instruction's eight bytes, with commas between, for an initializer: uint8_t list[] = {STARAN_STORE(..), STARAN_RESOLVE};
- * The short ones set what must be 0 to 0. What touches memory takes mode and address; what does not is called _FROM and takes a
- * source. */
+ * The short ones set what must be 0 to 0. What touches memory takes mode and address; or it is called _BY, and takes the tag of a mode
+ * register, STARAN_TAG_A or STARAN_TAG_B, and the address; what does not touch memory is called _FROM and takes a source.
+ * STARAN_SET_MODE sets the register of a tag to a mode. */
 #define STARAN_INSTRUCTION(kind, source, tag, mode, address, flip, shift, logic) \
     (uint8_t)(kind), (uint8_t)(source), (uint8_t)(tag), (uint8_t)(mode), (uint8_t)(address), (uint8_t)(flip), (uint8_t)(shift), \
         (uint8_t)(logic)
 #define STARAN_LOGIC(mode, address, flip, shift, choice, function) \
     STARAN_INSTRUCTION(STARAN_KIND_LOGIC, STARAN_SOURCE_MEMORY, 1, mode, address, flip, shift, 16 * (choice) + (function))
+#define STARAN_LOGIC_BY(tag, address, flip, shift, choice, function) \
+    STARAN_INSTRUCTION(STARAN_KIND_LOGIC, STARAN_SOURCE_MEMORY, tag, 0, address, flip, shift, 16 * (choice) + (function))
 #define STARAN_LOGIC_FROM(source, flip, shift, choice, function) \
     STARAN_INSTRUCTION(STARAN_KIND_LOGIC, source, 0, 0, 0, flip, shift, 16 * (choice) + (function))
 #define STARAN_SET_M(mode, address, flip, shift) \
     STARAN_INSTRUCTION(STARAN_KIND_SET_M, STARAN_SOURCE_MEMORY, 1, mode, address, flip, shift, 0)
+#define STARAN_SET_M_BY(tag, address, flip, shift) \
+    STARAN_INSTRUCTION(STARAN_KIND_SET_M, STARAN_SOURCE_MEMORY, tag, 0, address, flip, shift, 0)
 #define STARAN_SET_M_FROM(source, flip, shift) STARAN_INSTRUCTION(STARAN_KIND_SET_M, source, 0, 0, 0, flip, shift, 0)
 #define STARAN_STORE(source, mode, address, flip) \
     STARAN_INSTRUCTION(STARAN_KIND_STORE, source, 1, mode, address, flip, STARAN_NO_SHIFT, 0)
+#define STARAN_STORE_BY(source, tag, address, flip) \
+    STARAN_INSTRUCTION(STARAN_KIND_STORE, source, tag, 0, address, flip, STARAN_NO_SHIFT, 0)
 #define STARAN_MASKED_STORE(source, mode, address, flip) \
     STARAN_INSTRUCTION(STARAN_KIND_MASKED_STORE, source, 1, mode, address, flip, STARAN_NO_SHIFT, 0)
+#define STARAN_MASKED_STORE_BY(source, tag, address, flip) \
+    STARAN_INSTRUCTION(STARAN_KIND_MASKED_STORE, source, tag, 0, address, flip, STARAN_NO_SHIFT, 0)
 #define STARAN_DELIVER(mode, address, flip, shift) \
     STARAN_INSTRUCTION(STARAN_KIND_DELIVER, STARAN_SOURCE_MEMORY, 1, mode, address, flip, shift, 0)
+#define STARAN_DELIVER_BY(tag, address, flip, shift) \
+    STARAN_INSTRUCTION(STARAN_KIND_DELIVER, STARAN_SOURCE_MEMORY, tag, 0, address, flip, shift, 0)
 #define STARAN_DELIVER_FROM(source, flip, shift) STARAN_INSTRUCTION(STARAN_KIND_DELIVER, source, 0, 0, 0, flip, shift, 0)
 #define STARAN_RESOLVE STARAN_INSTRUCTION(STARAN_KIND_RESOLVE, 0, 0, 0, 0, 0, 0, 0)
+#define STARAN_SET_MODE(tag, mode) STARAN_INSTRUCTION(STARAN_KIND_SET_MODE, 0, tag, mode, 0, 0, 0, 0)
 
 /* What a resolve says, from its 32 bytes, of uint8_t: whether there is a responder; the smallest, 0 to 255, or STARAN_NO_RESPONDER; how
  * many there are. The two numbers read `item` twice. */
@@ -208,50 +235,53 @@ enum {
 #define STARAN_RESPONDER_COUNT(item) ((item)[3] + 256 * (item)[4])
 #define STARAN_NO_RESPONDER 256
 
-/* The register record that a step is lent: the same 96 bytes in the same order as a run's registers. */
+/* The register record that a step is lent: the same 100 bytes in the same order as a run's registers. */
 typedef struct {
     uint8_t m[32];
     uint8_t x[32];
     uint8_t y[32];
+    uint8_t a_set, a_mode; /* mode register A: its flag, and its mode */
+    uint8_t b_set, b_mode; /* mode register B */
 } staran_registers;
 
 #if defined(__cplusplus) && __cplusplus >= 201103L
-static_assert(sizeof(staran_registers) == STARAN_REGISTERS_BYTES, "the register record is 96 bytes");
+static_assert(sizeof(staran_registers) == STARAN_REGISTERS_BYTES, "the register record is 100 bytes");
 #elif defined(__STDC_VERSION__) && __STDC_VERSION__ >= 201112L
-_Static_assert(sizeof(staran_registers) == STARAN_REGISTERS_BYTES, "the register record is 96 bytes");
+_Static_assert(sizeof(staran_registers) == STARAN_REGISTERS_BYTES, "the register record is 100 bytes");
 #else
-typedef char staran_register_record_is_96_bytes[sizeof(staran_registers) == STARAN_REGISTERS_BYTES ? 1 : -1];
+typedef char staran_register_record_is_100_bytes[sizeof(staran_registers) == STARAN_REGISTERS_BYTES ? 1 : -1];
 #endif
 
 /* The version of the library that is linked: 65,536 times the major number, plus the minor. It takes nothing and changes nothing.
  *
- * A later version may read an instruction otherwise, deliver other bytes or give other numbers: see docs/CHANGELOG.md. An answer or a
- * record that gets longer comes under another function name. So a program that was compiled with one version and is linked with
- * another asks before its first call that staran_version() == STARAN_VERSION.
+ * A later version may read an instruction otherwise, deliver other bytes, give other numbers or ask for longer registers: see
+ * docs/CHANGELOG.md. An answer or a record that gets longer comes under another function name. So a program that was compiled with one
+ * version and is linked with another asks before its first call that staran_version() == STARAN_VERSION.
  * Stack: at most 64 bytes. */
 uint32_t staran_version(void);
 
 /* Runs a list of instructions.
  *
  * memory      8,192 bytes, else 1
- * registers   96 bytes, else 2
+ * registers   100 bytes, else 2; of each mode register the flag is 1, or it is 0 and the mode too, else 15
  * list        a multiple of 8 bytes, at most 32,768, else 3. The empty list is done
  * items       a multiple of 32 bytes, at most 32,768, else 4. Items that no instruction takes are no fault
  * out         any length
  * answer      number, place, byte, steps, taken, given: STARAN_ANSWER_NUMBER and so on say where
  *
- * Judged: 1, 2, 3, 4; then for each instruction in turn 5, 6, 7, 8, 9, 18, 16, 17, 11, in this order within it; then 12; then 13; all
- * before the first instruction acts. The place is the number of the instruction that is refused, counted from 0; for 12 and 13 that is
- * the first that lacks its item or its 32 bytes of room; for 1 to 4 it is 0.
+ * Judged: 1, 2, 3, 4, 15; then for each instruction in turn 5, 6, 7, 8, 9, 14, 18, 16, 17, 11, in this order within it; then 12; then
+ * 13; all before the first instruction acts. For 14 a mode register counts as set if its flag is 1 at the start, or if an instruction
+ * before this one is a kind 6 that sets it. The place is the number of the instruction that is refused, counted from 0; for 12 and 13
+ * that is the first that lacks its item or its 32 bytes of room; for 1 to 4 and 15 it is 0.
  * The byte, 0 to 7, is the first of that instruction's bytes that is wrong by the number given:
  *
- *   5        byte 0
- *   6        byte 1
- *   7, 8     byte 2
- *   9        the first of bytes 2, 3 and 4 that is not 0
- *   18       byte 6 of a store; of a resolve the first of bytes 5 and 6 that is not 0
- *   16, 17   byte 6
- *   11       byte 7
+ *   5           byte 0
+ *   6           byte 1
+ *   7, 8, 14    byte 2
+ *   9           the first of bytes 2, 3 and 4 that is not 0; where memory is touched, with tag 2 or 3, byte 3; of kind 6, byte 4
+ *   18          byte 6 of a store; of a resolve or of kind 6 the first of bytes 5 and 6 that is not 0
+ *   16, 17      byte 6
+ *   11          byte 7
  *
  * For all other numbers, also for 12 and 13, it is 0.
  * Done: place and byte 0; steps is the count of instructions, taken that of the items taken (source 4), given that of the items given
@@ -259,12 +289,14 @@ uint32_t staran_version(void);
  * the bytes past them stay.
  * Refused: steps, taken and given are 0, and memory, registers and out are as they were.
  *
- * The 4 in the name is the major version since which the answer is this one. Until 3.1 staran_run and staran_step wrote five numbers,
+ * The 4 in the name is the major version since which the function has its form. Until 3.1 staran_run and staran_step wrote five numbers,
  * number, place, steps, taken, given, to an array of five. So that no such array is written over, and no byte is read as the steps,
  * they are gone: a program that was compiled for them does not link with this library, and its source finds them in this header no
- * more. To bring it over, call staran_run_4 and staran_step_4, lend an array of STARAN_RUN_NUMBERS, and read it by the names
- * STARAN_ANSWER_NUMBER to STARAN_ANSWER_GIVEN: behind the place comes the byte, and steps, taken and given stand one further on. 10
- * is not given any more: where it was, there is 18, 16 or 17.
+ * more. To bring it over, call staran_run_4 and staran_step_5, lend an array of STARAN_RUN_NUMBERS and registers of
+ * STARAN_REGISTERS_BYTES, and read the answer by the names STARAN_ANSWER_NUMBER to STARAN_ANSWER_GIVEN: behind the place comes the byte,
+ * and steps, taken and given stand one further on. 10 is not given any more: where it was, there is 18, 16 or 17.
+ * Until 4.0 the registers were 96 bytes, M, X and Y. A program that lends so many is refused with 2: to bring it over, lend four bytes
+ * more behind them, zeros at first, and leave there what a run leaves.
  * Stack: at most 1,536 bytes. */
 void staran_run_4(uint8_t *memory, size_t memory_length, uint8_t *registers, size_t registers_length, const uint8_t *list,
                   size_t list_length, const uint8_t *items, size_t items_length, uint8_t *out, size_t out_length,
@@ -274,17 +306,22 @@ void staran_run_4(uint8_t *memory, size_t memory_length, uint8_t *registers, siz
  * instruction does.
  *
  * memory        8,192 bytes, else 1
- * registers     the record; it is updated where it stands. 2 is never given
+ * registers     the record; it is updated where it stands. 2 is never given; its mode registers are as in staran_run_4, else 15
  * instruction   exactly 8 bytes, else 3
  * items         a multiple of 32 bytes, at most 32,768, else 4; the step takes the first, if it takes one
  * out           any length; the step gives to its first 32 bytes, if it gives
  * answer        number, place, byte, steps, taken, given, as in staran_run_4
  *
- * Judged: 1, 3, 4; then 5, 6, 7, 8, 9, 18, 16, 17, 11; then 12; then 13. The place is always 0; the byte is as in staran_run_4.
+ * Judged: 1, 3, 4, 15; then 5, 6, 7, 8, 9, 14, 18, 16, 17, 11; then 12; then 13. For 14 the flags in the record decide. The place is
+ * always 0; the byte is as in staran_run_4.
  * Done: byte 0; steps is 1; taken and given are 0 or 1. Refused: steps, taken and given are 0, and memory, registers and out are as
  * they were.
+ *
+ * The 5 in the name is the major version since which the record has 100 bytes. staran_step_4, until 4.0, was lent 96: so that no byte
+ * behind such a record is read and written, it is gone, and a program that was compiled for it does not link with this library. To
+ * bring it over, call staran_step_5, and set a_set, a_mode, b_set and b_mode to 0 where the record is made.
  * Stack: at most 1,664 bytes. */
-void staran_step_4(uint8_t *memory, size_t memory_length, staran_registers *registers, const uint8_t *instruction,
+void staran_step_5(uint8_t *memory, size_t memory_length, staran_registers *registers, const uint8_t *instruction,
                    size_t instruction_length, const uint8_t *items, size_t items_length, uint8_t *out, size_t out_length,
                    uint32_t answer[STARAN_RUN_NUMBERS]);
 
@@ -379,7 +416,7 @@ void staran_greatest_list(uint32_t start, uint32_t n, uint8_t *list, size_t list
  *
  * a, s      the starts of the fields, which are the numbers of their least significant bits: any numbers of 32 bits
  * n         the width of both: any number of 32 bits
- * marks     32 bytes, else 35: an item with a 1 for each word that is marked, as a search leaves it in Y, the last 32 bytes of the
+ * marks     32 bytes, else 35: an item with a 1 for each word that is marked, as a search leaves it in Y, bytes 64 to 95 of the
  *           registers. Any marks are good; with none, S becomes 0 in every word
  * list      any length; the list has 8 * (10 + 19n) bytes
  * items     any length; the items have 288 bytes, nine items for every n and all marks
@@ -447,7 +484,9 @@ void staran_read_content(size_t kind, const uint8_t *bytes, size_t bytes_length,
 void staran_write_content(size_t kind, const uint8_t *content, size_t content_length, uint8_t *out, size_t out_length,
                           uint32_t answer[STARAN_DISK_NUMBERS]);
 
-/* Reads the blocks of a picture: the 256 words in plain order and the registers.
+/* Reads the blocks of a picture: the 256 words in plain order, and the registers M, X and Y. A picture has no mode registers: of a run's
+ * registers lend the first STARAN_PICTURE_REGISTERS_BYTES, and the mode registers behind them stay; to start with neither set, put four
+ * zeros there.
  *
  * kind        the kind asked for: 1 picture
  * bytes       the file; a picture that stands is 17 blocks, 8,704 bytes
@@ -463,7 +502,8 @@ void staran_write_content(size_t kind, const uint8_t *content, size_t content_le
 void staran_read_picture(size_t kind, const uint8_t *bytes, size_t bytes_length, uint8_t *memory, size_t memory_length,
                          uint8_t *registers, size_t registers_length, uint32_t answer[STARAN_DISK_NUMBERS]);
 
-/* Writes a picture as blocks.
+/* Writes a picture as blocks: the words, M, X and Y. The mode registers are not in it: of a run's registers lend the first
+ * STARAN_PICTURE_REGISTERS_BYTES.
  *
  * kind        1 picture
  * memory      exactly 8,192 bytes

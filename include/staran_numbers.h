@@ -11,21 +11,24 @@ enum {
     STARAN_DONE = 0,
     /* run, step: the memory is not 8,192 bytes */
     STARAN_REFUSED_MEMORY_LENGTH = 1,
-    /* run: the registers are not 96 bytes */
+    /* run: the registers are not 100 bytes */
     STARAN_REFUSED_REGISTERS_LENGTH = 2,
     /* run, step: the list is not a multiple of 8 bytes, or over 32,768; a step's instruction is not 8 bytes */
     STARAN_REFUSED_LIST_LENGTH = 3,
     /* run, step: the items are not a multiple of 32 bytes, or over 32,768 */
     STARAN_REFUSED_ITEMS_LENGTH = 4,
-    /* run, step: byte 0, the kind, is over 5 */
+    /* run, step: byte 0, the kind, is over 6 */
     STARAN_REFUSED_KIND = 5,
-    /* run, step: byte 1, the source: it is over 4; it is memory (0) for a store; it is not 0 for a resolve */
+    /* run, step: byte 1, the source: it is over 4; it is memory (0) for a store; it is not 0 for a resolve or for
+       kind 6 */
     STARAN_REFUSED_SOURCE = 6,
-    /* run, step: memory is touched and byte 2, the mode tag, is 0: no mode was given */
+    /* run, step: memory is touched and byte 2, the mode tag, is 0: no mode was given; or byte 2 of kind 6 is 0: no
+       register is named */
     STARAN_REFUSED_NO_MODE = 7,
-    /* run, step: memory is touched and byte 2, the mode tag, is over 1 */
+    /* run, step: byte 2, the mode tag: it is over 3 where memory is touched; it is 1 or over 3 for kind 6 */
     STARAN_REFUSED_MODE_TAG = 8,
-    /* run, step: memory is not touched, and byte 2, 3 or 4 is not 0 */
+    /* run, step: a byte that nothing uses is not 0: byte 2, 3 or 4 where memory is not touched, of kind 6 byte 4
+       alone; byte 3, the mode, where memory is touched with tag 2 or 3 */
     STARAN_REFUSED_MODE_UNUSED = 9,
     /* run, step: byte 7: the choice is over 4 in logic; it is not 0 in any other kind */
     STARAN_REFUSED_LOGIC = 11,
@@ -33,12 +36,17 @@ enum {
     STARAN_REFUSED_ITEMS_TOO_FEW = 12,
     /* run, step: the out buffer is too short: the place is the first instruction without room for its 32 bytes */
     STARAN_REFUSED_OUT_TOO_SHORT = 13,
+    /* run, step: memory is touched with tag 2, register A, or tag 3, register B, and that register is not set: its
+       flag is 0 at the start, and no earlier kind 6 set it */
+    STARAN_REFUSED_MODE_UNSET = 14,
+    /* run, step: the mode registers as they are lent: a flag is over 1, or a mode is not 0 though its flag is 0 */
+    STARAN_REFUSED_MODE_REGISTERS = 15,
     /* run, step, pass: byte 6, 16p + m: p is over 8, a group of more than 256 lines */
     STARAN_REFUSED_GROUP_TOO_WIDE = 16,
     /* run, step, pass: byte 6, 16p + m, is not 0, and m is not below p */
     STARAN_REFUSED_SHIFT_NOT_BELOW = 17,
     /* run, step: a move that this kind may not make: byte 6, the shift, is not 0 on a store; byte 5, the flip, or
-       byte 6 is not 0 on a resolve */
+       byte 6 is not 0 on a resolve or on kind 6 */
     STARAN_REFUSED_MOVE_BARRED = 18,
     /* reading: the file has no bytes, is not a multiple of 512, or is over 34,304; in the program also: before.pic
        is absent, a file cannot be read (standard error says why), before.pic is over 17 blocks, run.lst or in.itm
@@ -87,34 +95,42 @@ static inline const char *staran_meaning(uint32_t number)
     case STARAN_REFUSED_MEMORY_LENGTH:
         return "the memory is not 8,192 bytes";
     case STARAN_REFUSED_REGISTERS_LENGTH:
-        return "the registers are not 96 bytes";
+        return "the registers are not 100 bytes";
     case STARAN_REFUSED_LIST_LENGTH:
         return "the list is not a multiple of 8 bytes, or over 32,768; a step's instruction is not 8 bytes";
     case STARAN_REFUSED_ITEMS_LENGTH:
         return "the items are not a multiple of 32 bytes, or over 32,768";
     case STARAN_REFUSED_KIND:
-        return "byte 0, the kind, is over 5";
+        return "byte 0, the kind, is over 6";
     case STARAN_REFUSED_SOURCE:
-        return "byte 1, the source: it is over 4; it is memory (0) for a store; it is not 0 for a resolve";
+        return "byte 1, the source: it is over 4; it is memory (0) for a store; it is not 0 for a resolve or for "
+               "kind 6";
     case STARAN_REFUSED_NO_MODE:
-        return "memory is touched and byte 2, the mode tag, is 0: no mode was given";
+        return "memory is touched and byte 2, the mode tag, is 0: no mode was given; or byte 2 of kind 6 is 0: no "
+               "register is named";
     case STARAN_REFUSED_MODE_TAG:
-        return "memory is touched and byte 2, the mode tag, is over 1";
+        return "byte 2, the mode tag: it is over 3 where memory is touched; it is 1 or over 3 for kind 6";
     case STARAN_REFUSED_MODE_UNUSED:
-        return "memory is not touched, and byte 2, 3 or 4 is not 0";
+        return "a byte that nothing uses is not 0: byte 2, 3 or 4 where memory is not touched, of kind 6 byte 4 "
+               "alone; byte 3, the mode, where memory is touched with tag 2 or 3";
     case STARAN_REFUSED_LOGIC:
         return "byte 7: the choice is over 4 in logic; it is not 0 in any other kind";
     case STARAN_REFUSED_ITEMS_TOO_FEW:
         return "the items are too few: the place is the first instruction that lacks one";
     case STARAN_REFUSED_OUT_TOO_SHORT:
         return "the out buffer is too short: the place is the first instruction without room for its 32 bytes";
+    case STARAN_REFUSED_MODE_UNSET:
+        return "memory is touched with tag 2, register A, or tag 3, register B, and that register is not set: its "
+               "flag is 0 at the start, and no earlier kind 6 set it";
+    case STARAN_REFUSED_MODE_REGISTERS:
+        return "the mode registers as they are lent: a flag is over 1, or a mode is not 0 though its flag is 0";
     case STARAN_REFUSED_GROUP_TOO_WIDE:
         return "byte 6, 16p + m: p is over 8, a group of more than 256 lines";
     case STARAN_REFUSED_SHIFT_NOT_BELOW:
         return "byte 6, 16p + m, is not 0, and m is not below p";
     case STARAN_REFUSED_MOVE_BARRED:
         return "a move that this kind may not make: byte 6, the shift, is not 0 on a store; byte 5, the flip, or "
-               "byte 6 is not 0 on a resolve";
+               "byte 6 is not 0 on a resolve or on kind 6";
     case STARAN_REFUSED_FILE_LENGTH:
         return "the file has no bytes, is not a multiple of 512, or is over 34,304; in the program also: before.pic "
                "is absent, a file cannot be read (standard error says why), before.pic is over 17 blocks, run.lst or"

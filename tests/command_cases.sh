@@ -88,8 +88,10 @@ gives "--version is the header's" 0 "staran $major.$minor" "$staran" --version
 grep -q "^## $major.$minor" "$here/docs/CHANGELOG.md"; judge "and the newest of docs/CHANGELOG.md" $?
 call "$staran" numbers; [ $status -eq 0 ] && [ "$(grep -cE '^ *[0-9]+  ' "$work/out")" -eq "$(grep -vc '^#' "$here/docs/numbers.tsv")" ]; judge "numbers: every row" $?
 call "$staran" numbers 7; [ $status -eq 0 ] && grep -q 'no mode was given' "$work/out" && [ "$(grep -cE '^ *[0-9]+  ' "$work/out")" -eq 1 ]; judge "numbers 7: one row" $?
-call "$staran" numbers 9; [ $status -eq 0 ] && grep -qx '     byte: the first of 2, 3 and 4 that is not 0' "$work/out"; judge "numbers 9: which byte is given" $?
-complains "numbers 14: there is none" 2 'the number 14 is never given' "$staran" numbers 14
+call "$staran" numbers 9; [ $status -eq 0 ] && grep -q '^     byte: the first of 2, 3 and 4 that is not 0' "$work/out"; judge "numbers 9: which byte is given" $?
+call "$staran" numbers 14; [ $status -eq 0 ] && grep -q 'register is not set' <<<"$(tr -s ' \n' ' ' <"$work/out")" && grep -qx '     byte: 2' "$work/out"; judge "numbers 14: a register that is not set" $?
+call "$staran" numbers 15; [ $status -eq 0 ] && grep -q 'a flag is over 1' <<<"$(tr -s ' \n' ' ' <"$work/out")" && ! grep -q 'byte:' "$work/out"; judge "numbers 15: of no instruction" $?
+complains "numbers 19: there is none" 2 'the number 19 is never given' "$staran" numbers 19
 complains "numbers 10: it is not given any more" 2 'the number 10 is never given' "$staran" numbers 10
 timeout 60 "$staran" numbers >/dev/full 2>err; status=$?; : >out
 [ $status -eq 2 ] && grep -q 'No space left on device' err && ! grep -q 'never given\|parameter' err; judge "numbers: 2 for an output that takes nothing, with the reason" $?
@@ -112,16 +114,27 @@ while read -r number list byte sentence <&3; do
     judge "why: $number in $list, byte $byte" $?
 done 3<<'ROWS'
 5 FF00000000000000 0 kind: there is no such one
-6 0200010000000000 1 source: memory
+6 0200010000000000 1 source: memory; a store takes none from there: it must be 1 to 4
+6 0501000000000000 1 source: M; a resolve has none: it must be 0
+6 060402FF00000000 1 source: outside, the next item of in.itm; kind 6 has none: it must be 0
 7 0000000000000000 2 mode tag: no mode is given; this instruction touches memory and needs one
-8 0203020000000000 2 mode tag: there is no such tag; this instruction touches memory and needs one
+7 060000FF00000000 2 mode tag: no register is named; kind 6 needs 2, for A, or 3, for B
+8 0203040000000000 2 mode tag: there is no such tag; this instruction touches memory and needs one
+8 060001FF00000000 2 mode tag: it names no register; kind 6 needs 2, for A, or 3, for B
+8 060004FF00000000 2 mode tag: there is no such tag; kind 6 needs 2, for A, or 3, for B
 9 0002010700000000 2 mode tag: of no use, for memory is not touched: it must be 0
 9 040300FF0D000000 3 mode: of no use, for memory is not touched: it must be 0
+9 0203020109000000 3 mode: of no use, for it is that of register A: it must be 0
 9 040300000D000000 4 address: of no use, for memory is not touched: it must be 0
+9 060002FF09000000 4 address: of no use in this kind: it must be 0
+14 0203020009000000 2 mode tag: the mode of register A, which is not set
+14 0000030009000000 2 mode tag: the mode of register B, which is not set
 18 0203010009009000 6 shift: p is 9 and m is 0; a store may not shift: it must be 0
 18 0303010009001000 6 shift: p is 1 and m is 0; a masked store may not shift: it must be 0
 18 0500000000018800 5 flip: line I goes to I xor 1; a resolve may not flip: it must be 0
 18 0500000000008800 6 shift: p is 8 and m is 8; a resolve may not shift: it must be 0
+18 060002FF00018800 5 flip: line I goes to I xor 1; kind 6 may not flip: it must be 0
+18 060003FF00001000 6 shift: p is 1 and m is 0; kind 6 may not shift: it must be 0
 16 0002000000009F00 6 shift: p is 9 and m is 15; p is over 8, and a group has at most 256 lines
 17 0002000000008800 6 shift: p is 8 and m is 8; m is not below p
 17 0002000000000100 6 shift: p is 0 and m is 1; m is not below p
@@ -130,13 +143,30 @@ done 3<<'ROWS'
 ROWS
 folder each "$(yes 000200000000000A | head -n 57) 040300FF0D000000"; call "$staran" why each
 [ $status -eq 1 ] && [ "$(head -n 1 "$work/out")" = 'r 9 57 3 0 0 0' ] && grep -qx 'Instruction 57, counted from 0, at byte 456 of the list: 04 03 00 ff 0d 00 00 00' "$work/out"; judge "why: the instruction at the place" $?
+# which mode registers are set before the instruction, where it names one: by the last kind 6 before it, or not at all, or only after it
+folder each '0600020700000000 060002FF00000000 020302000D000000 020303000D000000 0600030000000000'; call "$staran" why each
+[ $status -eq 1 ] && [ "$(head -n 1 "$work/out")" = 'r 14 3 2 0 0 0' ] && grep -qx '  byte 3  00  mode: that of register B: nobody gave one' "$work/out" &&
+    [ "$(tail -n 2 "$work/out")" = "$(printf '%s\n' 'Mode register A is set before it, to 255 by instruction 1.' 'Mode register B is not set before it; instruction 4 sets it, and comes after.')" ]
+judge "why: 14, and which mode registers are set before it" $?
+folder each '060003FF00000000 020403000D000000'; call "$staran" why each
+[ $status -eq 1 ] && [ "$(head -n 1 "$work/out")" = 'r 12 1 0 0 0 0' ] && grep -qx '  byte 2  03  mode tag: the mode of register B, which is set' "$work/out" && grep -qx '  byte 3  00  mode: that of register B, 255: one word' "$work/out" &&
+    grep -qx 'Mode register B is set before it, to 255 by instruction 0.' "$work/out"; judge "why: the mode that a register has" $?
+folder each 0500000000000001; call "$staran" why each; grep -qx '  byte 1  00  source: none' "$work/out"; judge "why: a resolve has no source" $?
+folder each 060002FF00000001; call "$staran" why each; grep -qx '  byte 0  06  kind: set a mode register' "$work/out" && grep -qx '  byte 1  00  source: none' "$work/out" && grep -qx '  byte 2  02  mode tag: register A' "$work/out" &&
+    grep -qx '  byte 3  ff  mode: one word' "$work/out" && ! grep -q '^Mode register' "$work/out"; judge "why: kind 6" $?
+folder each; python3 -B -c 'import sys; sys.path.insert(0, sys.argv[1]); import make_blocks as files; files.write("each/before.pic", files.blocks(4, bytes(8292)))' "$here/tests"
+call "$staran" why each; [ $status -eq 1 ] && [ "$(head -n 1 "$work/out")" = 'p 22 0 0 0 0 0' ] && grep -qx '  kind         4  it must be 1, picture   <-- here' "$work/out"; judge "why: a kind 4 file as before.pic" $?
 # with 12 and 13 no byte is wrong, and none is marked
 folder each 0404000000000000; call "$staran" why each
-[ $status -eq 1 ] && [ "$(head -n 1 "$work/out")" = 'r 12 0 0 0 0 0' ] && ! grep -q 'here$' "$work/out" && grep -qx 'No byte of it is wrong. The list takes 1 items.' "$work/out"; judge "why: 12, and no byte is marked" $?
+[ $status -eq 1 ] && [ "$(head -n 1 "$work/out")" = 'r 12 0 0 0 0 0' ] && ! grep -q 'here$' "$work/out" && grep -qx 'No byte of it is wrong. The list takes 1 item.' "$work/out"; judge "why: 12, and no byte is marked" $?
 folder each "$(yes 0500000000000000 | head -n 257)"; call "$staran" why each
 [ $status -eq 1 ] && [ "$(head -n 1 "$work/out")" = 'r 13 256 0 0 0 0' ] && ! grep -q 'here$' "$work/out" && grep -qx 'No byte of it is wrong. The list gives 257 items.' "$work/out"; judge "why: 13, and no byte is marked" $?
-# what the program said is shown, and nothing judged again: another byte is marked if another is named
+folder each '0404000000000000 0404000000000000'; call "$staran" why each; grep -qx 'No byte of it is wrong. The list takes 2 items.' "$work/out"; judge "why: 12, of two" $?
+folder each; printf x >each/in.itm; call "$staran" why each; grep -qx 'in.itm has 1 byte, which is no multiple of 512.' "$work/out"; judge "why: a file of one byte" $?
+rm each/in.itm; folder each "$(yes 0500000000000000 | head -n 257)"
+# what the program said is shown, and nothing judged again: another byte is marked if another is named; and no instruction where none is spoken of
 call "$here/tools/why.py" each r 9 0 4; [ $status -eq 0 ] && [ "$(grep 'here$' "$work/out")" = '  byte 4  00  address: of no use, for memory is not touched   <-- here' ]; judge "why: the byte that is named" $?
+call "$here/tools/why.py" each r 15 0 0; [ $status -eq 0 ] && [ "$(cat "$work/out")" = 'No instruction is wrong: it is of what the run is lent.' ]; judge "why: 15 is of no instruction" $?
 
 # ---- several folders
 call "$staran" good bad 'two words  and more'
@@ -281,6 +311,28 @@ while IFS=: read -r bytes line <&3; do
 done 3<page/rows
 [ "$(wc -l <page/rows)" -eq 4 ]; judge "four rows" $?
 
+# document 02, Seven: a list that sets its modes once, what it is without the instruction that sets A, what why shows of that, and what each row of the section's table leads to
+once='A mode that is set once'
+worked "$once" once 3
+cp page/once/after.pic page/left
+turned() { "$blocks" --unfit list page/once/run.lst "$1"; call "$staran" page/once; } # BYTES: the section's folder with another list
+turned "$(sed 1d page/bytes)"
+[ $status -eq 1 ] && [ "$(cat out)" = 'r 14 1 2 0 0 0' ] && grep -q "^Leave instruction 0 out and the run is refused, \`$(cat out)\`:" page/section && cmp -s page/once/after.pic page/left; judge "and without instruction 0" $?
+sed -n 's/^    \(Instruction .*\|  byte .*\|Mode register .*\)/\1/p' page/section >page/want
+call sh -c 'cd page && ./staran why once'; [ $status -eq 1 ] && [ "$(wc -l <page/want)" -eq 11 ] && tail -n 11 out | cmp -s - page/want; judge "and what why shows of that" $?
+# shellcheck disable=SC2016
+sed -n 's/^| [^|]*| `\(r [0-9 ]*\)`: .*/\1/p' page/section >page/rows
+row() { [ "$(head -n 1 out)" = "$(sed -n "$1p" page/rows)" ]; judge "and with $2" $?; } # NUMBER NAME
+# shellcheck disable=SC2016
+stored() { sed -n "s/^| $1, \`\(02 04 [0-9A-F ]*\)\` | .*/\1/p" page/section | tr -d ' '; } # WORDS: the store that a row has
+turned "$(sed 1d page/bytes; sed -n 1p page/bytes)"; row 1 "instruction 0 at the end"
+turned "$(sed '1s/^060002/060003/' page/bytes)"; row 2 "B set and not A"
+turned "$(sed "3s/.*/$(stored 'the mode left in the store as well')/" page/bytes)"; row 3 "a mode beside the register's"
+turned "$(sed "3s/.*/$(stored 'the store with tag 1')/" page/bytes)"; row 4 "a mode of its own"
+cmp -s page/once/after.pic page/left; judge "which leaves the same picture" $?
+cp page/left page/once/before.pic; turned "$(sed 1,2d page/bytes)"; row 5 "neither set, on the picture that a run left"
+[ "$(wc -l <page/rows)" -eq 5 ]; judge "five rows" $?
+
 # ---- make_blocks.py
 mkdir made
 call "$blocks" picture made/p; [ $status -eq 0 ] && cp made/p made/q; judge "a picture is made" $?
@@ -292,11 +344,13 @@ complains "odd hex digits" 1 'no whole bytes' "$blocks" list made/l 000
 complains "no hex digits" 1 "'x' is no hex digit" "$blocks" list made/l 0x00
 complains "half an instruction" 1 'whole instructions of 8 bytes' "$blocks" list made/l 00020000
 complains "an instruction that is refused" 1 'would be refused with 7 at byte 2' "$blocks" list made/l 02030000FF000000
+complains "an instruction under a register that none sets before it" 1 'instruction 0, 02 03 02 00 09 00 00 00, would be refused with 14 at byte 2' "$blocks" list made/l 0203020009000000 060002FF00000000
 complains "half an item" 1 'whole items of 32 bytes' "$blocks" items made/i 00
 complains "too many instructions" 1 'at most 992 instructions' "$blocks" list made/l "$(yes 0002000000000000 | head -n 993)"
 complains "a damaged picture has no table" 1 'block 1 is refused with 21' "$blocks" heights damaged
 complains "no folder has no table" 1 'No such file' "$blocks" heights nowhere
 [ ! -e made/l ] && [ ! -e made/i ]; judge "and nothing was written" $?
+call "$blocks" list made/l 060002FF00000000 0203020009000000; [ $status -eq 0 ] && [ "$(wc -c <made/l)" -eq 512 ]; judge "and one under a register that is set is" $?
 call python3 -B -c 'import sys; sys.path.insert(0, sys.argv[1]); import make_blocks; print(len(make_blocks.blocks(2, b"")))' "$here/tests"
 [ $status -eq 0 ] && [ "$(cat "$work/out")" = 512 ]; judge "it can be imported" $?
 folder signed 02040100FF000000

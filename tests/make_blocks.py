@@ -1,7 +1,7 @@
 #!/usr/bin/env python3
 """Makes and reads the files of a folder that ./staran runs in. Written from document 01, "Blocks on disk", "Instructions" and "Sum and
-difference lists", from document 02, Six, and from the bytes in docs/LISTS.md, and from nothing of the crates, so that it can serve as an
-outside answer.
+difference lists", from document 02, Six and Seven, and from the bytes in docs/LISTS.md, and from nothing of the crates, so that it can serve
+as an outside answer.
 
     make_blocks.py list FILE HEX..       a list: HEX is any number of hex digits and blanks, in one word or several
     make_blocks.py items FILE HEX..      items, likewise
@@ -20,6 +20,8 @@ import sys
 
 PICTURE, LIST, ITEMS = 1, 2, 3
 NAMES = {PICTURE: 'picture', LIST: 'list', ITEMS: 'items'}
+SET_MODE = 6
+MODE_REGISTERS = {2: 'A', 3: 'B'}  # by the tag that names each
 
 
 class Refused(Exception):
@@ -99,19 +101,22 @@ def touches(i):
     return i[0] in (2, 3) or (i[0] in (0, 1, 4) and i[1] == 0)
 
 
-def instruction_fault(i):
-    """The number that an instruction is refused with, and the first byte that is wrong by it; or 0 and 0."""
+def instruction_fault(i, is_set=()):
+    """The number that an instruction is refused with, and the first byte that is wrong by it; or 0 and 0. `is_set` has the tags of the mode
+    registers that are set before it."""
     p, m = divmod(i[6], 16)
+    sets, by_register = i[0] == SET_MODE, touches(i) and i[2] in MODE_REGISTERS
     rows = [
-        (5, 0, i[0] > 5),
-        (6, 1, i[1] > 4 or (i[0] in (2, 3) and i[1] == 0) or (i[0] == 5 and i[1] != 0)),
-        (7, 2, touches(i) and i[2] == 0),
-        (8, 2, touches(i) and i[2] > 1),
-        (9, 2, not touches(i) and i[2] != 0),
-        (9, 3, not touches(i) and i[3] != 0),
+        (5, 0, i[0] > 6),
+        (6, 1, i[1] > 4 or (i[0] in (2, 3) and i[1] == 0) or (i[0] in (5, 6) and i[1] != 0)),
+        (7, 2, (touches(i) or sets) and i[2] == 0),
+        (8, 2, ((touches(i) or sets) and i[2] > 3) or (sets and i[2] == 1)),
+        (9, 2, not touches(i) and not sets and i[2] != 0),
+        (9, 3, (by_register or not (touches(i) or sets)) and i[3] != 0),
         (9, 4, not touches(i) and i[4] != 0),
-        (18, 5, i[0] == 5 and i[5] != 0),
-        (18, 6, i[0] in (2, 3, 5) and i[6] != 0),
+        (14, 2, by_register and i[2] not in is_set),
+        (18, 5, i[0] in (5, 6) and i[5] != 0),
+        (18, 6, i[0] in (2, 3, 5, 6) and i[6] != 0),
         (16, 6, p > 8),
         (17, 6, i[6] != 0 and m >= p),
         (11, 7, i[7] // 16 > 4 if i[0] == 0 else i[7] != 0),
@@ -120,16 +125,18 @@ def instruction_fault(i):
 
 
 def list_fault(data):
-    """Why the program would refuse a run of this list, whatever its items are, or nothing."""
-    given = 0
-    for at in range(0, len(data), 8):
-        i = data[at:at + 8]
-        fault, byte = instruction_fault(i)
+    """Why the program, which starts with no mode register set, would refuse a run of this list, whatever its items are, or nothing."""
+    given, is_set = 0, set()
+    for place in range(len(data) // 8):
+        i = data[8 * place:8 * place + 8]
+        fault, byte = instruction_fault(i, is_set)
         if fault:
-            return 'instruction %d, %s, would be refused with %d at byte %d: ./staran numbers %d' % (at // 8, i.hex(' '), fault, byte, fault)
+            return 'instruction %d, %s, would be refused with %d at byte %d: ./staran numbers %d' % (place, i.hex(' '), fault, byte, fault)
+        if i[0] == SET_MODE:
+            is_set.add(i[2])
         given += i[0] in (4, 5)
         if given > 256:
-            return 'instruction %d would be refused with 13: the program has room for 256 items' % (at // 8)
+            return 'instruction %d would be refused with 13: the program has room for 256 items' % place
     return ''
 
 

@@ -1,7 +1,7 @@
 #!/bin/bash
-# The program on folders of every kind, from outside: absent, empty, too long, damaged and unreadable files; which byte of an instruction is wrong; what
-# happens to an old after.pic; what is left behind; the command's exit status; two runs in one folder. Prints a line for each case, and at last 'N passed, 0 failed'. Run it from
-# anywhere; it builds the program if the sources have changed.
+# The program on folders of every kind, from outside: absent, empty, too long, damaged and unreadable files; which byte of an instruction is wrong; the
+# mode registers; what happens to an old after.pic; what is left behind; the command's exit status; two runs in one folder. Prints a line for each
+# case, and at last 'N passed, 0 failed'. Run it from anywhere; it builds the program if the sources have changed.
 #   tests/program_cases.sh
 set -u
 here=$(cd "$(dirname "$0")/.." && pwd -P)
@@ -82,7 +82,7 @@ fresh; change run.lst 20 '\377'; : >in.itm; says "two bad files: the list is nam
 fresh; blocks list run.lst FF00000000000000; : >in.itm; says "bad items hide a bad instruction" "i 20 0 0 0 0 0\n"
 
 # ---- runs that are refused
-fresh; blocks list run.lst 000200000000001F FF00000000000000; old; says "a kind over 5" "r 5 1 0 0 0 0\n"; kept "a refused run keeps an old after.pic"
+fresh; blocks list run.lst 000200000000001F FF00000000000000; old; says "a kind over 6" "r 5 1 0 0 0 0\n"; kept "a refused run keeps an old after.pic"
 fresh; blocks list run.lst 02030000FF000000; says "a store without a mode" "r 7 0 2 0 0 0\n"; none "a refused run makes no after.pic"
 fresh; blocks list run.lst 0404000000000000; says "items too few" "r 12 0 0 0 0 0\n"
 fresh; blocks list run.lst "$(times 257 0500000000000000)"; says "the out buffer too short for 257" "r 13 256 0 0 0 0\n"
@@ -95,16 +95,33 @@ fresh; blocks list run.lst 000400000000001A 0500000000000000; blocks items in.it
 while read -r number byte instruction name <&3; do
     fresh; blocks list run.lst "$(times 57 000200000000000A)" "$instruction"; says "$number at byte $byte: $name" "r $number 57 $byte 0 0 0\n"
 done 3<<'CASES'
-5 0 0600000000000000 a kind over 5
+5 0 0700000000000000 a kind over 6
 6 1 0005000000000000 a source over 4
 6 1 0200010000000000 a store from memory
 6 1 0501000000000000 a resolve with a source
+6 1 060201FF04018801 kind 6 with a source, and with every other byte wrong: 6 comes first
 7 2 0000000009000000 no tag where memory is touched
-8 2 0000020009000000 a tag over 1
+7 2 060000FF00000000 kind 6 without a tag
+8 2 0000040009000000 a tag over 3
+8 2 060001FF00000000 kind 6 with tag 1, which names no register
+8 2 060004FF00000000 kind 6 with a tag over 3
 9 2 0403010000000000 a tag where memory is not touched
+9 2 0403020000000000 the tag of a register where memory is not touched: 9, and not 14
+9 2 0500030000000000 the tag of a register on a resolve
 9 3 040300FF0D000000 a mode and an address there: the mode is the first
+9 3 040002FF0D000000 a mode beside the tag of a register that is not set: 9 comes before 14
 9 4 040300000D000000 an address alone
 9 4 0500000009018800 a resolve with an address, a flip and a shift: 9 comes before 18
+9 4 060002FF0D018801 kind 6 with an address, and with a flip, a shift and a byte 7
+14 2 0203020009000000 a store under register A, which is not set
+14 2 0303030009000000 a masked store under register B, which is not set
+14 2 0000020009009050 logic under register A, with a group of 512 lines and a choice over 4: 14 comes before 16 and 11
+14 2 0203030009001000 a store under register B, with a shift: 14 comes before 18
+14 2 040002000D000000 a deliver under register A
+14 2 0100030009008800 set M under register B, with m equal to p: 14 comes before 17
+18 5 060002FF00018801 kind 6 with a flip, a shift and a byte 7: the flip is the first
+18 6 060003FF00001000 kind 6 with a shift
+18 6 060003FF00009001 kind 6 with a group of 512 lines and a byte 7: 18 comes before 16 and 11
 18 6 0203010009001000 a store with a shift
 18 6 0303010009001000 a masked store with a shift
 18 6 0203010009FF9000 a store with a group of 512 lines: 18 comes before 16, and a store may flip
@@ -123,11 +140,12 @@ done 3<<'CASES'
 17 6 0404000000002200 no item is there either: 17 comes before 12
 11 7 0002000000000050 a choice over 4
 11 7 0403000000000001 a byte 7 where there is no logic
+11 7 060002FF00000001 a byte 7 in kind 6
 12 0 0404000000000000 no item is there: no byte is wrong
 CASES
 
-# Every value of byte 6 in logic, store and resolve, and in each kind one byte or two of other values: a folder each, named by its instruction, with one
-# item; tests/make_blocks.py says the number and the byte.
+# Every value of byte 6 in logic, store, resolve and kind 6, and in each kind one byte or two of other values: a folder each, named by its instruction,
+# which stands behind one that sets mode register A, with one item; tests/make_blocks.py says the number and the byte.
 mkdir "$work/each"
 python3 -B - "$here/tests" "$work/each" >"$work/want" <<'PYTHON'
 import itertools
@@ -136,8 +154,8 @@ import sys
 sys.path.insert(0, sys.argv[1])
 import make_blocks as files
 room = sys.argv[2]
-right = [bytes.fromhex(text) for text in ('000300000000001A', '0203010009FF0000', '0500000000000000', '000001000900001A', '0102000000000000',
-                                          '0303010009000000', '040001FF0D000000', '0403000000000000')]
+right = [bytes.fromhex(text) for text in ('000300000000001A', '0203010009FF0000', '0500000000000000', '0600032A00000000', '000001000900001A',
+                                          '0102000000000000', '0303010009000000', '040001FF0D000000', '0403000000000000', '0203020009000000')]
 
 
 def changed(i, *bytes_):
@@ -147,9 +165,10 @@ def changed(i, *bytes_):
     return bytes(i)
 
 
-cases = {changed(i, (6, value)) for i in right[:3] for value in range(256)}
-cases |= {changed(i, (k, value)) for i in right for k in range(8) for value in (0, 1, 2, 3, 4, 5, 6, 16, 80, 136, 144, 255)}
+cases = {changed(i, (6, value)) for i in right[:4] for value in range(256)}
+cases |= {changed(i, (k, value)) for i in right for k in range(8) for value in (0, 1, 2, 3, 4, 5, 6, 7, 16, 80, 136, 144, 255)}
 cases |= {changed(i, (a, x), (b, y)) for i in right for a, b in itertools.combinations(range(8), 2) for x in (1, 144) for y in (1, 144)}
+cases |= {changed(i, (2, tag), (b, y)) for i in right for tag in (2, 3) for b in range(8) if b != 2 for y in (1, 144)}
 files.write(os.path.join(room, '.picture'), files.picture([bytes(32)] * 256))
 files.write(os.path.join(room, '.items'), files.blocks(files.ITEMS, bytes(32)))
 for i in sorted(cases):
@@ -157,12 +176,47 @@ for i in sorted(cases):
     os.mkdir(folder)
     os.symlink('../.picture', os.path.join(folder, 'before.pic'))
     os.symlink('../.items', os.path.join(folder, 'in.itm'))
-    files.write(os.path.join(folder, 'run.lst'), files.blocks(files.LIST, i))
-    print('%s: %d 0 %d' % (i.hex(), *files.instruction_fault(i)))
+    files.write(os.path.join(folder, 'run.lst'), files.blocks(files.LIST, bytes([6, 0, 2, 255, 0, 0, 0, 0]) + i))
+    number, byte = files.instruction_fault(i, {2})
+    print('%s: %d %d %d' % (i.hex(), number, number != 0, byte))
 PYTHON
 (cd "$work/each" && "$here/staran" ./*) 2>"$work/err" | awk '/:$/ { name = substr($0, 3) } /^r / { print name, $2, $3, $4 }' >"$work/got"
 count=$(wc -l <"$work/want") numbers=$(cut -d ' ' -f 2 "$work/want" | sort -nu | paste -s -d ' ')
-diff "$work/want" "$work/got" >"$work/out" && [ "$numbers" = '0 5 6 7 8 9 11 16 17 18' ]; judge "number, place and byte of $count instructions" $?
+diff "$work/want" "$work/got" >"$work/out" && [ "$numbers" = '0 5 6 7 8 9 11 14 16 17 18' ]; judge "number, place and byte of $count instructions" $?
+
+# ---- the mode registers (document 02, Seven): the program starts with neither set, and a picture has none
+# after.pic is a kind 1 picture of 17 blocks, and its words and the 96 bytes of M, X and Y are what the Python says, with `files` for tests/make_blocks.py
+# and `item` for in.itm's.
+leaves() { # NAME PYTHON
+    python3 -B - "$here/tests" "$work/f" >"$work/out" 2>"$work/err" <<PYTHON
+import sys
+sys.path.insert(0, sys.argv[1])
+import make_blocks as files
+item, words, registers = bytes(range(1, 33)), [bytes(32)] * 256, bytearray(96)
+$2
+data = open(sys.argv[2] + '/after.pic', 'rb').read()
+sys.exit(len(data) != 8704 or data != files.picture(words, bytes(registers)))
+PYTHON
+    judge "$1" $?
+}
+filled=0102030405060708090a0b0c0d0e0f101112131415161718191a1b1c1d1e1f20
+fresh; blocks list run.lst 060002FF00000000 020402000D000000; blocks items in.itm $filled; says "register A is set to 255, and a store takes its mode" "r 0 0 0 2 1 0\n"
+leaves "word 13 alone is written, and after.pic is as before the mode registers: kind 1, 8,704 bytes, M, X and Y" 'words[13] = item'
+cp after.pic before.pic; blocks list run.lst 020402000D000000; old; says "the next run starts with neither set" "r 14 0 2 0 0 0\n"; kept "and keeps an old after.pic"
+fresh; blocks list run.lst 020402000D000000; blocks items in.itm $filled; says "the same store without kind 6" "r 14 0 2 0 0 0\n"; none "and no after.pic"
+fresh; blocks list run.lst 020402000D000000 060002FF00000000; blocks items in.itm $filled; says "kind 6 only after the store" "r 14 0 2 0 0 0\n"
+fresh; blocks list run.lst 060003FF00000000 020402000D000000; blocks items in.itm $filled; says "kind 6 of the other register" "r 14 1 2 0 0 0\n"
+fresh; blocks list run.lst 060002FF00000000 020403000D000000; blocks items in.itm $filled; says "and the other way round" "r 14 1 2 0 0 0\n"
+fresh; blocks list run.lst 0600020000000000 000200000000001F 020302000D000000; says "register A is set to 0: set all the same, and a slice is stored" "r 0 0 0 3 0 0\n"
+leaves "bit 13 of every word is written, and Y is in the picture" 'words = [bytes([0, 32] + [0] * 30)] * 256; registers[64:] = b"\xff" * 32'
+fresh; blocks list run.lst 0600020000000000 060003FF00000000 000200000000001F 0203020028000000 020403000D000000 040003000D000000; blocks items in.itm $filled
+says "A is a slice and B a word, in one list" "r 0 0 0 6 1 1\n$filled\n"
+leaves "each store is under its own" 'words = [bytes([0] * 5 + [1] + [0] * 26)] * 256; words[13] = item; registers[64:] = b"\xff" * 32'
+fresh; blocks list run.lst 0600020000000000 060002FF00000000 020402000D000000; blocks items in.itm $filled; says "register A is set twice" "r 0 0 0 3 1 0\n"; leaves "the last before the store counts" 'words[13] = item'
+fresh; blocks list run.lst 060002FF00000000 0600030700000000; old; says "a list that only sets both: two steps, nothing taken or given" "r 0 0 0 2 0 0\n"; same "and leaves the picture as it was"
+fresh; blocks list run.lst 060002FF00000000 020402000D000000 02030000FF000000; blocks items in.itm $filled; old; says "a list that is refused further on" "r 7 2 2 0 0 0\n"; kept "has set and stored nothing"
+fresh; python3 -B -c 'import sys; sys.path.insert(0, sys.argv[1]); import make_blocks as files; files.write("before.pic", files.blocks(4, bytes(8292)))' "$here/tests"; old
+says "a kind 4 file as before.pic" "p 22 0 0 0 0 0\n"; kept "and keeps an old after.pic"
 
 # ---- what cannot be opened or read
 for name in before.pic:p run.lst:l in.itm:i; do

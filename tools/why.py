@@ -1,6 +1,6 @@
 #!/usr/bin/env python3
-"""Shows what a refusal of a folder points at: the instruction byte by byte, with a mark at the byte that the program named, or the head of the block.
-./staran why calls it, with the first words of the program's line.
+"""Shows what a refusal of a folder points at: the instruction byte by byte, with a mark at the byte that the program named, and the mode registers
+that are set before it where it names one; or the head of the block. ./staran why calls it, with the first words of the program's line.
 
     tools/why.py FOLDER LETTER NUMBER PLACE BYTE
 """
@@ -11,7 +11,7 @@ HERE = os.path.dirname(os.path.dirname(os.path.realpath(__file__)))
 sys.path.insert(0, os.path.join(HERE, 'tests'))
 import make_blocks as files  # noqa: E402
 
-KINDS = ['logic', 'set M', 'store', 'masked store', 'deliver', 'resolve']
+KINDS = ['logic', 'set M', 'store', 'masked store', 'deliver', 'resolve', 'set a mode register']
 SOURCES = ['memory', 'M', 'X', 'Y', 'outside, the next item of in.itm']
 CHOICES = ['X', 'Y', 'both X and Y', 'X where Y is 1', 'X where the old Y is 1, and Y everywhere']
 
@@ -20,14 +20,30 @@ def named(names, number):
     return names[number] if number < len(names) else 'there is no such one'
 
 
-def mode(i):
-    return {0: 'a slice, one bit of every word', 255: 'one word'}.get(i[3], 'a shape between slice and word')
+def counted(number, what):
+    """So many of something: 1 item, 2 items."""
+    return '%d %s%s' % (number, what, '' if number == 1 else 's')
+
+
+def such(i):
+    """An instruction of this kind, in a sentence."""
+    return 'kind 6' if i[0] == files.SET_MODE else 'a ' + KINDS[i[0]]
+
+
+def source(i):
+    if i[0] in (5, 6):
+        return 'none' if i[1] == 0 else '%s; %s has none: it must be 0' % (named(SOURCES, i[1]), such(i))
+    return named(SOURCES, i[1]) + ('; %s takes none from there: it must be 1 to 4' % such(i) if i[0] in (2, 3) and i[1] == 0 else '')
+
+
+def mode(number):
+    return {0: 'a slice, one bit of every word', 255: 'one word'}.get(number, 'a shape between slice and word')
 
 
 def flip(i):
     if i[5] == 0:
         return 'none'
-    return 'line I goes to I xor %d' % i[5] + ('; a resolve may not flip: it must be 0' if i[0] == 5 else '')
+    return 'line I goes to I xor %d' % i[5] + ('; %s may not flip: it must be 0' % such(i) if i[0] in (5, 6) else '')
 
 
 def shift(i):
@@ -35,8 +51,8 @@ def shift(i):
     p, m = divmod(i[6], 16)
     if i[6] == 0:
         return 'none'
-    if i[0] in (2, 3, 5):
-        rule = 'a %s may not shift: it must be 0' % KINDS[i[0]]
+    if i[0] in (2, 3, 5, 6):
+        rule = '%s may not shift: it must be 0' % such(i)
     elif p > 8:
         rule = 'p is over 8, and a group has at most 256 lines'
     elif m >= p:
@@ -59,22 +75,41 @@ def logic(i):
         i[7] // 16, named(CHOICES, i[7] // 16), i[7] % 16, ', '.join(becomes))
 
 
-def access(i):
-    """What tag, mode and address say."""
+def setting(i):
+    """What tag, mode and address say where a mode register is set."""
+    if i[2] in files.MODE_REGISTERS:
+        tag, shape = 'register %s' % files.MODE_REGISTERS[i[2]], mode(i[3])
+    else:
+        names = {0: 'no register is named', 1: 'it names no register'}
+        tag, shape = names.get(i[2], 'there is no such tag') + '; kind 6 needs 2, for A, or 3, for B', 'not looked at without a register'
+    return [tag, shape, idle(i[4], ' in this kind')]
+
+
+def access(i, modes):
+    """What tag, mode and address say; `modes` has, by its tag, the mode of each register that is set before the instruction."""
+    if i[0] == files.SET_MODE:
+        return setting(i)
     if not files.touches(i):
         return [idle(value, ', for memory is not touched') for value in i[2:5]]
+    if i[2] in files.MODE_REGISTERS:
+        name = 'register %s' % files.MODE_REGISTERS[i[2]]
+        if i[2] in modes:
+            tag, shape = 'the mode of %s, which is set' % name, 'that of %s, %d: %s' % (name, modes[i[2]], mode(modes[i[2]]))
+        else:
+            tag, shape = 'the mode of %s, which is not set' % name, 'that of %s: nobody gave one' % name
+        return [tag, shape if i[3] == 0 else idle(i[3], ', for it is that of %s' % name), '%d' % i[4]]
     if i[2] != 1:
         tag = 'no mode is given' if i[2] == 0 else 'there is no such tag'
         return [tag + '; this instruction touches memory and needs one'] + 2 * ['not looked at without the tag']
-    return ['a mode is given', mode(i), '%d' % i[4]]
+    return ['a mode is given', mode(i[3]), '%d' % i[4]]
 
 
-def meanings(i):
+def meanings(i, modes):
     """What each byte of an instruction says."""
-    tag, shape, address = access(i)
+    tag, shape, address = access(i, modes)
     return [
         'kind: ' + named(KINDS, i[0]),
-        'source: ' + named(SOURCES, i[1]),
+        'source: ' + source(i),
         'mode tag: ' + tag,
         'mode: ' + shape,
         'address: ' + address,
@@ -84,17 +119,32 @@ def meanings(i):
     ]
 
 
+def show_modes(steps, place):
+    """Which instructions set the mode registers, before the one at the place and after it."""
+    for tag, name in files.MODE_REGISTERS.items():
+        setters = [k for k, i in enumerate(steps) if i[0] == files.SET_MODE and i[2] == tag]
+        before, after = [k for k in setters if k < place], [k for k in setters if k > place]
+        if before:
+            print('Mode register %s is set before it, to %d by instruction %d.' % (name, steps[before[-1]][3], before[-1]))
+        else:
+            print('Mode register %s is not set before it%s.' % (name, '; instruction %d sets it, and comes after' % after[0] if after else ''))
+
+
 def show_instruction(path, number, place, byte):
     with open(path, 'rb') as file:
-        steps = files.content(files.LIST, file.read(), 'run.lst')
-    i = steps[8 * place:8 * place + 8]
-    lacks = {12: 'The list takes %d items.' % sum(steps[at + 1] == 4 for at in range(0, len(steps), 8)),
-             13: 'The list gives %d items.' % sum(steps[at] in (4, 5) for at in range(0, len(steps), 8))}
+        data = files.content(files.LIST, file.read(), 'run.lst')
+    steps = [data[at:at + 8] for at in range(0, len(data), 8)]
+    i = steps[place]
+    modes = {j[2]: j[3] for j in steps[:place] if j[0] == files.SET_MODE}
+    lacks = {12: 'The list takes %s.' % counted(sum(j[1] == 4 for j in steps), 'item'),
+             13: 'The list gives %s.' % counted(sum(j[0] in (4, 5) for j in steps), 'item')}
     print('Instruction %d, counted from 0, at byte %d of the list: %s' % (place, 8 * place, i.hex(' ')))
-    for k, text in enumerate(meanings(i)):
+    for k, text in enumerate(meanings(i, modes)):
         print('  byte %d  %02x  %s%s' % (k, i[k], text, '   <-- here' if k == byte and number not in lacks else ''))
     if number in lacks:
         print('No byte of it is wrong. ' + lacks[number])
+    if files.touches(i) and i[2] in files.MODE_REGISTERS:
+        show_modes(steps, place)
 
 
 def show_block(path, kind, place):
@@ -104,7 +154,7 @@ def show_block(path, kind, place):
 
     def pair(at):
         return block[at] + 256 * block[at + 1]
-    print('Block %d, counted from 0, at byte %d of %s, which has %d blocks:' % (place, 512 * place, os.path.basename(path), len(data) // 512))
+    print('Block %d, counted from 0, at byte %d of %s, which has %s:' % (place, 512 * place, os.path.basename(path), counted(len(data) // 512, 'block')))
     right = files.sums(block[:508])
     rows = [('kind', pair(0), kind, 'it must be %d, %s' % (kind, files.NAMES[kind])),
             ('number', pair(2), place, 'it must be %d, its place' % place),
@@ -122,13 +172,15 @@ def main(words):
     folder, letter = words[:2]
     number, place, byte = (int(word) for word in words[2:])
     path = os.path.join(folder, {'p': 'before.pic', 'i': 'in.itm'}.get(letter, 'run.lst'))
-    if letter == 'r':
+    if letter == 'r' and number in (1, 2, 3, 4, 15):
+        print('No instruction is wrong: it is of what the run is lent.')
+    elif letter == 'r':
         show_instruction(path, number, place, byte)
     elif 21 <= number <= 24:
         show_block(path, {'p': files.PICTURE, 'l': files.LIST, 'i': files.ITEMS}[letter], place)
     elif os.path.isfile(path):
-        print('%s has %d bytes, %s.' % (os.path.basename(path), os.path.getsize(path),
-                                        '%d blocks' % (os.path.getsize(path) // 512) if os.path.getsize(path) % 512 == 0 else 'which is no multiple of 512'))
+        size = os.path.getsize(path)
+        print('%s has %s, %s.' % (os.path.basename(path), counted(size, 'byte'), 'which is no multiple of 512' if size % 512 else counted(size // 512, 'block')))
     else:
         print('%s is %s.' % (os.path.basename(path), 'no file' if os.path.lexists(path) else 'not there'))
 

@@ -104,7 +104,7 @@ int main(void)
     }
     wrong += store_stations() != STARAN_DONE;
 
-    /* Y, the last of the registers, has the marks; later runs write over it. */
+    /* Y, the third of the registers, has the marks; later runs write over it. */
     staran_less_list(A, WIDTH, LIMIT, less, sizeof less, less_items, sizeof less_items, built);
     wrong += built[0] != STARAN_DONE || run("stations below 152 m:", less, built[1], less_items, built[2]) != STARAN_DONE;
     memcpy(marks, registers + 64, sizeof marks);

@@ -58,12 +58,13 @@ static void draw_marks(int which)
             mark(marks, w);
 }
 
-/* Lends the words, and any registers. */
+/* Lends the words, and any registers: the mode registers are set or not. */
 static void lend_words(int end)
 {
     uint8_t memory[STARAN_MEMORY_BYTES], registers[STARAN_REGISTERS_BYTES];
     model_memory(words, memory);
     draw_bytes(registers, sizeof registers);
+    memcpy(registers + 96, draw_modes(), 4);
     lend_bytes(MEMORY, memory, sizeof memory, end);
     lend_bytes(REGISTERS, registers, sizeof registers, end);
 }
@@ -97,7 +98,7 @@ static void move(int spreads, uint32_t a, uint32_t s, uint32_t n, int end)
     model_memory(words, buffers[MEMORY].expected);
     answer = lend_answer(STARAN_RUN_NUMBERS, end);
     staran_run_4(WHOLE(MEMORY), WHOLE(REGISTERS), buffers[LIST].bytes, built[1], WHOLE(ITEMS), WHOLE(OUT), answer);
-    memcpy(buffers[REGISTERS].expected, buffers[REGISTERS].bytes, STARAN_REGISTERS_BYTES); /* M, X and Y are not promised */
+    memcpy(buffers[REGISTERS].expected, buffers[REGISTERS].bytes, 96); /* M, X and Y are not promised, and the mode registers are as they were */
     settle(answer, STARAN_RUN_NUMBERS, done);
 }
 
@@ -118,7 +119,7 @@ static int bit(const uint8_t *from, int w, uint32_t b) { return from[32 * w + (i
 /* Everything but S is overwritten between a closing and a spreading by the same marks: each marked word has its old A again, in the memory itself. */
 static void there_and_back(uint32_t a, uint32_t s, uint32_t n, int end)
 {
-    uint8_t old[STARAN_MEMORY_BYTES], others[STARAN_MEMORY_BYTES], after[STARAN_MEMORY_BYTES + STARAN_REGISTERS_BYTES];
+    uint8_t old[STARAN_MEMORY_BYTES], others[STARAN_MEMORY_BYTES], after[STARAN_MEMORY_BYTES + STARAN_PICTURE_REGISTERS_BYTES];
     int same = 1;
     lend_array(end);
     memcpy(old, words, sizeof old);

@@ -1,4 +1,4 @@
-/* Numbers that are drawn, the same on every run, and the marks of an item. */
+/* Numbers that are drawn, the same on every run, mode registers, and the marks of an item. */
 #ifndef DRAW_H
 #define DRAW_H
 
@@ -10,6 +10,9 @@ uint64_t draw(void);
 
 /* So many bytes. */
 void draw_bytes(uint8_t *bytes, size_t length);
+
+/* Good mode registers, each set or not, until the next are drawn. */
+const uint8_t *draw_modes(void);
 
 /* Is word w marked in an item? And then it is. */
 int marked(const uint8_t *item, int w);

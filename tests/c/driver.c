@@ -2,6 +2,7 @@
  *     driver cases     replays the outside cases on standard input, and writes their answers
  *     driver lengths   calls every function with good and bad lengths, and counts
  *     driver judging   has instructions judged by a run and by a step, and counts
+ *     driver modes     has lists judged and run with mode registers, and counts
  *     driver searches  builds searches over a field, runs them, and counts
  *     driver closing   builds lists that close up a field and spread it back, runs them, and counts
  *     driver unwritten makes calls that leave their buffers on buffers that cannot be written, and counts
@@ -10,6 +11,7 @@
 #include "judging.h"
 #include "lengths.h"
 #include "lent.h"
+#include "modes.h"
 #include "replay.h"
 #include "searches.h"
 #include "unwritten.h"
@@ -27,12 +29,14 @@ int main(int count, char **words)
         return lengths();
     if (count == 2 && strcmp(words[1], "judging") == 0)
         return judging();
+    if (count == 2 && strcmp(words[1], "modes") == 0)
+        return modes();
     if (count == 2 && strcmp(words[1], "searches") == 0)
         return searches();
     if (count == 2 && strcmp(words[1], "closing") == 0)
         return closing();
     if (count == 2 && strcmp(words[1], "unwritten") == 0)
         return unwritten();
-    fputs("usage: driver cases | driver lengths | driver judging | driver searches | driver closing | driver unwritten\n", stderr);
+    fputs("usage: driver cases | driver lengths | driver judging | driver modes | driver searches | driver closing | driver unwritten\n", stderr);
     return 2;
 }

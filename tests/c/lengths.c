@@ -3,6 +3,7 @@
 #include "lengths.h"
 
 #include "checks.h"
+#include "draw.h"
 #include "lent.h"
 #include "model.h"
 #include "staran.h"
@@ -14,7 +15,7 @@
 /* ---- run and step: every instruction delivers an item from outside, so that the lengths alone decide */
 
 static const size_t memories[] = {0, 1, 8191, 8192, 8193, 8224, 65536};
-static const size_t registers_lengths[] = {0, 1, 95, 96, 97, 128, 65536};
+static const size_t registers_lengths[] = {0, 1, 95, 96, 97, 98, 99, 100, 101, 104, 128, 65536};
 static const size_t list_lengths[] = {0, 1, 7, 8, 9, 16, 32760, 32767, 32768, 32769, 32776, 65536};
 static const size_t item_lengths[] = {0, 1, 31, 32, 33, 64, 32767, 32768, 32769, 32800, 65536};
 static const size_t out_lengths[] = {0, 1, 31, 32, 33, 63, 64, 32767, 32768, 65536};
@@ -34,7 +35,7 @@ static void expect_run(int step, uint32_t expected[STARAN_RUN_NUMBERS])
     memset(expected, 0, 4 * STARAN_RUN_NUMBERS);
     if (buffers[MEMORY].length != 8192)
         expected[STARAN_ANSWER_NUMBER] = 1;
-    else if (!step && buffers[REGISTERS].length != 96)
+    else if (!step && buffers[REGISTERS].length != 100)
         expected[STARAN_ANSWER_NUMBER] = 2;
     else if (step ? list != 8 : list % 8 != 0 || list > 32768)
         expected[STARAN_ANSWER_NUMBER] = 3;
@@ -56,7 +57,7 @@ static void run_once(size_t memory, size_t registers, size_t list, size_t items,
     check("run: memory %zu, registers %zu, list %zu, items %zu, out %zu", memory, registers, list, items, out);
     nothing_lent(end);
     lend(MEMORY, memory, end);
-    lend(REGISTERS, registers, end);
+    lend_registers(draw_modes(), registers, end);
     lend(LIST, list, end);
     lend(ITEMS, items, end);
     lend(OUT, out, end);
@@ -73,20 +74,21 @@ static void step_once(size_t memory, size_t instruction, size_t items, size_t ou
     check("step: memory %zu, instruction %zu, items %zu, out %zu", memory, instruction, items, out);
     nothing_lent(end);
     lend(MEMORY, memory, end);
-    lend(REGISTERS, 96, end);
+    lend_registers(draw_modes(), 100, end);
     lend(LIST, instruction, end);
     lend(ITEMS, items, end);
     lend(OUT, out, end);
     fill_with(LIST, deliver_outside);
     expect_run(1, expected);
     answer = lend_answer(STARAN_RUN_NUMBERS, end);
-    staran_step_4(WHOLE(MEMORY), (staran_registers *)(void *)buffers[REGISTERS].bytes, WHOLE(LIST), WHOLE(ITEMS), WHOLE(OUT), answer);
+    staran_step_5(WHOLE(MEMORY), (staran_registers *)(void *)buffers[REGISTERS].bytes, WHOLE(LIST), WHOLE(ITEMS), WHOLE(OUT), answer);
     settle(answer, STARAN_RUN_NUMBERS, expected);
 }
 
-/* Every pair of a bad memory and bad registers; then every list, items and out with good ones, and with one of them bad. */
+/* Every pair of a bad memory and bad registers; then every list, items and out with good ones, and with one of them bad. 96 bytes are what registers had until 4.0. */
 static void run_lengths(void)
 {
+    static const size_t not_100[] = {96, 99, 101};
     for (int end = 0; end < ENDS; end++) {
         for (size_t m = 0; m < COUNT(memories); m++)
             for (size_t r = 0; r < COUNT(registers_lengths); r++)
@@ -95,9 +97,9 @@ static void run_lengths(void)
         for (size_t l = 0; l < COUNT(list_lengths); l++)
             for (size_t i = 0; i < COUNT(item_lengths); i++)
                 for (size_t o = 0; o < COUNT(out_lengths); o++) {
-                    run_once(8192, 96, list_lengths[l], item_lengths[i], out_lengths[o], end);
-                    run_once(8191, 96, list_lengths[l], item_lengths[i], out_lengths[o], end);
-                    run_once(8192, 97, list_lengths[l], item_lengths[i], out_lengths[o], end);
+                    run_once(8192, 100, list_lengths[l], item_lengths[i], out_lengths[o], end);
+                    run_once(8191, 100, list_lengths[l], item_lengths[i], out_lengths[o], end);
+                    run_once(8192, not_100[(l + i + o) % COUNT(not_100)], list_lengths[l], item_lengths[i], out_lengths[o], end);
                 }
     }
     function("run");
@@ -117,7 +119,7 @@ static void step_lengths(void)
     function("step");
 }
 
-/* The record of a step is M, X, Y in this order: each is delivered, and each is set. */
+/* The record of a step is M, X, Y and the mode registers, in this order: each of the first three is delivered, and each is set, by a step that leaves the others. */
 static void record_order(void)
 {
     for (int i = 0; i < 2 * ENDS * 3; i++) {
@@ -128,7 +130,7 @@ static void record_order(void)
         check("step: register %c is %s", "MXY"[row], set ? "set" : "delivered");
         nothing_lent(end);
         lend(MEMORY, 8192, end);
-        lend(REGISTERS, 96, end);
+        lend_registers(draw_modes(), 100, end);
         lend_bytes(LIST, set ? put[row] : deliver, 8, end);
         lend(ITEMS, 32, end);
         lend(OUT, 40, end);
@@ -137,10 +139,13 @@ static void record_order(void)
         else
             memcpy(buffers[OUT].expected, buffers[REGISTERS].bytes + 32 * row, 32);
         staran_registers *record = (staran_registers *)(void *)buffers[REGISTERS].bytes;
-        if ((uint8_t *)record->m != buffers[REGISTERS].bytes || record->x != record->m + 32 || record->y != record->m + 64 || sizeof *record != 96)
-            wrong("the record is not 96 bytes, M, X, Y");
+        const uint8_t *bytes = buffers[REGISTERS].bytes;
+        if (record->m != bytes || record->x != bytes + 32 || record->y != bytes + 64 || sizeof *record != 100)
+            wrong("the record is not 100 bytes, M, X, Y first");
+        if (&record->a_set != bytes + 96 || &record->a_mode != bytes + 97 || &record->b_set != bytes + 98 || &record->b_mode != bytes + 99)
+            wrong("the record's last four bytes are not A and B, flag and mode");
         uint32_t *answer = lend_answer(STARAN_RUN_NUMBERS, end);
-        staran_step_4(WHOLE(MEMORY), record, WHOLE(LIST), WHOLE(ITEMS), WHOLE(OUT), answer);
+        staran_step_5(WHOLE(MEMORY), record, WHOLE(LIST), WHOLE(ITEMS), WHOLE(OUT), answer);
         settle(answer, STARAN_RUN_NUMBERS, expected);
     }
     function("step, record");
@@ -564,17 +569,18 @@ static void refused_long(uint8_t *far, size_t long_by)
 {
     nothing_lent(LAST);
     lend(MEMORY, 8192, LAST);
-    lend(REGISTERS, 96, LAST);
+    lend_registers(draw_modes(), 100, LAST);
     lend(OUT, 32, LAST);
     staran_registers *record = (staran_registers *)(void *)buffers[REGISTERS].bytes;
     LONG_CALL(run_4(far, long_by + 8192, WHOLE(REGISTERS), WHOLE(LIST), WHOLE(ITEMS), WHOLE(OUT), answer), STARAN_RUN_NUMBERS, 1);
-    LONG_CALL(run_4(WHOLE(MEMORY), far, long_by + 96, WHOLE(LIST), WHOLE(ITEMS), WHOLE(OUT), answer), STARAN_RUN_NUMBERS, 2);
+    LONG_CALL(run_4(WHOLE(MEMORY), far, long_by + 100, WHOLE(LIST), WHOLE(ITEMS), WHOLE(OUT), answer), STARAN_RUN_NUMBERS, 2);
     LONG_CALL(run_4(WHOLE(MEMORY), WHOLE(REGISTERS), far, long_by + 8, WHOLE(ITEMS), WHOLE(OUT), answer), STARAN_RUN_NUMBERS, 3);
     LONG_CALL(run_4(WHOLE(MEMORY), WHOLE(REGISTERS), WHOLE(LIST), far, long_by + 32, WHOLE(OUT), answer), STARAN_RUN_NUMBERS, 4);
-    LONG_CALL(step_4(far, long_by + 8192, record, WHOLE(LIST), WHOLE(ITEMS), WHOLE(OUT), answer), STARAN_RUN_NUMBERS, 1);
-    LONG_CALL(step_4(WHOLE(MEMORY), record, far, long_by + 8, WHOLE(ITEMS), WHOLE(OUT), answer), STARAN_RUN_NUMBERS, 3);
+    LONG_CALL(step_5(far, long_by + 8192, record, WHOLE(LIST), WHOLE(ITEMS), WHOLE(OUT), answer), STARAN_RUN_NUMBERS, 1);
+    LONG_CALL(step_5(WHOLE(MEMORY), record, far, long_by + 8, WHOLE(ITEMS), WHOLE(OUT), answer), STARAN_RUN_NUMBERS, 3);
     lend_bytes(LIST, deliver_outside, 8, LAST);
-    LONG_CALL(step_4(WHOLE(MEMORY), record, WHOLE(LIST), far, long_by + 32, WHOLE(OUT), answer), STARAN_RUN_NUMBERS, 4);
+    LONG_CALL(step_5(WHOLE(MEMORY), record, WHOLE(LIST), far, long_by + 32, WHOLE(OUT), answer), STARAN_RUN_NUMBERS, 4);
+    lend(REGISTERS, 96, LAST);
     LONG_CALL(read_content(STARAN_CONTENT_LIST, far, long_by + 512, WHOLE(OUT), answer), 3, 20);
     LONG_CALL(read_picture(STARAN_CONTENT_PICTURE, far, long_by + 8704, WHOLE(MEMORY), WHOLE(REGISTERS), answer), 3, 20);
     LONG_CALL(write_content(STARAN_CONTENT_LIST, far, long_by + 8, WHOLE(OUT), answer), 3, 26);
@@ -694,12 +700,13 @@ static void done_long(uint8_t *far, size_t long_by)
     model_blocks(STARAN_CONTENT_PICTURE, content, 8288, made);
     LONG_CALL(write_picture(STARAN_CONTENT_PICTURE, WHOLE(MEMORY), WHOLE(REGISTERS), far, long_by, answer), 3, 0, 0, 8704);
     written_long(far, long_by, made, 8704);
+    lend_registers(draw_modes(), 100, LAST);
     lend(ITEMS, 32, LAST);
     lend_bytes(LIST, deliver_outside, 8, LAST);
     LONG_CALL(run_4(WHOLE(MEMORY), WHOLE(REGISTERS), WHOLE(LIST), WHOLE(ITEMS), far, long_by + 31, answer), STARAN_RUN_NUMBERS, 0, 0, 0, 1, 1, 1);
     written_long(far, long_by, buffers[ITEMS].bytes, 32);
     staran_registers *record = (staran_registers *)(void *)buffers[REGISTERS].bytes;
-    LONG_CALL(step_4(WHOLE(MEMORY), record, WHOLE(LIST), WHOLE(ITEMS), far, long_by, answer), STARAN_RUN_NUMBERS, 0, 0, 0, 1, 1, 1);
+    LONG_CALL(step_5(WHOLE(MEMORY), record, WHOLE(LIST), WHOLE(ITEMS), far, long_by, answer), STARAN_RUN_NUMBERS, 0, 0, 0, 1, 1, 1);
     written_long(far, long_by, buffers[ITEMS].bytes, 32);
     model_list(1, 0, 64, 128, 64, made, 2568);
     LONG_CALL(sum_list(0, 64, 128, 64, far, long_by, answer), 2, 0, 2568);

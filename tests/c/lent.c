@@ -87,6 +87,15 @@ void lend(int k, size_t length, int end)
     lend_bytes(k, pool + 1009 * k, length, end);
 }
 
+void lend_registers(const uint8_t modes[4], size_t length, int end)
+{
+    lend(REGISTERS, length, end);
+    if (length < 100)
+        return;
+    memcpy(buffers[REGISTERS].bytes + 96, modes, 4);
+    memcpy(buffers[REGISTERS].expected + 96, modes, 4);
+}
+
 uint32_t *lend_answer(size_t count, int end)
 {
     lent *b = &buffers[ANSWER];

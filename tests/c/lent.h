@@ -37,6 +37,9 @@ void lend(int k, size_t length, int end);
 /* Lends buffer k with these bytes. */
 void lend_bytes(int k, const uint8_t *bytes, size_t length, int end);
 
+/* Lends the registers, filled so, at this length; where it has room for them, with these mode registers, flag and mode of A, then of B. */
+void lend_registers(const uint8_t modes[4], size_t length, int end);
+
 /* Lends an answer of `count` numbers, each poisoned. */
 uint32_t *lend_answer(size_t count, int end);
 

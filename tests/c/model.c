@@ -10,28 +10,32 @@ static void set(uint8_t *bytes, size_t k, int value)
     bytes[k / 8] = (uint8_t)((bytes[k / 8] & ~(1u << k % 8)) | (unsigned)value << k % 8);
 }
 
-/* ---- an instruction by itself, and a pass */
+/* ---- an instruction behind others, and a pass */
 
 static int over_256_lines(uint8_t code) { return 1u << code / 16 > 256; }
 static int not_below(uint8_t code) { return code != 0 && code % 16 >= code / 16; }
 
-/* Is byte b of an instruction wrong by this number? Asked of a number only where nothing is wrong by those before it. */
-static int wrong_by(unsigned number, unsigned b, const uint8_t *i)
+/* Is byte b of an instruction wrong by this number, with these mode registers before it? Asked of a number only where nothing is wrong by those before it. */
+static int wrong_by(unsigned number, unsigned b, const uint8_t modes[4], const uint8_t *i)
 {
-    const int stores = i[0] == 2 || i[0] == 3, resolves = i[0] == 5, touches = stores || (!resolves && i[1] == 0);
+    const int stores = i[0] == 2 || i[0] == 3, resolves = i[0] == 5, sets_mode = i[0] == 6, touches = stores || (!resolves && !sets_mode && i[1] == 0);
     switch (number) {
     case 5:
-        return b == 0 && i[0] > 5;
+        return b == 0 && i[0] > 6;
     case 6:
-        return b == 1 && (resolves ? i[1] != 0 : i[1] > 4 || (stores && i[1] == 0));
+        return b == 1 && (resolves || sets_mode ? i[1] != 0 : i[1] > 4 || (stores && i[1] == 0));
     case 7:
-        return b == 2 && touches && i[2] == 0;
+        return b == 2 && (touches || sets_mode) && i[2] == 0;
     case 8:
-        return b == 2 && touches && i[2] > 1;
+        return b == 2 && ((touches && i[2] > 3) || (sets_mode && (i[2] == 1 || i[2] > 3)));
     case 9:
-        return b >= 2 && b <= 4 && !touches && i[b] != 0;
+        if (sets_mode)
+            return b == 4 && i[4] != 0;
+        return touches ? b == 3 && i[2] != 1 && i[3] != 0 : b >= 2 && b <= 4 && i[b] != 0;
+    case 14:
+        return b == 2 && touches && i[2] >= 2 && modes[2 * (i[2] - 2)] == 0;
     case 18:
-        return (b == 6 ? stores || resolves : b == 5 && resolves) && i[b] != 0;
+        return (b == 6 ? stores || resolves || sets_mode : b == 5 && (resolves || sets_mode)) && i[b] != 0;
     case 16:
         return b == 6 && over_256_lines(i[6]);
     case 17:
@@ -41,12 +45,12 @@ static int wrong_by(unsigned number, unsigned b, const uint8_t *i)
     }
 }
 
-unsigned model_instruction(const uint8_t instruction[8], unsigned *byte)
+unsigned model_instruction(const uint8_t modes[4], const uint8_t instruction[8], unsigned *byte)
 {
-    static const unsigned in_turn[] = {5, 6, 7, 8, 9, 18, 16, 17, 11};
+    static const unsigned in_turn[] = {5, 6, 7, 8, 9, 14, 18, 16, 17, 11};
     for (size_t k = 0; k < sizeof in_turn / sizeof *in_turn; k++)
         for (*byte = 0; *byte < 8; ++*byte)
-            if (wrong_by(in_turn[k], *byte, instruction))
+            if (wrong_by(in_turn[k], *byte, modes, instruction))
                 return in_turn[k];
     *byte = 0;
     return 0;
@@ -373,7 +377,7 @@ void model_picture(const uint8_t *memory, const uint8_t *registers, uint8_t *con
     for (size_t w = 0; w < 256; w++)
         for (size_t b = 0; b < 256; b++)
             set(content, 256 * w + b, bit(memory, cell(w, b)));
-    memcpy(content + 8192, registers, 96);
+    memcpy(content + 8192, registers, 96); /* not the mode registers */
 }
 
 void model_memory(const uint8_t *content, uint8_t *memory)
@@ -381,4 +385,147 @@ void model_memory(const uint8_t *content, uint8_t *memory)
     for (size_t w = 0; w < 256; w++)
         for (size_t b = 0; b < 256; b++)
             set(memory, cell(w, b), bit(content, 256 * w + b));
+}
+
+/* ---- a run: what it is lent is judged, then each instruction; then line by line */
+
+enum { NUMBER, PLACE, BYTE, STEPS, TAKEN, GIVEN, NUMBERS };
+
+static int wrong_modes(const uint8_t modes[4])
+{
+    for (size_t r = 0; r < 4; r += 2)
+        if (modes[r] > 1 || (modes[r] == 0 && modes[r + 1] != 0))
+            return 1;
+    return 0;
+}
+
+/* Kind 6 sets the register of its tag to byte 3. */
+static void set_mode(const uint8_t *i, uint8_t modes[4])
+{
+    if (i[0] == 6) {
+        modes[2 * (i[2] - 2)] = 1;
+        modes[2 * (i[2] - 2) + 1] = i[3];
+    }
+}
+
+static unsigned lent_wrong(int step, const model_lent *l)
+{
+    if (l->memory_length != 8192)
+        return 1;
+    if (!step && l->registers_length != 100)
+        return 2;
+    if (step ? l->list_length != 8 : l->list_length % 8 != 0 || l->list_length > 32768)
+        return 3;
+    if (l->items_length % 32 != 0 || l->items_length > 32768)
+        return 4;
+    return wrong_modes(l->registers + 96) ? 15 : 0;
+}
+
+/* The first instruction of those that `want` an item or room, 32 bytes each, that finds less than that; or how many there are. */
+static size_t lacking(int (*want)(const uint8_t *), const model_lent *l, size_t length)
+{
+    size_t place = 0, used = 0;
+    for (; place < l->list_length / 8; place++) {
+        used += want(l->list + 8 * place) ? 32 : 0;
+        if (used > length)
+            break;
+    }
+    return place;
+}
+
+static int takes(const uint8_t *i) { return i[1] == 4; }
+static int gives(const uint8_t *i) { return i[0] == 4 || i[0] == 5; }
+
+static void judge(int step, const model_lent *l, uint32_t answer[NUMBERS])
+{
+    const size_t count = l->list_length / 8;
+    uint8_t modes[4];
+    unsigned byte = 0;
+    size_t place = 0;
+    memset(answer, 0, 4 * NUMBERS);
+    answer[NUMBER] = lent_wrong(step, l);
+    if (answer[NUMBER] != 0)
+        return;
+    memcpy(modes, l->registers + 96, 4);
+    for (; place < count && answer[NUMBER] == 0; place++) {
+        answer[NUMBER] = model_instruction(modes, l->list + 8 * place, &byte);
+        answer[PLACE] = (uint32_t)place;
+        answer[BYTE] = byte;
+        if (answer[NUMBER] == 0)
+            set_mode(l->list + 8 * place, modes);
+    }
+    if (answer[NUMBER] != 0)
+        return;
+    answer[PLACE] = 0;
+    if (lacking(takes, l, l->items_length) < count)
+        answer[NUMBER] = 12, answer[PLACE] = (uint32_t)lacking(takes, l, l->items_length);
+    else if (lacking(gives, l, l->out_length) < count)
+        answer[NUMBER] = 13, answer[PLACE] = (uint32_t)lacking(gives, l, l->out_length);
+}
+
+/* Where line P points under a mode and an address. */
+static size_t pointed(uint8_t mode, uint8_t address, size_t line)
+{
+    const size_t m = mode, g = address, not_m = 255 - m;
+    return cell((m & g) ^ (not_m & line), (not_m & g) ^ (m & line));
+}
+
+static void logic(uint8_t *registers, const uint8_t item[32], uint8_t byte7)
+{
+    uint8_t *x = registers + 32, *y = registers + 64;
+    const unsigned choice = byte7 / 16;
+    for (size_t line = 0; line < 256; line++) {
+        const int f = bit(item, line), new_x = byte7 >> (2 * bit(x, line) + f) & 1, new_y = byte7 >> (2 * bit(y, line) + f) & 1, old_y = bit(y, line);
+        if (choice == 0 || choice == 2 || (choice >= 3 && old_y))
+            set(x, line, new_x);
+        if (choice == 1 || choice == 2 || choice == 4)
+            set(y, line, new_y);
+    }
+}
+
+static void resolve(const uint8_t *y, uint8_t item[32])
+{
+    unsigned first = 256, all = 0;
+    for (unsigned line = 256; line-- > 0;)
+        if (bit(y, line))
+            first = line, all++;
+    memset(item, 0, 32);
+    item[0] = all > 0;
+    put_two(item + 1, first);
+    put_two(item + 3, all);
+}
+
+/* One instruction that stands. Items and out are those that it takes and gives, if it does. */
+static void act(const uint8_t *i, uint8_t *memory, uint8_t *registers, const uint8_t *items, uint8_t *out)
+{
+    const uint8_t mode = i[2] < 2 ? i[3] : registers[97 + 2 * (i[2] - 2)];
+    uint8_t item[32], passed[32];
+    if (i[0] == 5)
+        resolve(registers + 64, out);
+    set_mode(i, registers + 96);
+    if (i[0] > 4)
+        return;
+    for (size_t line = 0; line < 256; line++)
+        set(item, line, i[1] == 0 ? bit(memory, pointed(mode, i[4], line)) : bit(i[1] == 4 ? items : registers + 32 * (i[1] - 1), line));
+    model_pass(item, i[5], i[6], passed);
+    if (i[0] == 0)
+        logic(registers, passed, i[7]);
+    for (size_t line = 0; line < 256; line++)
+        if (i[0] == 2 || (i[0] == 3 && bit(registers, line)))
+            set(memory, pointed(mode, i[4], line), bit(passed, line));
+    if (i[0] == 1 || i[0] == 4)
+        memcpy(i[0] == 1 ? registers : out, passed, 32);
+}
+
+void model_run(int step, const model_lent *l, uint32_t answer[NUMBERS])
+{
+    judge(step, l, answer);
+    if (answer[NUMBER] != 0)
+        return;
+    for (; answer[STEPS] < l->list_length / 8; answer[STEPS]++) {
+        const uint8_t *i = l->list + 8 * answer[STEPS];
+        act(i, l->memory, l->registers, l->items + 32 * answer[TAKEN], l->out + 32 * answer[GIVEN]);
+        answer[TAKEN] += (uint32_t)takes(i);
+        answer[GIVEN] += (uint32_t)gives(i);
+    }
 }

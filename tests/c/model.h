@@ -5,8 +5,9 @@
 #include <stddef.h>
 #include <stdint.h>
 
-/* The number of an instruction by itself and, in `byte`, the first of its bytes that is wrong by it; 0 and 0 where nothing is wrong. */
-unsigned model_instruction(const uint8_t instruction[8], unsigned *byte);
+/* The number of an instruction, with the mode registers before it, flag and mode of A, then of B; and, in `byte`, the first of its bytes that is wrong by it;
+ * 0 and 0 where nothing is wrong. */
+unsigned model_instruction(const uint8_t modes[4], const uint8_t instruction[8], unsigned *byte);
 
 /* The number of a pass, and the item passed, bit by bit: zeros where the number is not 0. */
 unsigned model_pass(const uint8_t item[32], uint8_t flip, uint8_t code, uint8_t passed[32]);
@@ -44,5 +45,22 @@ int model_fits(size_t kind, size_t size);
 /* A picture's content from memory and registers, and the memory from a content. */
 void model_picture(const uint8_t *memory, const uint8_t *registers, uint8_t *content);
 void model_memory(const uint8_t *content, uint8_t *memory);
+
+/* What a run is lent. */
+typedef struct {
+    uint8_t *memory;
+    size_t memory_length;
+    uint8_t *registers;
+    size_t registers_length;
+    const uint8_t *list;
+    size_t list_length;
+    const uint8_t *items;
+    size_t items_length;
+    uint8_t *out;
+    size_t out_length;
+} model_lent;
+
+/* What a run (`step` 0) or a step (1) answers, and what it leaves in memory, registers and out: bit by bit, of any list. */
+void model_run(int step, const model_lent *lent, uint32_t answer[6]);
 
 #endif

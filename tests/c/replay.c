@@ -64,12 +64,18 @@ static void fill(const outside_case *c, int end)
 static void shape_one(uint8_t *r, int shape)
 {
     uint8_t b[8] = {0};
-    b[0] = shape == 1 ? r[0] % 6 : r[2] < 248 ? r[0] % 4 : 4 + r[0] % 2;
+    b[0] = shape == 3 ? r[0] % 7 : shape == 1 ? r[0] % 6 : r[2] < 248 ? r[0] % 4 : 4 + r[0] % 2;
+    if (b[0] == 6) {
+        b[2] = 2 + r[2] % 2;
+        b[3] = r[3];
+        memcpy(r, b, 8);
+        return;
+    }
     int stores = b[0] == 2 || b[0] == 3, resolves = b[0] == 5;
     b[1] = resolves ? 0 : stores ? 1 + r[1] % 4 : r[1] % 5;
     if (stores || (!resolves && b[1] == 0)) {
-        b[2] = 1;
-        b[3] = r[3];
+        b[2] = shape == 3 ? 1 + r[2] % 3 : 1;
+        b[3] = b[2] == 1 ? r[3] : 0;
         b[4] = r[4];
     }
     b[5] = resolves ? 0 : r[5];
@@ -176,7 +182,7 @@ static unsigned call(const outside_case *c, int end, uint32_t words[WORDS])
         return 1u << MEMORY | 1u << REGISTERS | 1u << OUT;
     case STEP:
         a = lend_answer(STARAN_RUN_NUMBERS, end);
-        staran_step_4(WHOLE(MEMORY), (staran_registers *)(void *)buffers[REGISTERS].bytes, WHOLE(LIST), WHOLE(ITEMS), WHOLE(OUT), a);
+        staran_step_5(WHOLE(MEMORY), (staran_registers *)(void *)buffers[REGISTERS].bytes, WHOLE(LIST), WHOLE(ITEMS), WHOLE(OUT), a);
         memcpy(words, a, 4 * STARAN_RUN_NUMBERS);
         return 1u << MEMORY | 1u << REGISTERS | 1u << OUT;
     case 2:
@@ -283,7 +289,7 @@ static const char *run_case(const outside_case *c, int end, uint32_t words[WORDS
         left_out[LIST] = words[1];
         if (kind >= CLOSING_RUN) {
             left_out[ITEMS] = words[2];
-            left_out[REGISTERS] = words[3] == 0 ? buffers[REGISTERS].length : 0;
+            left_out[REGISTERS] = words[3] == 0 ? 96 : 0; /* M, X and Y */
         }
     } else if (wrong == NULL && kind >= SUM_RUN && kind < EQUAL_RUN) {
         if (words[0] == 0)

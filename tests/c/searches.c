@@ -50,7 +50,7 @@ static void draw_marks(int which)
 }
 enum { MARKS = 4 };
 
-/* Lends memory and registers: the values stand in their field, all other bits of the words, M and X are anything. */
+/* Lends memory and registers: the values stand in their field, all other bits of the words, M and X are anything, and the mode registers are set or not. */
 static void lend_array(uint32_t start, uint32_t n, int end)
 {
     static uint8_t words[STARAN_MEMORY_BYTES], memory[STARAN_MEMORY_BYTES];
@@ -63,7 +63,7 @@ static void lend_array(uint32_t start, uint32_t n, int end)
     model_memory(words, memory);
     nothing_lent(end);
     lend_bytes(MEMORY, memory, sizeof memory, end);
-    lend(REGISTERS, STARAN_REGISTERS_BYTES, end);
+    lend_registers(draw_modes(), STARAN_REGISTERS_BYTES, end);
     memcpy(buffers[REGISTERS].bytes + 64, marks, 32);
     memcpy(buffers[REGISTERS].expected + 64, marks, 32);
     lend(OUT, 40, end);

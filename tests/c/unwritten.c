@@ -12,13 +12,14 @@ static void expect(const uint32_t *answer, size_t n, const uint32_t *expected)
     count();
 }
 
-/* A run and, where it is one instruction, a step of it: refused at this place and byte, or done with no step. */
-static void call(const char *name, const uint8_t *list, size_t length, size_t items, size_t out, uint32_t number, uint32_t place, uint32_t byte)
+/* A run and, where it is one instruction, a step of it, with these mode registers: refused at this place and byte, or done with no step. */
+static void call_with(const uint8_t modes[4], const char *name, const uint8_t *list, size_t length, size_t items, size_t out, uint32_t number, uint32_t place,
+                      uint32_t byte)
 {
-    const uint32_t expected[STARAN_RUN_NUMBERS] = {number, place, byte, 0, 0, 0};
+    const uint32_t expected[STARAN_RUN_NUMBERS] = {[STARAN_ANSWER_NUMBER] = number, [STARAN_ANSWER_PLACE] = place, [STARAN_ANSWER_BYTE] = byte};
     for (int end = 0; end < ENDS; end++) {
         lend(MEMORY, STARAN_MEMORY_BYTES, end);
-        lend(REGISTERS, STARAN_REGISTERS_BYTES, end);
+        lend_registers(modes, STARAN_REGISTERS_BYTES, end);
         lend_bytes(LIST, list, length, end);
         lend(ITEMS, items, end);
         lend(OUT, out, end);
@@ -30,24 +31,31 @@ static void call(const char *name, const uint8_t *list, size_t length, size_t it
         if (length == STARAN_INSTRUCTION_BYTES) {
             check("step that writes nothing: %s", name);
             answer = lend_answer(STARAN_RUN_NUMBERS, end);
-            staran_step_4(WHOLE(MEMORY), (staran_registers *)buffers[REGISTERS].bytes, WHOLE(LIST), WHOLE(ITEMS), WHOLE(OUT), answer);
+            staran_step_5(WHOLE(MEMORY), (staran_registers *)buffers[REGISTERS].bytes, WHOLE(LIST), WHOLE(ITEMS), WHOLE(OUT), answer);
             expect(answer, STARAN_RUN_NUMBERS, expected);
         }
         open_rooms();
     }
 }
 
+/* With neither mode register set. */
+static void call(const char *name, const uint8_t *list, size_t length, size_t items, size_t out, uint32_t number, uint32_t place, uint32_t byte)
+{
+    static const uint8_t unset[4];
+    call_with(unset, name, list, length, items, out, number, place, byte);
+}
+
 static void instructions(void)
 {
-    static const uint8_t kind[] = {6, 0, 0, 0, 0, 0, 0, 0}, source[] = {0, 5, 0, 0, 0, 0, 0, 0}, no_mode[] = {2, 3, 0, 255, 13, 0, 0, 0}, tag[] = {2, 3, 2, 255, 13, 0, 0, 0},
+    static const uint8_t kind[] = {7, 0, 0, 0, 0, 0, 0, 0}, source[] = {0, 5, 0, 0, 0, 0, 0, 0}, no_mode[] = {2, 3, 0, 255, 13, 0, 0, 0}, tag[] = {2, 3, 4, 255, 13, 0, 0, 0},
                          unused[] = {0, 2, 1, 0, 0, 0, 0, 0x46}, barred[] = {2, 3, 1, 255, 13, 0, 16, 0}, wide[] = {0, 2, 0, 0, 0, 0, 144, 0x46}, above[] = {0, 2, 0, 0, 0, 0, 136, 0x46},
                          logic[] = {0, 2, 0, 0, 0, 0, 0, 0x50}, outside[] = {0, 4, 0, 0, 0, 0, 0, 0x46}, resolve[] = {5, 0, 0, 0, 0, 0, 0, 0},
                          done_then_not[] = {2, 3, 1, 255, 13, 0, 0, 0, 2, 3, 0, 255, 13, 0, 0, 0};
     call("no instruction", kind, 0, 0, 32, STARAN_DONE, 0, 0);
-    call("a kind over 5", kind, sizeof kind, 0, 32, STARAN_REFUSED_KIND, 0, 0);
+    call("a kind over 6", kind, sizeof kind, 0, 32, STARAN_REFUSED_KIND, 0, 0);
     call("a source over 4", source, sizeof source, 0, 32, STARAN_REFUSED_SOURCE, 0, 1);
     call("no mode", no_mode, sizeof no_mode, 0, 32, STARAN_REFUSED_NO_MODE, 0, 2);
-    call("a tag over 1", tag, sizeof tag, 0, 32, STARAN_REFUSED_MODE_TAG, 0, 2);
+    call("a tag over 3", tag, sizeof tag, 0, 32, STARAN_REFUSED_MODE_TAG, 0, 2);
     call("a mode that nothing uses", unused, sizeof unused, 0, 32, STARAN_REFUSED_MODE_UNUSED, 0, 2);
     call("a shift of a store", barred, sizeof barred, 0, 32, STARAN_REFUSED_MOVE_BARRED, 0, 6);
     call("a group of 512 lines", wide, sizeof wide, 0, 32, STARAN_REFUSED_GROUP_TOO_WIDE, 0, 6);
@@ -58,6 +66,23 @@ static void instructions(void)
     call("items of 31 bytes", resolve, sizeof resolve, 31, 32, STARAN_REFUSED_ITEMS_LENGTH, 0, 0);
     call("a good instruction before a bad one", done_then_not, sizeof done_then_not, 0, 32, STARAN_REFUSED_NO_MODE, 1, 2);
     call("a list of 7 bytes", kind, 7, 0, 32, STARAN_REFUSED_LIST_LENGTH, 0, 0);
+}
+
+static void mode_registers(void)
+{
+    static const uint8_t a_set[4] = {1, 255, 0, 0}, flag[4] = {2, 0, 0, 0}, mode[4] = {1, 7, 0, 1};
+    static const uint8_t set_a[] = {6, 0, 2, 255, 0, 0, 0, 0}, by_a[] = {2, 3, 2, 0, 13, 0, 0, 0}, by_b[] = {2, 3, 3, 0, 13, 0, 0, 0}, both[] = {2, 3, 2, 255, 13, 0, 0, 0},
+                         address[] = {6, 0, 2, 255, 1, 0, 0, 0}, flip[] = {6, 0, 2, 255, 0, 1, 0, 0}, set_then_not[] = {6, 0, 2, 255, 0, 0, 0, 0, 2, 3, 3, 0, 13, 0, 0, 0};
+    call_with(a_set, "no instruction, and a mode register set", set_a, 0, 0, 32, STARAN_DONE, 0, 0);
+    call_with(flag, "a flag over 1", set_a, sizeof set_a, 0, 32, STARAN_REFUSED_MODE_REGISTERS, 0, 0);
+    call_with(mode, "a mode behind flag 0", set_a, sizeof set_a, 0, 32, STARAN_REFUSED_MODE_REGISTERS, 0, 0);
+    call_with(mode, "a mode behind flag 0, and no instruction", set_a, 0, 0, 32, STARAN_REFUSED_MODE_REGISTERS, 0, 0);
+    call("register A unset", by_a, sizeof by_a, 0, 32, STARAN_REFUSED_MODE_UNSET, 0, 2);
+    call_with(a_set, "register B unset", by_b, sizeof by_b, 0, 32, STARAN_REFUSED_MODE_UNSET, 0, 2);
+    call_with(a_set, "a register, and a mode given", both, sizeof both, 0, 32, STARAN_REFUSED_MODE_UNUSED, 0, 3);
+    call_with(a_set, "kind 6 with an address", address, sizeof address, 0, 32, STARAN_REFUSED_MODE_UNUSED, 0, 4);
+    call_with(a_set, "kind 6 with a flip", flip, sizeof flip, 0, 32, STARAN_REFUSED_MOVE_BARRED, 0, 5);
+    call("a good kind 6 before a bad instruction", set_then_not, sizeof set_then_not, 0, 32, STARAN_REFUSED_MODE_UNSET, 1, 2);
 }
 
 /* A refused builder's counts are 0. S has its start at 2n. */
@@ -134,6 +159,7 @@ static void closings(const char *name, size_t marks, uint32_t a, uint32_t s, uin
 int unwritten(void)
 {
     instructions();
+    mode_registers();
     sums("a width of 0", 0, 0, 0, 0, STARAN_REFUSED_WIDTH);
     sums("a width of 65", 0, 65, 65, 0, STARAN_REFUSED_WIDTH);
     sums("a field beyond the word", 0, 193, 64, 0, STARAN_REFUSED_FIELD_BEYOND);

@@ -3,6 +3,7 @@
  *     library TIMES CALL MARKS                  a closing's or spreading's, with no word marked (none), words 1, 3, 5 and so on (second) or all (all)
  *     library TIMES list INSTRUCTION COUNT      a run of a list that has the instruction, in hex digits, COUNT times
  *     library TIMES none INSTRUCTION COUNT      the same with Y all zeros: no line responds
+ *     library TIMES set INSTRUCTION COUNT       the same with mode register A set to mode 0
  * tests/count-library runs it. */
 #include "staran.h"
 
@@ -42,7 +43,7 @@ static void prepare(void)
         memory[i] = (uint8_t)(i * 167 + i / 256);
     for (size_t i = 0; i < sizeof content; i++)
         content[i] = (uint8_t)(i * 59);
-    memcpy(registers, content, sizeof registers);
+    memcpy(registers, content, STARAN_PICTURE_REGISTERS_BYTES); /* M, X and Y; the mode registers are unset */
     memcpy(item, content + 7, sizeof item);
     staran_sum_list(0, 32, 64, WIDTH, list, sizeof list, answer);
     equal_list();
@@ -54,7 +55,7 @@ static void prepare(void)
         many[i] = list[i % sizeof list];
     many[sizeof many - 1] = 0x50; /* a choice over 4, or byte 7 of a store: 11 in any kind */
     staran_write_content(STARAN_CONTENT_LIST, content, sizeof content, file, sizeof file, answer);
-    staran_write_picture(STARAN_CONTENT_PICTURE, memory, sizeof memory, registers, sizeof registers, picture, sizeof picture, answer);
+    staran_write_picture(STARAN_CONTENT_PICTURE, memory, sizeof memory, registers, STARAN_PICTURE_REGISTERS_BYTES, picture, sizeof picture, answer);
 }
 
 /* The list of `count` times the instruction that 16 hex digits say. */
@@ -126,7 +127,7 @@ static int call(const char *name, size_t length)
     else if (strcmp(name, "judge") == 0)
         run(many, sizeof many);
     else if (strcmp(name, "step") == 0)
-        staran_step_4(memory, sizeof memory, &record, list, STARAN_INSTRUCTION_BYTES, item, 0, out, sizeof out, answer);
+        staran_step_5(memory, sizeof memory, &record, list, STARAN_INSTRUCTION_BYTES, item, 0, out, sizeof out, answer);
     else if (strcmp(name, "read-list") == 0)
         read_list(sizeof file);
     else if (strcmp(name, "read-damaged") == 0) {
@@ -136,9 +137,9 @@ static int call(const char *name, size_t length)
     } else if (strcmp(name, "write-list") == 0)
         staran_write_content(STARAN_CONTENT_LIST, content, sizeof content, file, sizeof file, answer);
     else if (strcmp(name, "read-picture") == 0)
-        staran_read_picture(STARAN_CONTENT_PICTURE, picture, sizeof picture, memory, sizeof memory, registers, sizeof registers, answer);
+        staran_read_picture(STARAN_CONTENT_PICTURE, picture, sizeof picture, memory, sizeof memory, registers, STARAN_PICTURE_REGISTERS_BYTES, answer);
     else if (strcmp(name, "write-picture") == 0)
-        staran_write_picture(STARAN_CONTENT_PICTURE, memory, sizeof memory, registers, sizeof registers, picture, sizeof picture, answer);
+        staran_write_picture(STARAN_CONTENT_PICTURE, memory, sizeof memory, registers, STARAN_PICTURE_REGISTERS_BYTES, picture, sizeof picture, answer);
     else
         return 0;
     return 1;
@@ -164,6 +165,10 @@ int main(int count, char **words)
         length = prepare_list(words[3], (size_t)atoi(words[4]));
     if (strcmp(words[2], "none") == 0) {
         memset(registers + 64, 0, STARAN_ITEM_BYTES);
+        words[2] = "list";
+    }
+    if (strcmp(words[2], "set") == 0) {
+        registers[96] = 1;
         words[2] = "list";
     }
     int times = atoi(words[1]);

@@ -16,15 +16,17 @@ static uint8_t list[STARAN_GREATEST_LIST_BYTES(WIDEST)], items[STARAN_SPREADING_
 static staran_registers record;
 static uint32_t answer[STARAN_RUN_NUMBERS]; /* the longest of all */
 
-/* ---- a run and a step: of an instruction that takes and gives, at several lengths; then of every kind with every source and choice, at the modes and passes
- * below, of which the judge takes some and refuses the others */
+/* ---- a run and a step: of an instruction that takes and gives, at several lengths, and with mode registers that are refused; then of every kind with every source and
+ * choice, at the modes and passes below, of which the judge takes some and refuses the others. Register A is set, B is not */
 
 static const struct {
     size_t memory, registers, list, items, out;
-} less[] = {{0, 0, 0, 0, 0}, {1, 0, 0, 0, 0}, {0, 1, 0, 0, 0}, {0, 0, 8, 0, 0}, {0, 0, 1, 0, 0}, {0, 0, 0, 1, 0}, {0, 0, 0, 32, 0}, {0, 0, 0, 0, 1}};
+    uint8_t flag; /* of register B */
+} less[] = {{0, 0, 0, 0, 0, 0}, {1, 0, 0, 0, 0, 0}, {0, 1, 0, 0, 0, 0},  {0, 4, 0, 0, 0, 0}, {0, 0, 8, 0, 0, 0},
+            {0, 0, 1, 0, 0, 0}, {0, 0, 0, 1, 0, 0}, {0, 0, 0, 32, 0, 0}, {0, 0, 0, 0, 1, 0}, {0, 0, 0, 0, 0, 2}};
 static const uint8_t deliver[] = {STARAN_DELIVER_FROM(STARAN_SOURCE_OUTSIDE, 90, STARAN_SHIFT(8, 3))};
-enum { KINDS = 7, SOURCES = 6 };                                                                   /* the last of each is none */
-static const uint8_t modes[][3] = {{0, 0, 0}, {1, 0, 5}, {1, 7, 5}, {1, 255, 5}, {2, 0, 0}};       /* tag, mode, address */
+enum { KINDS = 8, SOURCES = 6 };                                                                   /* the last of each is none */
+static const uint8_t modes[][3] = {{0, 0, 0}, {1, 0, 5}, {1, 7, 5}, {1, 255, 5}, {2, 0, 5}, {2, 7, 0}, {3, 0, 5}, {4, 0, 0}}; /* tag, mode, address */
 static const uint8_t passes[][2] = {{0, 0}, {90, 0}, {0, 0x83}, {90, 0x83}, {0, 0x88}, {0, 0x90}}; /* flip, shift */
 static const uint8_t choices[] = {0x00, 0x16, 0x26, 0x36, 0x46, 0x50};                             /* with a function */
 enum { INSTRUCTIONS = KINDS * SOURCES * COUNT(modes) * COUNT(passes) * COUNT(choices), RUNS = COUNT(less) + INSTRUCTIONS };
@@ -45,8 +47,17 @@ static void make_instructions(void)
 #define MEMORY(k) memory, LENT(memory, k).memory
 #define THE_REST(k) \
     (k) < COUNT(less) ? deliver : instructions[(k)-COUNT(less)], LENT(deliver, k).list, item, LENT(item, k).items, passed, LENT(passed, k).out, answer
-static void run(size_t k) { CALL(staran_run_4, MEMORY(k), registers, LENT(registers, k).registers, THE_REST(k)); }
-static void step(size_t k) { CALL(staran_step_4, MEMORY(k), &record, THE_REST(k)); }
+#define FLAG(k) less[(k) < COUNT(less) ? (k) : 0].flag
+static void run(size_t k)
+{
+    registers[96] = 1, registers[97] = 255, registers[98] = FLAG(k), registers[99] = 0;
+    CALL(staran_run_4, MEMORY(k), registers, LENT(registers, k).registers, THE_REST(k));
+}
+static void step(size_t k)
+{
+    record.a_set = 1, record.a_mode = 255, record.b_set = FLAG(k), record.b_mode = 0;
+    CALL(staran_step_5, MEMORY(k), &record, THE_REST(k));
+}
 
 /* ---- a pass in either form: every code with some flips */
 
@@ -142,7 +153,7 @@ static void make_other(size_t file, size_t at)
 
 static void make_files(void)
 {
-    staran_write_picture(STARAN_CONTENT_PICTURE, memory, sizeof memory, registers, sizeof registers, files[PICTURE], sizeof files[PICTURE], answer);
+    staran_write_picture(STARAN_CONTENT_PICTURE, memory, sizeof memory, registers, STARAN_PICTURE_REGISTERS_BYTES, files[PICTURE], sizeof files[PICTURE], answer);
     lengths[PICTURE] = answer[2];
     make_file(LONG, STARAN_CONTENT_LIST, sizeof content);
     make_file(SHORT, STARAN_CONTENT_LIST, 24);
@@ -159,13 +170,13 @@ static void make_files(void)
 static void read_content(size_t k) { CALL(staran_read_content, READ(k), content, sizeof content - reads[k].memory, answer); }
 static void read_picture(size_t k)
 {
-    CALL(staran_read_picture, READ(k), memory, sizeof memory - reads[k].memory, registers, sizeof registers - reads[k].registers, answer);
+    CALL(staran_read_picture, READ(k), memory, sizeof memory - reads[k].memory, registers, STARAN_PICTURE_REGISTERS_BYTES - reads[k].registers, answer);
 }
 #define OUT(k) blocks, sizeof blocks - writes[k].out, answer
 static void write_content(size_t k) { CALL(staran_write_content, writes[k].kind, content, sizeof content - writes[k].memory, OUT(k)); }
 static void write_picture(size_t k)
 {
-    CALL(staran_write_picture, writes[k].kind, memory, sizeof memory - writes[k].memory, registers, sizeof registers - writes[k].registers, OUT(k));
+    CALL(staran_write_picture, writes[k].kind, memory, sizeof memory - writes[k].memory, registers, STARAN_PICTURE_REGISTERS_BYTES - writes[k].registers, OUT(k));
 }
 
 static void version(size_t k) { (void)k, CALL(staran_version); }
@@ -181,8 +192,8 @@ static const struct {
     size_t calls;
     uint64_t gives;
 } functions[] = {
-    {"staran_run_4", 11, run, RUNS, DONE | NUMBERS(1, 9) | NUMBERS(11, 13) | NUMBERS(16, 18)},
-    {"staran_step_4", 10, step, RUNS, DONE | NUMBERS(1, 1) | NUMBERS(3, 9) | NUMBERS(11, 13) | NUMBERS(16, 18)},
+    {"staran_run_4", 11, run, RUNS, DONE | NUMBERS(1, 9) | NUMBERS(11, 18)},
+    {"staran_step_5", 10, step, RUNS, DONE | NUMBERS(1, 1) | NUMBERS(3, 9) | NUMBERS(11, 18)},
     {"staran_pass", 5, pass, 256 * COUNT(flips), DONE | NUMBERS(16, 17)},
     {"staran_wired_pass", 5, wired_pass, 256 * COUNT(flips), DONE | NUMBERS(16, 17)},
     {"staran_sum_list", 7, sum_list, COUNT(sums), DONE | NUMBERS(30, 33)},

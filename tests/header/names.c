@@ -1,8 +1,9 @@
-/* Holds the header's names to bytes and numbers that stand here as they stand in document 01, in document 02 (Four, the resolved item; Six, the offending byte) and, of the
- * searches, the closing and the spreading, in docs/LISTS.md, from C and from C++: tests/c/run builds and runs it.
+/* Holds the header's names to bytes and numbers that stand here as they stand in document 01, in document 02 (Four, the resolved item; Six, the offending byte; Seven, the
+ * mode registers) and, of the searches, the closing and the spreading, in docs/LISTS.md, from C and from C++: tests/c/run builds and runs it.
  * Says each name that does not hold, then every number with its meaning, for tests/c/run to compare with docs/numbers.tsv. */
 #include "staran.h"
 
+#include <stddef.h>
 #include <stdio.h>
 #include <string.h>
 
@@ -215,11 +216,75 @@ static void answers(void)
                                                 STARAN_ANSWER_TAKEN == 4 && STARAN_ANSWER_GIVEN == 5);
 }
 
+/* A picture has M, X and Y of a run's registers, and the mode registers stay where they are. */
+static void pictures(void)
+{
+    static uint8_t file[STARAN_PICTURE_FILE_BYTES], others[STARAN_MEMORY_BYTES];
+    uint8_t read[STARAN_REGISTERS_BYTES];
+    uint32_t answer[STARAN_DISK_NUMBERS];
+    memset(read, 1, sizeof read);
+    staran_write_picture(STARAN_CONTENT_PICTURE, memory, sizeof memory, registers, STARAN_PICTURE_REGISTERS_BYTES, file, sizeof file, answer);
+    hold("a picture of the first 96 bytes is written", answer[0] == STARAN_DONE && answer[2] == STARAN_PICTURE_FILE_BYTES);
+    staran_read_picture(STARAN_CONTENT_PICTURE, file, sizeof file, others, sizeof others, read, STARAN_PICTURE_REGISTERS_BYTES, answer);
+    hold("and read", answer[0] == STARAN_DONE && answer[2] == STARAN_MEMORY_BYTES + STARAN_PICTURE_REGISTERS_BYTES && memcmp(read, registers, 96) == 0);
+    bytes("behind which the mode registers stay", read + 96, 4, "01010101");
+    staran_read_picture(STARAN_CONTENT_PICTURE, file, sizeof file, others, sizeof others, read, sizeof read, answer);
+    hold("not into 100", answer[0] == STARAN_REFUSED_LENT_LENGTH);
+    staran_write_picture(STARAN_CONTENT_PICTURE, memory, sizeof memory, registers, sizeof registers, file, sizeof file, answer);
+    hold("not from 100", answer[0] == STARAN_REFUSED_LENT_LENGTH);
+}
+
+/* The mode registers: their instructions by macros, the record's bytes, and a list that sets one and stores through it, by a run and by steps. */
+static void mode_registers(void)
+{
+    const uint8_t made[] = {STARAN_SET_MODE(STARAN_TAG_A, STARAN_MODE_WORD), STARAN_SET_MODE(STARAN_TAG_B, 7),
+                            STARAN_LOGIC_BY(STARAN_TAG_A, 45, 90, STARAN_SHIFT(8, 3), STARAN_CHOICE_X, STARAN_FUNCTION_ITEM), STARAN_SET_M_BY(STARAN_TAG_B, 45, 90, STARAN_SHIFT(8, 3)),
+                            STARAN_STORE_BY(STARAN_SOURCE_Y, STARAN_TAG_A, 13, 5), STARAN_MASKED_STORE_BY(STARAN_SOURCE_OUTSIDE, STARAN_TAG_B, 13, 5),
+                            STARAN_DELIVER_BY(STARAN_TAG_A, 13, 1, STARAN_SHIFT(3, 0))};
+    const uint8_t list[] = {STARAN_SET_MODE(STARAN_TAG_A, STARAN_MODE_WORD), STARAN_STORE_BY(STARAN_SOURCE_Y, STARAN_TAG_A, 13, 0),
+                            STARAN_DELIVER(STARAN_MODE_WORD, 13, 0, 0)};
+    uint32_t answer[STARAN_RUN_NUMBERS];
+    staran_registers record;
+    bytes("set register A", made, 8, "060002FF00000000");
+    bytes("set register B", made + 8, 8, "0600030700000000");
+    bytes("logic by A", made + 16, 8, "000002002D5A830A");
+    bytes("set M by B", made + 24, 8, "010003002D5A8300");
+    bytes("store by A", made + 32, 8, "020302000D050000");
+    bytes("masked store by B", made + 40, 8, "030403000D050000");
+    bytes("deliver by A", made + 48, 8, "040002000D013000");
+    hold("the tags", STARAN_TAG_NONE == 0 && STARAN_TAG_GIVEN == 1 && STARAN_TAG_A == 2 && STARAN_TAG_B == 3 && STARAN_KIND_SET_MODE == 6);
+    hold("the lengths of registers", STARAN_REGISTERS_BYTES == 100 && STARAN_PICTURE_REGISTERS_BYTES == 96 && sizeof(staran_registers) == 100);
+    hold("where M, X and Y stand", offsetof(staran_registers, m) == 0 && offsetof(staran_registers, x) == 32 && offsetof(staran_registers, y) == 64);
+    hold("where the mode registers stand", offsetof(staran_registers, a_set) == 96 && offsetof(staran_registers, a_mode) == 97 &&
+                                               offsetof(staran_registers, b_set) == 98 && offsetof(staran_registers, b_mode) == 99);
+    memset(registers + 64, 0x5A, 32);
+    memset(&record, 0, sizeof record);
+    memset(record.y, 0xA5, sizeof record.y);
+    staran_run_4(memory, sizeof memory, registers, sizeof registers, list, sizeof list, out, 0, out, sizeof out, answer);
+    hold("a run that sets A and stores through it", answer[STARAN_ANSWER_NUMBER] == STARAN_DONE && answer[STARAN_ANSWER_STEPS] == 3 && answer[STARAN_ANSWER_TAKEN] == 0 &&
+                                                        answer[STARAN_ANSWER_GIVEN] == 1 && memcmp(out, registers + 64, 32) == 0);
+    bytes("the mode registers behind it", registers + 96, 4, "01FF0000");
+    for (size_t k = 0; k < 3; k++)
+        staran_step_5(memory, sizeof memory, &record, list + STARAN_INSTRUCTION_BYTES * k, STARAN_INSTRUCTION_BYTES, out, 0, out, sizeof out, answer);
+    hold("steps that do the same", answer[STARAN_ANSWER_NUMBER] == STARAN_DONE && memcmp(out, record.y, 32) == 0);
+    hold("the record's mode registers behind them", record.a_set == 1 && record.a_mode == 255 && record.b_set == 0 && record.b_mode == 0);
+    pictures();
+    registers[98] = 2;
+    staran_run_4(memory, sizeof memory, registers, sizeof registers, list, sizeof list, out, 0, out, sizeof out, answer);
+    hold("a flag over 1", answer[STARAN_ANSWER_NUMBER] == STARAN_REFUSED_MODE_REGISTERS && answer[STARAN_ANSWER_PLACE] == 0 && answer[STARAN_ANSWER_BYTE] == 0);
+    memset(registers, 0, sizeof registers);
+    staran_run_4(memory, sizeof memory, registers, STARAN_PICTURE_REGISTERS_BYTES, list, sizeof list, out, 0, out, sizeof out, answer);
+    hold("registers of 96 bytes", answer[STARAN_ANSWER_NUMBER] == STARAN_REFUSED_REGISTERS_LENGTH);
+}
+
 static void refusals(void)
 {
-    const uint8_t kind[] = {STARAN_INSTRUCTION(6, 0, 0, 0, 0, 0, 0, 0)}, source[] = {STARAN_STORE(STARAN_SOURCE_MEMORY, 0, 0, 0)};
+    const uint8_t kind[] = {STARAN_INSTRUCTION(7, 0, 0, 0, 0, 0, 0, 0)}, source[] = {STARAN_STORE(STARAN_SOURCE_MEMORY, 0, 0, 0)};
     const uint8_t no_mode[] = {STARAN_INSTRUCTION(STARAN_KIND_STORE, STARAN_SOURCE_Y, 0, 255, 0, 0, 0, 0)};
-    const uint8_t tag[] = {STARAN_INSTRUCTION(STARAN_KIND_STORE, STARAN_SOURCE_Y, 2, 255, 0, 0, 0, 0)};
+    const uint8_t no_register[] = {STARAN_SET_MODE(STARAN_TAG_NONE, 255)}, not_register[] = {STARAN_SET_MODE(STARAN_TAG_GIVEN, 255)};
+    const uint8_t tag[] = {STARAN_INSTRUCTION(STARAN_KIND_STORE, STARAN_SOURCE_Y, 4, 255, 0, 0, 0, 0)};
+    const uint8_t two_modes[] = {STARAN_INSTRUCTION(STARAN_KIND_STORE, STARAN_SOURCE_Y, STARAN_TAG_A, 255, 0, 0, 0, 0)};
+    const uint8_t unset_a[] = {STARAN_DELIVER_BY(STARAN_TAG_A, 0, 0, 0)}, unset_b[] = {STARAN_STORE_BY(STARAN_SOURCE_Y, STARAN_TAG_B, 0, 0)};
     const uint8_t unused[] = {STARAN_INSTRUCTION(STARAN_KIND_LOGIC, STARAN_SOURCE_X, 1, 0, 0, 0, 0, 0)};
     const uint8_t unused_mode[] = {STARAN_INSTRUCTION(STARAN_KIND_LOGIC, STARAN_SOURCE_X, 0, 255, 13, 0, 0, 0)};
     const uint8_t unused_address[] = {STARAN_INSTRUCTION(STARAN_KIND_RESOLVE, 0, 0, 0, 13, 0, 0, 0)};
@@ -232,7 +297,12 @@ static void refusals(void)
     refused("kind", STARAN_REFUSED_KIND, 0, kind);
     refused("source", STARAN_REFUSED_SOURCE, 1, source);
     refused("no mode", STARAN_REFUSED_NO_MODE, 2, no_mode);
+    refused("no register", STARAN_REFUSED_NO_MODE, 2, no_register);
     refused("mode tag", STARAN_REFUSED_MODE_TAG, 2, tag);
+    refused("mode tag of kind 6", STARAN_REFUSED_MODE_TAG, 2, not_register);
+    refused("mode unused: beside a register's", STARAN_REFUSED_MODE_UNUSED, 3, two_modes);
+    refused("mode unset: A", STARAN_REFUSED_MODE_UNSET, 2, unset_a);
+    refused("mode unset: B", STARAN_REFUSED_MODE_UNSET, 2, unset_b);
     refused("mode unused: tag", STARAN_REFUSED_MODE_UNUSED, 2, unused);
     refused("mode unused: mode", STARAN_REFUSED_MODE_UNUSED, 3, unused_mode);
     refused("mode unused: address", STARAN_REFUSED_MODE_UNUSED, 4, unused_address);
@@ -243,6 +313,7 @@ static void refusals(void)
     refused("logic", STARAN_REFUSED_LOGIC, 7, logic);
     refused("items too few", STARAN_REFUSED_ITEMS_TOO_FEW, 0, item);
     refused("out too short", STARAN_REFUSED_OUT_TOO_SHORT, 0, resolve);
+    hold("the two numbers of the mode registers", STARAN_REFUSED_MODE_UNSET == 14 && STARAN_REFUSED_MODE_REGISTERS == 15);
     hold("the three numbers for 10", STARAN_REFUSED_GROUP_TOO_WIDE == 16 && STARAN_REFUSED_SHIFT_NOT_BELOW == 17 && STARAN_REFUSED_MOVE_BARRED == 18);
 }
 
@@ -254,13 +325,14 @@ int main(void)
     functions();
     resolves();
     answers();
+    mode_registers();
     refusals();
     hold("the contents on disk", STARAN_CONTENT_PICTURE == 1 && STARAN_CONTENT_LIST == 2 && STARAN_CONTENT_ITEMS == 3);
-    hold("the linked version is the header's", staran_version() == STARAN_VERSION && STARAN_VERSION == 262144);
-    hold("a number that is never given", strcmp(staran_meaning(14), "no such number is ever given") == 0);
-    hold("a number that is not given any more", strcmp(staran_meaning(10), staran_meaning(14)) == 0);
+    hold("the linked version is the header's", staran_version() == STARAN_VERSION && STARAN_VERSION == 327680);
+    hold("a number that is never given", strcmp(staran_meaning(100), "no such number is ever given") == 0);
+    hold("a number that is not given any more", strcmp(staran_meaning(10), staran_meaning(100)) == 0);
     for (uint32_t number = 0; number <= 100; number++)
-        if (strcmp(staran_meaning(number), staran_meaning(14)) != 0)
+        if (strcmp(staran_meaning(number), staran_meaning(100)) != 0)
             printf("%u\t%s\n", (unsigned)number, staran_meaning(number));
     return wrong;
 }

@@ -3,7 +3,7 @@
 
 #include <string.h>
 
-enum { BLOCK = STARAN_BLOCK_BYTES, PAYLOAD = 496, PICTURE = MEMORY + REGISTERS };
+enum { BLOCK = STARAN_BLOCK_BYTES, PAYLOAD = 496, PICTURE = MEMORY + PICTURE_REGISTERS };
 
 static void give(uint32_t answer[3], uint32_t number, uint32_t place, uint32_t bytes)
 {
@@ -163,7 +163,7 @@ void staran_read_picture(size_t kind, const uint8_t *bytes, size_t bytes_length,
     judge(kind, bytes, bytes_length, answer);
     if (answer[0] != STARAN_DONE)
         return;
-    if (kind != STARAN_CONTENT_PICTURE || memory_length != MEMORY || registers_length != REGISTERS) {
+    if (kind != STARAN_CONTENT_PICTURE || memory_length != MEMORY || registers_length != PICTURE_REGISTERS) {
         give(answer, STARAN_REFUSED_LENT_LENGTH, 0, 0);
         return;
     }
@@ -171,7 +171,7 @@ void staran_read_picture(size_t kind, const uint8_t *bytes, size_t bytes_length,
         take_part(bytes, 256 * v, words, sizeof words);
         plain_words_in(memory, v, words);
     }
-    take_part(bytes, MEMORY, registers, REGISTERS);
+    take_part(bytes, MEMORY, registers, PICTURE_REGISTERS);
 }
 
 void staran_write_picture(size_t kind, const uint8_t *memory, size_t memory_length, const uint8_t *registers, size_t registers_length, uint8_t *out,
@@ -180,7 +180,7 @@ void staran_write_picture(size_t kind, const uint8_t *memory, size_t memory_leng
     uint8_t words[256];
     if (kind < 1 || kind > 3)
         give(answer, STARAN_REFUSED_BLOCK_KIND, 0, 0);
-    else if (kind != STARAN_CONTENT_PICTURE || memory_length != MEMORY || registers_length != REGISTERS)
+    else if (kind != STARAN_CONTENT_PICTURE || memory_length != MEMORY || registers_length != PICTURE_REGISTERS)
         give(answer, STARAN_REFUSED_LENT_LENGTH, 0, 0);
     else if (out_length < STARAN_PICTURE_FILE_BYTES)
         give(answer, STARAN_REFUSED_OUTPUT_TOO_SHORT, 0, 0);
@@ -189,7 +189,7 @@ void staran_write_picture(size_t kind, const uint8_t *memory, size_t memory_leng
             plain_words_out(memory, v, words);
             put_part(out, 256 * v, words, sizeof words);
         }
-        put_part(out, MEMORY, registers, REGISTERS);
+        put_part(out, MEMORY, registers, PICTURE_REGISTERS);
         for (size_t i = 0; i < 17; i++)
             seal(STARAN_CONTENT_PICTURE, i, 17, i < 16 ? PAYLOAD : PICTURE - 16 * PAYLOAD, out + BLOCK * i);
         give(answer, STARAN_DONE, 0, STARAN_PICTURE_FILE_BYTES);

@@ -6,7 +6,7 @@
 
 #include "staran.h"
 
-enum { ITEM = STARAN_ITEM_BYTES, MEMORY = STARAN_MEMORY_BYTES, REGISTERS = STARAN_REGISTERS_BYTES };
+enum { ITEM = STARAN_ITEM_BYTES, MEMORY = STARAN_MEMORY_BYTES, REGISTERS = STARAN_REGISTERS_BYTES, PICTURE_REGISTERS = STARAN_PICTURE_REGISTERS_BYTES };
 
 /* memory.c */
 void plain_load(const uint8_t *memory, uint8_t mode, uint8_t address, uint8_t item[32]);

@@ -3,45 +3,78 @@
 
 #include <string.h>
 
+/* Where the mode registers stand in the register set: four bytes, flag and mode of A, then of B. */
+enum { MODES = 96 };
+
 static int stores(const uint8_t *i) { return i[0] == 2 || i[0] == 3; }
 static int touches(const uint8_t *i) { return stores(i) || (i[1] == 0 && (i[0] == 0 || i[0] == 1 || i[0] == 4)); }
 static int takes(const uint8_t *i) { return i[1] == 4; }
 static int gives(const uint8_t *i) { return i[0] == 4 || i[0] == 5; }
+static int by_register(const uint8_t *i) { return i[2] == 2 || i[2] == 3; }
 
-/* For kinds 0, 1 and 4: memory with a mode given, or another source with none. */
-static int source_fits(const uint8_t *i) { return i[1] == 0 ? i[2] == 1 : i[1] <= 4 && (i[2] | i[3] | i[4]) == 0; }
-
-/* Has an instruction no number? It is asked of every one, kind by kind; the number is made of the one that is refused. */
-static int formed(const uint8_t *i)
+/* What an instruction makes of the mode registers, and the mode under which it accesses memory. */
+static void set_mode(uint8_t modes[4], const uint8_t *i)
 {
-    if (i[0] == 5 ? (i[5] | i[6]) != 0 : i[6] != 0 && (stores(i) || !plain_is_code(i[6])))
+    if (i[0] == 6) {
+        modes[i[2] == 2 ? 0 : 2] = 1;
+        modes[i[2] == 2 ? 1 : 3] = i[3];
+    }
+}
+
+static uint8_t mode_of(const uint8_t modes[4], const uint8_t *i) { return i[2] == 2 ? modes[1] : i[2] == 3 ? modes[3] : i[3]; }
+
+static int wrong_register(const uint8_t r[2]) { return r[0] > 1 || (r[0] == 0 && r[1] != 0); }
+
+/* Where memory is touched: a mode given, or that of a register which is set. */
+static int mode_fits(const uint8_t modes[4], const uint8_t *i)
+{
+    return i[2] == 1 || (i[2] == 2 && i[3] == 0 && modes[0] == 1) || (i[2] == 3 && i[3] == 0 && modes[2] == 1);
+}
+
+/* For kinds 0, 1 and 4: memory with a mode, or another source with none. */
+static int source_fits(const uint8_t modes[4], const uint8_t *i)
+{
+    return i[1] == 0 ? mode_fits(modes, i) : i[1] <= 4 && (i[2] | i[3] | i[4]) == 0;
+}
+
+/* Has an instruction no number? It is asked of every one, kind by kind, with the mode registers before it; the number is made of the one that is refused. */
+static int formed(const uint8_t modes[4], const uint8_t *i)
+{
+    if (i[0] == 5 || i[0] == 6 ? (i[5] | i[6]) != 0 : i[6] != 0 && (stores(i) || !plain_is_code(i[6])))
         return 0;
     if (i[0] == 0)
-        return i[7] <= 79 && source_fits(i);
-    if (i[7] != 0 || i[0] > 5)
+        return i[7] <= 79 && source_fits(modes, i);
+    if (i[7] != 0 || i[0] > 6)
         return 0;
     if (stores(i))
-        return i[1] != 0 && i[1] <= 4 && i[2] == 1;
+        return i[1] != 0 && i[1] <= 4 && mode_fits(modes, i);
     if (i[0] == 5)
         return (i[1] | i[2] | i[3] | i[4]) == 0;
-    return source_fits(i);
+    if (i[0] == 6)
+        return (i[1] | i[4]) == 0 && by_register(i);
+    return source_fits(modes, i);
 }
 
 /* The number of an instruction that has one. */
-static uint32_t fault(const uint8_t *i)
+static uint32_t fault(const uint8_t modes[4], const uint8_t *i)
 {
-    if (i[0] > 5)
+    const int sets = i[0] == 6, alone = i[0] == 5 || sets;
+    if (i[0] > 6)
         return STARAN_REFUSED_KIND;
-    if (i[1] > 4 || (stores(i) && i[1] == 0) || (i[0] == 5 && i[1] != 0))
+    if (i[1] > 4 || (stores(i) && i[1] == 0) || (alone && i[1] != 0))
         return STARAN_REFUSED_SOURCE;
-    if (touches(i)) {
+    if (touches(i) || sets) {
         if (i[2] == 0)
             return STARAN_REFUSED_NO_MODE;
-        if (i[2] > 1)
+        if (i[2] > 3 || (sets && i[2] == 1))
             return STARAN_REFUSED_MODE_TAG;
+        if (sets ? i[4] != 0 : by_register(i) && i[3] != 0)
+            return STARAN_REFUSED_MODE_UNUSED;
+        if (!sets && !mode_fits(modes, i))
+            return STARAN_REFUSED_MODE_UNSET;
     } else if ((i[2] | i[3] | i[4]) != 0)
         return STARAN_REFUSED_MODE_UNUSED;
-    if ((stores(i) && i[6] != 0) || (i[0] == 5 && (i[5] | i[6]) != 0))
+    if ((stores(i) && i[6] != 0) || (alone && (i[5] | i[6]) != 0))
         return STARAN_REFUSED_MOVE_BARRED;
     if (!plain_is_code(i[6]))
         return plain_unlisted(i[6]);
@@ -58,11 +91,12 @@ static uint32_t wrong_byte(uint32_t number, const uint8_t *i)
         return 1;
     case STARAN_REFUSED_NO_MODE:
     case STARAN_REFUSED_MODE_TAG:
+    case STARAN_REFUSED_MODE_UNSET:
         return 2;
     case STARAN_REFUSED_MODE_UNUSED:
-        return i[2] != 0 ? 2 : i[3] != 0 ? 3 : 4;
+        return touches(i) ? 3 : i[0] == 6 ? 4 : i[2] != 0 ? 2 : i[3] != 0 ? 3 : 4;
     case STARAN_REFUSED_MOVE_BARRED:
-        return i[0] == 5 && i[5] != 0 ? 5 : 6;
+        return (i[0] == 5 || i[0] == 6) && i[5] != 0 ? 5 : 6;
     case STARAN_REFUSED_LOGIC:
         return 7;
     default: /* a shift that is none of the 37 */
@@ -94,27 +128,32 @@ static void give(uint32_t answer[STARAN_RUN_NUMBERS], uint32_t number, uint32_t 
 
 static void refuse(uint32_t answer[STARAN_RUN_NUMBERS], uint32_t number, uint32_t place, uint32_t byte) { give(answer, number, place, byte, 0, 0, 0); }
 
-static void judge(size_t memory, size_t registers, const uint8_t *list, size_t length, size_t items, size_t out, uint32_t answer[STARAN_RUN_NUMBERS])
+static void judge(size_t memory, const uint8_t *registers, size_t registers_length, const uint8_t *list, size_t length, size_t items, size_t out,
+                  uint32_t answer[STARAN_RUN_NUMBERS])
 {
-    uint32_t number = memory != MEMORY                           ? STARAN_REFUSED_MEMORY_LENGTH
-                      : registers != REGISTERS                   ? STARAN_REFUSED_REGISTERS_LENGTH
-                      : length % 8 != 0 || length > 32768        ? STARAN_REFUSED_LIST_LENGTH
-                      : items % ITEM != 0 || items > 32768       ? STARAN_REFUSED_ITEMS_LENGTH
-                                                                 : STARAN_DONE;
+    uint32_t number = memory != MEMORY                                                             ? STARAN_REFUSED_MEMORY_LENGTH
+                      : registers_length != REGISTERS                                              ? STARAN_REFUSED_REGISTERS_LENGTH
+                      : length % 8 != 0 || length > 32768                                          ? STARAN_REFUSED_LIST_LENGTH
+                      : items % ITEM != 0 || items > 32768                                         ? STARAN_REFUSED_ITEMS_LENGTH
+                      : wrong_register(registers + MODES) || wrong_register(registers + MODES + 2) ? STARAN_REFUSED_MODE_REGISTERS
+                                                                                                   : STARAN_DONE;
     uint32_t taken = 0, given = 0;
+    uint8_t modes[4];
     if (number != STARAN_DONE) {
         refuse(answer, number, 0, 0);
         return;
     }
+    memcpy(modes, registers + MODES, sizeof modes);
     for (uint32_t k = 0; k < length / 8; k++) {
         const uint8_t *i = list + 8 * k;
-        if (!formed(i)) {
-            number = fault(i);
+        if (!formed(modes, i)) {
+            number = fault(modes, i);
             refuse(answer, number, k, wrong_byte(number, i));
             return;
         }
         taken += (uint32_t)takes(i);
         given += (uint32_t)gives(i);
+        set_mode(modes, i);
     }
     if (items < (size_t)ITEM * taken)
         refuse(answer, STARAN_REFUSED_ITEMS_TOO_FEW, short_at(takes, list, items), 0);
@@ -175,7 +214,7 @@ static void resolve(const uint8_t y[32], uint8_t out[32])
     out[4] = (uint8_t)(count >> 8);
 }
 
-static void run_list(uint8_t *memory, uint8_t *m, uint8_t *x, uint8_t *y, const uint8_t *list, size_t count, const uint8_t *items, uint8_t *out)
+static void run_list(uint8_t *memory, uint8_t *m, uint8_t *x, uint8_t *y, uint8_t *modes, const uint8_t *list, size_t count, const uint8_t *items, uint8_t *out)
 {
     for (const uint8_t *i = list; i < list + 8 * count; i += 8) {
         uint8_t item[ITEM];
@@ -184,8 +223,12 @@ static void run_list(uint8_t *memory, uint8_t *m, uint8_t *x, uint8_t *y, const 
             out += ITEM;
             continue;
         }
+        if (i[0] == 6) {
+            set_mode(modes, i);
+            continue;
+        }
         if (i[1] == 0)
-            plain_load(memory, i[3], i[4], item);
+            plain_load(memory, mode_of(modes, i), i[4], item);
         else
             memcpy(item, i[1] == 1 ? m : i[1] == 2 ? x : i[1] == 3 ? y : items, ITEM);
         if (i[1] == 4)
@@ -200,10 +243,10 @@ static void run_list(uint8_t *memory, uint8_t *m, uint8_t *x, uint8_t *y, const 
             memcpy(m, item, ITEM);
             break;
         case 2:
-            plain_store(memory, i[3], i[4], item);
+            plain_store(memory, mode_of(modes, i), i[4], item);
             break;
         case 3:
-            plain_store_masked(memory, i[3], i[4], item, m);
+            plain_store_masked(memory, mode_of(modes, i), i[4], item, m);
             break;
         default:
             memcpy(out, item, ITEM);
@@ -215,18 +258,18 @@ static void run_list(uint8_t *memory, uint8_t *m, uint8_t *x, uint8_t *y, const 
 void staran_run_4(uint8_t *memory, size_t memory_length, uint8_t *registers, size_t registers_length, const uint8_t *list, size_t list_length,
                   const uint8_t *items, size_t items_length, uint8_t *out, size_t out_length, uint32_t answer[STARAN_RUN_NUMBERS])
 {
-    judge(memory_length, registers_length, list, list_length, items_length, out_length, answer);
+    judge(memory_length, registers, registers_length, list, list_length, items_length, out_length, answer);
     if (answer[STARAN_ANSWER_NUMBER] == STARAN_DONE)
-        run_list(memory, registers, registers + 32, registers + 64, list, list_length / 8, items, out);
+        run_list(memory, registers, registers + 32, registers + 64, registers + MODES, list, list_length / 8, items, out);
 }
 
-void staran_step_4(uint8_t *memory, size_t memory_length, staran_registers *registers, const uint8_t *instruction, size_t instruction_length,
+void staran_step_5(uint8_t *memory, size_t memory_length, staran_registers *registers, const uint8_t *instruction, size_t instruction_length,
                    const uint8_t *items, size_t items_length, uint8_t *out, size_t out_length, uint32_t answer[STARAN_RUN_NUMBERS])
 {
     if (memory_length == MEMORY && instruction_length != 8)
         refuse(answer, STARAN_REFUSED_LIST_LENGTH, 0, 0);
     else
-        judge(memory_length, REGISTERS, instruction, instruction_length, items_length, out_length, answer);
+        judge(memory_length, (const uint8_t *)registers, REGISTERS, instruction, instruction_length, items_length, out_length, answer);
     if (answer[STARAN_ANSWER_NUMBER] == STARAN_DONE)
-        run_list(memory, registers->m, registers->x, registers->y, instruction, 1, items, out);
+        run_list(memory, registers->m, registers->x, registers->y, (uint8_t *)registers + MODES, instruction, 1, items, out);
 }

@@ -5,7 +5,7 @@ use Prim.Native.Nat.{ℕ, zero, suc, _<_, _≤_}
 use native.Mathlib.Decide.{decLt}
 use native.Mathlib.Omega.{arith}
 use Rattle.judge.specs.declared.Instruction.{Instruction}
-use Rattle.judge.specs.Judge.{instructionAt}
+use Rattle.judge.specs.Instructions.{instructionAt}
 use Rattle.builders.specs.Lists.{rounds, decoded, Each, none, more}
 use Rattle.builders.specs.Word.{folded}
 

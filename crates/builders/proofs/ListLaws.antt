@@ -11,7 +11,7 @@ use lib.Seq.{getD-append-add, take-at, drop-at}
 use Rattle.bits.specs.Bits.{digit, byteOf, item}
 use Rattle.bits.proofs.Items.{length-listed}
 use Rattle.judge.specs.declared.Instruction.{Instruction}
-use Rattle.judge.specs.Judge.{instructionAt}
+use Rattle.judge.specs.Instructions.{instructionAt}
 use Rattle.builders.specs.Lists.{instruction, bytesOf, encoded, rounds, decoded, itemsOf}
 use Rattle.builders.specs.Searches.{moveX, searchRound, searchRounds, searchList, searchLength, numberItems, itemsLength}
 use Rattle.builders.specs.Searches.{orFlipped, without, unmark, greatestRound, greatestRounds, greatestList, greatestLength}

@@ -8,7 +8,7 @@ use native.Mathlib.Numerals.{add-one}
 use native.Mathlib.Omega.{arith}
 use Rattle.bits.specs.Search.{count}
 use Rattle.judge.specs.declared.Instruction.{Instruction}
-use Rattle.judge.specs.Judge.{instructionAt, takes}
+use Rattle.judge.specs.Instructions.{instructionAt, takes}
 use Rattle.builders.specs.Lists.{rounds, decoded}
 use Rattle.builders.specs.Word.{Word, heldBit, sourceBit, afterBit, actedWord, folded, ranWord, takenBy, foldedOn}
 

@@ -5,7 +5,7 @@ use Prim.Native.Nat.{ℕ, zero, suc, _+_}
 use lib.Dec.{eqb}
 use Rattle.registers.specs.Logic.{newX, newY}
 use Rattle.judge.specs.declared.Instruction.{Instruction}
-use Rattle.judge.specs.Judge.{takes}
+use Rattle.judge.specs.Instructions.{takes}
 
 -- ---- the machine
 

@@ -6,6 +6,7 @@ use Prim.Native.Nat.{ℕ, _+_, _*_, _≤_}
 use native.Mathlib.Omega.{arith}
 use lib.ListN.{length, drop, length-append}
 use lib.Seq.{take-at}
+use Rattle.registers.specs.Modes.{modesOf, wrongModes}
 use Rattle.registers.specs.Rows.{registersOf}
 use Rattle.judge.specs.declared.Instruction.{Instruction}
 use Rattle.judge.specs.Judge.{unfit}
@@ -64,11 +65,11 @@ module _ (bytes itemBytes list items : List ℕ) where
 
 -- a run of quiet instructions, to its end: the fold of the list, on its items and those behind them
 pub two-ran : (l : List Instruction) → Each Quiet l → length l ≤ 4096 → (itemBytes list items : List ℕ) (fault : ℕ) → fault ≡ 0 → (lent : Lent (List ℕ))
-    → length (lent .memory) ≡ 8192 → length (lent .registers) ≡ 96 → unfit 32 (length itemBytes + length (lent .items)) ≡ false
-    → 32 * takenBy l ≤ length itemBytes
+    → length (lent .memory) ≡ 8192 → length (lent .registers) ≡ 100 → wrongModes (modesOf (lent .registers)) ≡ false
+    → unfit 32 (length itemBytes + length (lent .items)) ≡ false → 32 * takenBy l ≤ length itemBytes
     → runOfTwo (builtTwo fault (encoded l) itemBytes list items) lent
     ≡ leftBy lent (folded (λ i. acted i (itemBytes ++ lent .items)) l (begun lent (registersOf (lent .registers)))) (length l) (takenBy l)
-two-ran l quiet few itemBytes list items fault e lent memory registers supplied enough =
+two-ran l quiet few itemBytes list items fault e lent memory registers stands supplied enough =
     let together = length-append itemBytes (lent .items) in
     two-run (encoded l) itemBytes list items fault e lent
-    ∙ ran-quiet l quiet few (lentWith (itemBytes ++ lent .items) lent) memory registers (ap (unfit 32) together ∙ supplied) (omega (arith, together))
+    ∙ ran-quiet l quiet few (lentWith (itemBytes ++ lent .items) lent) memory registers stands (ap (unfit 32) together ∙ supplied) (omega (arith, together))

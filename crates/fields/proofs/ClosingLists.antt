@@ -24,21 +24,21 @@ use Rattle.builders.proofs.ListLaws.{encoded-append, decoded-encoded}
 use Rattle.fields.specs.Marks.{MarkedBy}
 use Rattle.fields.specs.Closing.{shiftsIn}
 use Rattle.fields.proofs.LineLaws.{ran-folded}
-use Rattle.fields.proofs.Runs.{Quiet, plain-quiet}
+use Rattle.fields.proofs.Runs.{Quiet}
 use Rattle.fields.proofs.Plain.{plain-from, plain-at}
 use Rattle.fields.proofs.MoveSteps.{quiet-take-mask, quiet-take-y, quiet-store-x, quiet-store-masked, quiet-take-further, quiet-shift-masked}
 
 -- ---- the lists are accepted
 
 quiet-take-x : (g : ℕ) → g < 256 → Quiet (takeX g)
-quiet-take-x g h = plain-quiet (takeX g) (plain-at 10 refl g h)
+quiet-take-x g h = plain-at 10 refl g h .quiet
 
 pub closing-quiet : (a s n : ℕ) → a + n ≤ 256 → s + n ≤ 256 → Each Quiet (closingList a s n)
 closing-quiet a s n fa fs =
     each-append (each-rounds (copySlice a s) n (λ k h. more (quiet-take-x (a + k) (omega arith)) (more (quiet-store-x (s + k)) none)))
     (each-append (each-rounds (closeRound s n) 8
     (λ t ht. more quiet-take-mask (each-rounds (closeSlice t s) n (λ k h. more (quiet-take-further t (s + k) ht) (more (quiet-store-masked 255 (s + k)) none)))))
-    (more quiet-take-mask (more (plain-quiet clearX (plain-from 0 refl)) (each-rounds (clearSlice s) n (λ k h. more (quiet-store-masked 0 (s + k)) none)))))
+    (more quiet-take-mask (more (plain-from 0 refl .quiet) (each-rounds (clearSlice s) n (λ k h. more (quiet-store-masked 0 (s + k)) none)))))
 
 pub spreading-quiet : (a s n : ℕ) → a + n ≤ 256 → s + n ≤ 256 → Each Quiet (spreadingList a s n)
 spreading-quiet a s n fa fs =

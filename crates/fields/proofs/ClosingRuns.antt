@@ -13,12 +13,13 @@ use Rattle.bits.proofs.Binary.{Bit, off, on, cond-bit}
 use Rattle.bits.proofs.Digits.{digitsOf-ext}
 use Rattle.bits.proofs.Items.{bitOf-pack}
 use Rattle.bits.proofs.Search.{count-le}
+use Rattle.registers.specs.Modes.{modesOf, wrongModes}
 use Rattle.registers.specs.Rows.{registersOf}
 use Rattle.judge.specs.declared.Instruction.{Instruction}
 use Rattle.judge.specs.Judge.{unfit}
 use Rattle.module.specs.Act.{State, acted}
 use Rattle.module.specs.Run.{Lent, begun, ranBy}
-use Rattle.builders.specs.Lists.{encoded, rounds}
+use Rattle.builders.specs.Lists.{encoded, rounds, Each}
 use Rattle.builders.specs.Searches.{clearX}
 use Rattle.closing.specs.Closing.{marked, rank, placeAt, takeMask, copySlice, closeRound, clearSlice, closingList}
 use Rattle.closing.specs.Closing.{beyondMarks, closingItem, closingItems}
@@ -32,9 +33,8 @@ use Rattle.fields.specs.Line.{outsideAt}
 use Rattle.fields.specs.Value.{wordBit, value, Bytes}
 use Rattle.fields.specs.Marks.{MarkedBy}
 use Rattle.fields.specs.Closing.{closingRun, stateAfter, Closed}
-use Rattle.fields.proofs.Whole.{registers-ok}
-use Rattle.fields.proofs.Runs.{leftBy}
-use Rattle.fields.proofs.Kept.{end-good}
+use Rattle.fields.proofs.Runs.{Quiet, leftBy}
+use Rattle.fields.proofs.Kept.{end-good, modes-end, registers-end}
 use Rattle.fields.proofs.Built.{two-written, two-after, two-ran}
 use Rattle.fields.proofs.ClosingLists.{closing-quiet, closing-taken, marked-of, marks-numbered, all-counted, rank-of, none-counted, prefix-ran}
 use Rattle.fields.proofs.Carried.{closedBy, closed-at, closed-last}
@@ -109,17 +109,20 @@ module _ (a s n : ℕ) (f : FieldsApart a s n) (marks list items : List ℕ) (si
             ∙ prefix-ran front behind given begin (2 * n + (1 + 2 * n) * t)
             (length-append (rounds (copySlice a s) n) (rounds (closeRound s n) t) ∙ ap₂ (λ (x y : ℕ). x + y) (length-copies a s n) (length-close-rounds s n t))
 
-    module _ (memory : Bytes (lent .memory) 8192) (registers : Bytes (lent .registers) 96)
-        (supplied : unfit 32 (closingItemsLength + length (lent .items)) ≡ false) where
+    module _ (memory : Bytes (lent .memory) 8192) (registers : Bytes (lent .registers) 100)
+        (stands : wrongModes (modesOf (lent .registers)) ≡ false) (supplied : unfit 32 (closingItemsLength + length (lent .items)) ≡ false) where
       steps : length (closingList a s n) ≡ 10 + 19 * n
       steps = omega (arith, length-encoded (closingList a s n), closing-length a s n)
+
+      quiet : Each Quiet (closingList a s n)
+      quiet = closing-quiet a s n (f .fitsA) (f .fitsS)
 
       closing-ran : closingRun a s n marks list items lent ≡ leftBy lent end (10 + 19 * n) 9
       unfolding closingBuilt
       closing-ran =
           let items-length = closing-items-length marks in
-          two-ran (closingList a s n) (closing-quiet a s n (f .fitsA) (f .fitsS)) (omega (arith, steps, f .width)) (closingItems marks) list items _ no-fault lent
-          (memory .size) (registers .size) (ap (λ (k : ℕ). unfit 32 (k + length (lent .items))) items-length ∙ supplied)
+          two-ran (closingList a s n) quiet (omega (arith, steps, f .width)) (closingItems marks) list items _ no-fault lent
+          (memory .size) (registers .size) stands (ap (λ (k : ℕ). unfit 32 (k + length (lent .items))) items-length ∙ supplied)
           (omega (arith, items-length, closing-taken a s n))
           ∙ ap₂ (leftBy lent end) steps (closing-taken a s n)
 
@@ -129,14 +132,14 @@ module _ (a s n : ℕ) (f : FieldsApart a s n) (marks list items : List ℕ) (si
 
         closed-end : Closed a s n marks c which lent (leftBy lent end (10 + 19 * n) 9)
         closed-end =
-            let good = end-good (closingList a s n) lent memory registers given in
             record {
               done = refl;
               closed = λ k h. digitsOf-ext _ _ n (λ j l. slices .done j k l (omega (arith, count-le (marked marks) 256, all)) ∙ here k h j);
               zero = λ k h hk. digitsOf-ext _ (λ j. 0) n (λ j l. slices .done j k l hk ∙ gone k h j) ∙ zeros n;
               others = λ w b hw hb u. slices .rest w b hw hb u;
-              memory = good .mem-ok;
-              registers = registers-ok end good;
+              keepsModes = modes-end (closingList a s n) lent memory registers given quiet;
+              memory = end-good (closingList a s n) lent memory registers given .mem-ok;
+              registers = registers-end (closingList a s n) lent memory registers given quiet;
               quiet = refl;
             }
           where

@@ -14,9 +14,11 @@ use Rattle.bits.proofs.Binary.{Bit, off as bit-off, on as bit-on, low-bit, digi
 use Rattle.bits.proofs.Digits.{digitsOf-lt, digitsOf-at}
 use Rattle.bits.proofs.Items.{bitOf-bit}
 use Rattle.registers.specs.Logic.{functionBit, newX, newY}
+use Rattle.registers.specs.Modes.{modesOf, wrongModes}
 use Rattle.registers.specs.Rows.{registersOf}
 use Rattle.judge.specs.declared.Instruction.{Instruction}
-use Rattle.judge.specs.Judge.{takes, unfit}
+use Rattle.judge.specs.Instructions.{takes}
+use Rattle.judge.specs.Judge.{unfit}
 use Rattle.judge.proofs.FormLaws.{formed-by}
 use Rattle.module.specs.Act.{State, acted}
 use Rattle.module.specs.Run.{Lent, begun}
@@ -33,7 +35,7 @@ use Rattle.fields.specs.Value.{wordBit, value, listOf, Bytes, runOf}
 use Rattle.fields.specs.Marks.{greatestRun, Marked, Greatest, Marks}
 use Rattle.fields.proofs.LineLaws.{acted-at, ran-at, at-self}
 use Rattle.fields.proofs.Whole.{zero-item}
-use Rattle.fields.proofs.Runs.{Quiet, plain-quiet, taken-none}
+use Rattle.fields.proofs.Runs.{Quiet, taken-none}
 use Rattle.fields.proofs.Kept.{end-good, marks-logic, marks-map}
 use Rattle.fields.proofs.OrFlips.{withX, any-all}
 use Rattle.fields.proofs.Topmost.{Top, Some, top-more, top-there}
@@ -58,17 +60,17 @@ greatest-idle : (a n : ℕ) → Each (λ i. takes i ≡ false) (greatestList a n
 greatest-idle a n = each-greatest a n refl (λ g h. (refl, refl)) (λ e h. refl) refl
 
 quiet-flip : (e : ℕ) → Quiet (orFlip e)
-quiet-flip e = record { gives-none = refl; formed = formed-by _ refl refl refl }
+quiet-flip e = record { gives-none = refl; formed = λ m. formed-by m _ refl refl refl; keeps-modes = λ m. refl }
 
 greatest-quiet : (a n : ℕ) → a + n ≤ 256 → Each Quiet (greatestList a n)
 greatest-quiet a n fit =
-    each-greatest a n (plain-quiet clearX (plain-from (clearX .logic) refl))
+    each-greatest a n (plain-from (clearX .logic) refl .quiet)
     (λ g h. (at g (takeMarked g .logic) refl (omega arith), at g (without g .logic) refl (omega arith)))
     (λ e h. quiet-flip e)
-    (plain-quiet unmark (plain-from (unmark .logic) refl))
+    (plain-from (unmark .logic) refl .quiet)
   where
     at : (g t : ℕ) → ltb 4 (t / 16) ≡ false → g < 256 → Quiet (logicAt g t)
-    at g t choice h = plain-quiet (logicAt g t) (plain-at t choice g h)
+    at g t choice h = plain-at t choice g h .quiet
 
 -- ---- a round: of the greatest by the bits so far, those that have bit g; or all of them, if none has it
 
@@ -113,7 +115,7 @@ module _ (items : List ℕ) (s₀ : State) (g : ℕ) (hg : g < 256) (v : ℕ →
   unfolding actedWord afterBit sourceBit newY
   taken-at p hp =
       subst (λ (b : ℕ). At p s₁ (taken p b)) (low p)
-      (acted-at p hp (takeMarked g) items s _ (plain-at (takeMarked g .logic) refl g hg .local) (line p hp))
+      (acted-at p hp (takeMarked g) items s _ (plain-at (takeMarked g .logic) refl g hg .local (s .regs .modes)) (line p hp))
 
   -- X is 1 on every line if some marked word has the bit
   some : (p : ℕ) → p < 256 → Mark (Some (bitOf (s .regs .y)) v) (bitOf (s₂ .regs .x) p)
@@ -169,7 +171,7 @@ module _ (a n : ℕ) (fit : a + n ≤ 256) (items : List ℕ) (s₀ : State) whe
   }
     where
       at : (p : ℕ) → p < 256 → At p (acted clearX items s₀) (actedWord clearX (outsideAt p items) (wordOf p s₀))
-      at p hp = acted-at p hp clearX items s₀ (wordOf p s₀) (plain-from (clearX .logic) refl .local) (at-self p s₀)
+      at p hp = acted-at p hp clearX items s₀ (wordOf p s₀) (plain-from (clearX .logic) refl .local (s₀ .regs .modes)) (at-self p s₀)
 
       no-bits : (q : ℕ) → value (s₀ .mem) q a n / 2 ^ (n - 0) ≡ 0
       no-bits q =
@@ -237,8 +239,8 @@ module _ (a n : ℕ) (field : Field a n) (list : List ℕ) (room : greatestLengt
   unfolding greatestBuilt
   greatest-listed = list-built (greatestFault a n (length list)) (encoded (greatestList a n)) list greatest-fault
 
-  module _ (lent : Lent (List ℕ)) (memory : Bytes (lent .memory) 8192) (registers : Bytes (lent .registers) 96)
-      (supplied : unfit 32 (length (lent .items)) ≡ false) where
+  module _ (lent : Lent (List ℕ)) (memory : Bytes (lent .memory) 8192) (registers : Bytes (lent .registers) 100)
+      (stands : wrongModes (modesOf (lent .registers)) ≡ false) (supplied : unfit 32 (length (lent .items)) ≡ false) where
     pub greatest-marks : Marks (1 + 11 * n) 0 (Greatest a n lent) (λ y. replicate 32 0) lent (greatestRun a n list lent)
     greatest-marks =
         let steps : length (greatestList a n) ≡ 1 + 11 * n = omega (arith, length-greatest-rounds a n n) in
@@ -246,7 +248,7 @@ module _ (a n : ℕ) (field : Field a n) (list : List ℕ) (room : greatestLengt
         let s₀ = begun lent (registersOf (lent .registers)) in
         subst (λ (l : List ℕ). Marks (1 + 11 * n) 0 (Greatest a n lent) (λ y. replicate 32 0) lent (runOf l lent)) (sym greatest-listed)
         (subst₂ (λ (k t : ℕ). Marks k t (Greatest a n lent) (λ y. replicate 32 0) lent (runOf (encoded (greatestList a n)) lent)) steps idle
-        (marks-logic (greatestList a n) lent memory registers (lent .items)
+        (marks-logic (greatestList a n) lent memory registers (lent .items) stands
         (greatest-quiet a n (field .fits)) (greatest-logic a n) (omega arith) supplied (omega arith) (Greatest a n lent) (λ y. replicate 32 0)
         (λ p hp. mark-iff (mark-map (top-greatest a n lent p) (greatest-tops a n (field .fits) (lent .items) s₀ p hp)))
         (zero-item _ (end-good (greatestList a n) lent memory registers (lent .items) .x-ok)

@@ -9,10 +9,11 @@ use lib.ListN.{length, length-take, length-drop}
 use Rattle.bits.specs.Bits.{item}
 use Rattle.bits.specs.Search.{count}
 use Rattle.network.specs.Answer.{passedItem}
+use Rattle.registers.specs.declared.Modes.{Modes}
 use Rattle.registers.specs.declared.Registers.{Registers}
 use Rattle.judge.specs.declared.Instruction.{Instruction}
 use Rattle.judge.specs.declared.Lengths.{Lengths}
-use Rattle.judge.specs.Judge.{instructionAt, takes}
+use Rattle.judge.specs.Instructions.{instructionAt, takes}
 use Rattle.judge.specs.Steps.{Accepted}
 use Rattle.module.specs.Act.{State, partAt, heldItem, sourceItem, passedBy, after, acted}
 use Rattle.module.specs.Run.{Lent, begun, ranBy}
@@ -67,7 +68,7 @@ unfolding ranBy count acted
 ran-taken list items s zero = sym (add-zero (s .taken))
 ran-taken list items s (suc k) = omega (arith, ran-taken list items s k)
 
-module _ (lengths : Lengths) (lent : Lent Registers) (fit : Accepted lengths (lent .list)) (have : lengths .items ≡ length (lent .items))
+module _ (lengths : Lengths) (modes : Modes) (lent : Lent Registers) (fit : Accepted lengths modes (lent .list)) (have : lengths .items ≡ length (lent .items))
     (k : ℕ) (there : k < length (lent .list) / 8) (outside : takes (instructionAt (lent .list) k) ≡ true) where
   -- an outside source is the part of the items whose number is the count of those taken before
   pub takes-part : (r : Registers)

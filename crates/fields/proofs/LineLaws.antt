@@ -1,4 +1,4 @@
--- The projection: for each instruction with mode 0, line P of what it makes of a state is what the one-word machine makes of line P with the source bit of the line that its pass brings there; with no flip and no shift that is line P itself, and so for a list. Assumes nothing.
+-- The projection: for each instruction with mode 0, by byte 3 or by a mode register, line P of what it makes of a state is what the one-word machine makes of line P with the source bit of the line that its pass brings there; with no flip and no shift that is line P itself, and so for a list. Assumes nothing.
 use mathlib.Core.Path.{_≡_, refl, sym, ap, ap₂, subst, _∙_}
 use mathlib.Core.Bool.{Bool, true, false, cond, _&&_, _||_}
 use mathlib.Core.List.{List, [], _∷_}
@@ -23,12 +23,16 @@ use Rattle.network.specs.Pass.{source, passed}
 use Rattle.network.proofs.PassLaws.{unshifted-none, source-lt}
 use Rattle.network.proofs.TableRules.{none-permitted, shift}
 use Rattle.network.proofs.AnswerLaws.{bitOf-passedItem}
+use Rattle.registers.specs.declared.Modes.{Modes}
+use Rattle.registers.specs.declared.Registers.{Registers}
 use Rattle.registers.specs.Logic.{newX, newY, logicOf}
-use Rattle.registers.specs.Rows.{withM}
+use Rattle.registers.specs.Rows.{withM, withModes}
 use Rattle.registers.proofs.LogicLaws.{logic-X, logic-Y}
 use Rattle.judge.specs.declared.Instruction.{Instruction}
-use Rattle.judge.specs.Judge.{instructionAt, takes, faultOf}
-use Rattle.module.specs.Act.{State, modeOf, partAt, held, heldItem, sourceItem, passedBy, regsAfter, memAfter, acted}
+use Rattle.judge.specs.Instructions.{instructionAt, takes}
+use Rattle.judge.specs.Modes.{modesBy, modeOf}
+use Rattle.judge.specs.Judge.{faultOf}
+use Rattle.module.specs.Act.{State, partAt, held, heldItem, sourceItem, passedBy, regsAfter, memAfter, acted}
 use Rattle.module.specs.Run.{ranBy}
 use Rattle.module.proofs.ActLaws.{masks-by-line}
 use Rattle.builders.specs.Lists.{decoded, Each, none, more}
@@ -81,7 +85,8 @@ store-slice mem g mask f hg bits =
     updated-slice g mask f (table (cell mem)) (table (cell (stored mem 0 g mask f))) hg (store-updates-table mem 0 g mask f (omega arith) hg bits)
 
 -- a masked store: by the word's own M bit, from the source item's line across the flip
-pub masked-slice : (i : Instruction) (items : List ℕ) (s : State) → i .kind ≡ 3 → faultOf i .number ≡ 0 → i .mode ≡ 0 → i .addr < 256 → (w b : ℕ) → w < 256 → b < 256
+pub masked-slice : (i : Instruction) (items : List ℕ) (s : State) → i .kind ≡ 3 → faultOf (s .regs .modes) i .number ≡ 0 → modeOf (s .regs .modes) i ≡ 0 → i .addr < 256
+    → (w b : ℕ) → w < 256 → b < 256
     → table (cell (acted i items s .mem)) w b
     ≡ cond (eqb (bitOf (s .regs .m) w) 1 && eqb b (i .addr)) (flipped (sourceItem i (s .mem) items (s .regs) (s .taken)) (i .flip) w) (table (cell (s .mem)) w b)
 masked-slice i items s e good slice hg =
@@ -100,29 +105,29 @@ held-at p (suc (suc zero)) g s v hp hg a = a .bitX
 held-at p (suc (suc (suc n))) g s v hp hg a = a .bitY
 
 -- line p of the source item is the source bit of the word that line p is
-source-at : (p : ℕ) (i : Instruction) (items : List ℕ) (s : State) (v : Word) → p < 256 → Sliced i → At p s v
+source-at : (p : ℕ) (i : Instruction) (items : List ℕ) (s : State) (v : Word) → p < 256 → Sliced (s .regs .modes) i → At p s v
     → bitOf (sourceItem i (s .mem) items (s .regs) (s .taken)) p ≡ sourceBit i (outsideAt p items) v
 unfolding sourceItem heldItem sourceBit
 source-at p i items s v hp sl a = go (takes i)
   where
-    go : (t : Bool) → bitOf (cond t (partAt items (s .taken)) (held (i .source) (i .mode) (i .addr) (s .mem) (s .regs))) p
+    go : (t : Bool) → bitOf (cond t (partAt items (s .taken)) (held (i .source) (modeOf (s .regs .modes) i) (i .addr) (s .mem) (s .regs))) p
         ≡ cond t (outsideAt p items (v .taken)) (heldBit (i .source) (v .bits (i .addr)) (v .m) (v .x) (v .y))
     go true = ap (outsideAt p items) (a .count)
     go false =
         ap (λ (z : ℕ). bitOf (held (i .source) z (i .addr) (s .mem) (s .regs)) p) (sl .mode0)
         ∙ held-at p (i .source) (i .addr) s v hp (sl .inside) a
 
-pub from-lt : (i : Instruction) (p : ℕ) → Sliced i → p < 256 → cameFrom i p < 256
-from-lt i p sl hp =
+pub from-lt : (m : Modes) (i : Instruction) (p : ℕ) → Sliced m i → p < 256 → cameFrom i p < 256
+from-lt m i p sl hp =
     source-lt 8 (i .flip) (i .code / 16) (i .code % 16) p (shift (i .code) (sl .shifts) .within) (sl .flips) hp
 
 -- line p of the passed item is that of the word from which its bit came
-pub passed-from : (p : ℕ) (i : Instruction) (items : List ℕ) (s : State) (w : Word) → p < 256 → Sliced i → At (cameFrom i p) s w
+pub passed-from : (p : ℕ) (i : Instruction) (items : List ℕ) (s : State) (w : Word) → p < 256 → Sliced (s .regs .modes) i → At (cameFrom i p) s w
     → bitOf (passedBy i (s .mem) items (s .regs) (s .taken)) p ≡ sourceBit i (outsideAt (cameFrom i p) items) w
 unfolding passedBy passed
 passed-from p i items s w hp sl a =
     bitOf-passedItem (sourceItem i (s .mem) items (s .regs) (s .taken)) (i .flip) (i .code) p (sl .shifts) hp
-    ∙ source-at (cameFrom i p) i items s w (from-lt i p sl hp) sl a
+    ∙ source-at (cameFrom i p) i items s w (from-lt (s .regs .modes) i p sl hp) sl a
 
 -- with no shift, its bit comes from the line across the flip
 pub came-flipped : (i : Instruction) (p : ℕ) → i .code ≡ 0 → cameFrom i p ≡ bitXor p (i .flip)
@@ -133,13 +138,13 @@ came-flipped i p e = ap (λ (c : ℕ). source (i .flip) (c / 16) (c % 16) p) e �
 
 module _ (p : ℕ) (hp : p < 256) where
   -- what the passed item f does
-  module _ (i : Instruction) (f : List ℕ) (s : State) (v : Word) (sl : Sliced i) (a : At p s v) where
-    word-at : (b : ℕ) → b < 256 → table (cell (memAfter i (modeOf i (s .regs)) (s .mem) (s .regs .m) f)) p b
+  module _ (i : Instruction) (f : List ℕ) (s : State) (v : Word) (sl : Sliced (s .regs .modes) i) (a : At p s v) where
+    word-at : (b : ℕ) → b < 256 → table (cell (memAfter i (modeOf (s .regs .modes) i) (s .mem) (s .regs .m) f)) p b
         ≡ cond ((eqb (i .kind) 2 || (eqb (i .kind) 3 && eqb (v .m) 1)) && eqb b (i .addr)) (bitOf f p) (v .bits b)
     unfolding memAfter
     word-at b hb = go (eqb (i .kind) 2) (eqb (i .kind) 3)
       where
-        slice : (mask : ℕ → ℕ) → table (cell (stored (s .mem) (i .mode) (i .addr) mask (bitOf f))) p b
+        slice : (mask : ℕ → ℕ) → table (cell (stored (s .mem) (modeOf (s .regs .modes) i) (i .addr) mask (bitOf f))) p b
             ≡ cond (eqb (mask p) 1 && eqb b (i .addr)) (bitOf f p) (v .bits b)
         slice mask =
             ap (λ (z : ℕ). table (cell (stored (s .mem) z (i .addr) mask (bitOf f))) p b) (sl .mode0)
@@ -147,25 +152,31 @@ module _ (p : ℕ) (hp : p < 256) where
             ∙ ap (cond (eqb (mask p) 1 && eqb b (i .addr)) (bitOf f p)) (a .word b hb)
 
         go : (two three : Bool)
-            → table (cell (cond two (stored (s .mem) (i .mode) (i .addr) every (bitOf f))
-            (cond three (stored (s .mem) (i .mode) (i .addr) (bitOf (s .regs .m)) (bitOf f)) (s .mem)))) p b
+            → table (cell (cond two (stored (s .mem) (modeOf (s .regs .modes) i) (i .addr) every (bitOf f))
+            (cond three (stored (s .mem) (modeOf (s .regs .modes) i) (i .addr) (bitOf (s .regs .m)) (bitOf f)) (s .mem)))) p b
             ≡ cond ((two || (three && eqb (v .m) 1)) && eqb b (i .addr)) (bitOf f p) (v .bits b)
         go true three = slice every
         go false true = slice (bitOf (s .regs .m)) ∙ ap (λ (k : ℕ). cond (eqb k 1 && eqb b (i .addr)) (bitOf f p) (v .bits b)) (a .bitM)
         go false false = a .word b hb
 
-    regs-at : (zeroth first : Bool) → (zeroth ≡ true → first ≡ false)
-        → (bitOf ((cond zeroth (logicOf (s .regs) f (i .logic)) (cond first (withM (s .regs) f) (s .regs))) .m) p ≡ cond first (bitOf f p) (v .m))
-        × (bitOf ((cond zeroth (logicOf (s .regs) f (i .logic)) (cond first (withM (s .regs) f) (s .regs))) .x) p ≡ cond zeroth (newX (i .logic) (v .x) (v .y) (bitOf f p)) (v .x))
-        × (bitOf ((cond zeroth (logicOf (s .regs) f (i .logic)) (cond first (withM (s .regs) f) (s .regs))) .y) p ≡ cond zeroth (newY (i .logic) (v .y) (bitOf f p)) (v .y))
+    -- the registers, where the kind is 0, 1 or 6
+    abbrev regsBy : Bool → Bool → Bool → Registers
+    regsBy zeroth first sixth =
+        cond zeroth (logicOf (s .regs) f (i .logic)) (cond first (withM (s .regs) f) (cond sixth (withModes (s .regs) (modesBy i (s .regs .modes))) (s .regs)))
+
+    regs-at : (zeroth first sixth : Bool) → (zeroth ≡ true → first ≡ false)
+        → (bitOf (regsBy zeroth first sixth .m) p ≡ cond first (bitOf f p) (v .m))
+        × (bitOf (regsBy zeroth first sixth .x) p ≡ cond zeroth (newX (i .logic) (v .x) (v .y) (bitOf f p)) (v .x))
+        × (bitOf (regsBy zeroth first sixth .y) p ≡ cond zeroth (newY (i .logic) (v .y) (bitOf f p)) (v .y))
     unfolding logicOf
-    regs-at true first u = (
+    regs-at true first sixth u = (
       a .bitM ∙ sym (ap (λ (t : Bool). cond t (bitOf f p) (v .m)) (u refl)),
       logic-X (s .regs) f (i .logic) p hp ∙ ap₂ (λ (x y : ℕ). newX (i .logic) x y (bitOf f p)) (a .bitX) (a .bitY),
       logic-Y (s .regs) f (i .logic) p hp ∙ ap (λ (y : ℕ). newY (i .logic) y (bitOf f p)) (a .bitY),
     )
-    regs-at false true u = (refl, a .bitX, a .bitY)
-    regs-at false false u = (a .bitM, a .bitX, a .bitY)
+    regs-at false true sixth u = (refl, a .bitX, a .bitY)
+    regs-at false false true u = (a .bitM, a .bitX, a .bitY)
+    regs-at false false false u = (a .bitM, a .bitX, a .bitY)
 
     one-kind : eqb (i .kind) 0 ≡ true → eqb (i .kind) 1 ≡ false
     one-kind t = ne-eqb (i .kind) 1 (λ e. let z = eqb-true (i .kind) 0 t in omega arith)
@@ -175,12 +186,12 @@ module _ (p : ℕ) (hp : p < 256) where
     count-at false = add-zero (s .taken) ∙ a .count
 
   -- the law, for every instruction with mode 0: line p gets the source bit of the line from which its bit comes, by its own M bit
-  pub acted-from : (i : Instruction) (items : List ℕ) (s : State) (v w : Word) → Sliced i → At p s v → At (cameFrom i p) s w
+  pub acted-from : (i : Instruction) (items : List ℕ) (s : State) (v w : Word) → Sliced (s .regs .modes) i → At p s v → At (cameFrom i p) s w
       → At p (acted i items s) (afterBit i (sourceBit i (outsideAt (cameFrom i p) items) w) v)
   unfolding acted afterBit regsAfter
   acted-from i items s v w sl a b =
       let f = passedBy i (s .mem) items (s .regs) (s .taken) in
-      let r = regs-at i f s v sl a (eqb (i .kind) 0) (eqb (i .kind) 1) (one-kind i f s v sl a) in
+      let r = regs-at i f s v sl a (eqb (i .kind) 0) (eqb (i .kind) 1) (eqb (i .kind) 6) (one-kind i f s v sl a) in
       subst (λ (z : ℕ). At p (acted i items s) (afterBit i z v)) (passed-from p i items s w hp sl b)
       (record {
         word = word-at i f s v sl a;
@@ -191,28 +202,29 @@ module _ (p : ℕ) (hp : p < 256) where
       })
 
   -- with no flip and no shift that is line p itself
-  stays : (i : Instruction) → Local i → cameFrom i p ≡ p
-  stays i lc = came-flipped i p (lc .code0) ∙ ap (bitXor p) (lc .flip0) ∙ xor-zero-r p
+  stays : (m : Modes) (i : Instruction) → Local m i → cameFrom i p ≡ p
+  stays m i lc = came-flipped i p (lc .code0) ∙ ap (bitXor p) (lc .flip0) ∙ xor-zero-r p
 
-  sliced-of : (i : Instruction) → Local i → Sliced i
-  sliced-of i lc =
+  sliced-of : (m : Modes) (i : Instruction) → Local m i → Sliced m i
+  sliced-of m i lc =
       let f = lc .flip0 in
       let c = lc .code0 in
       record { mode0 = lc .mode0; inside = lc .inside; flips = omega arith; shifts = ap permitted c ∙ none-permitted }
 
   -- so each instruction that keeps to its line
-  pub acted-at : (i : Instruction) (items : List ℕ) (s : State) (v : Word) → Local i → At p s v → At p (acted i items s) (actedWord i (outsideAt p items) v)
+  pub acted-at : (i : Instruction) (items : List ℕ) (s : State) (v : Word) → Local (s .regs .modes) i → At p s v → At p (acted i items s) (actedWord i (outsideAt p items) v)
   unfolding actedWord
   acted-at i items s v lc a =
-      subst (λ (q : ℕ). At p (acted i items s) (afterBit i (sourceBit i (outsideAt q items) v) v)) (stays i lc)
-      (acted-from i items s v v (sliced-of i lc) a (subst (λ (q : ℕ). At q s v) (sym (stays i lc)) a))
+      let m = s .regs .modes in
+      subst (λ (q : ℕ). At p (acted i items s) (afterBit i (sourceBit i (outsideAt q items) v) v)) (stays m i lc)
+      (acted-from i items s v v (sliced-of m i lc) a (subst (λ (q : ℕ). At q s v) (sym (stays m i lc)) a))
 
-  -- and for a list
-  pub ran-at : (l : List Instruction) (items : List ℕ) (s : State) (v : Word) → Each Local l → At p s v
+  -- and a list of such ones, whatever the mode registers hold
+  pub ran-at : (l : List Instruction) (items : List ℕ) (s : State) (v : Word) → Each (λ i. (m : Modes) → Local m i) l → At p s v
       → At p (folded (λ i. acted i items) l s) (ranWord l (outsideAt p items) v)
   unfolding folded
   ran-at [] items s v none a = a
-  ran-at (i ∷ l) items s v (more h e) a = ran-at l items (acted i items s) (actedWord i (outsideAt p items) v) e (acted-at i items s v h a)
+  ran-at (i ∷ l) items s v (more h e) a = ran-at l items (acted i items s) (actedWord i (outsideAt p items) v) e (acted-at i items s v (h (s .regs .modes)) a)
 
 pub at-self : (p : ℕ) (s : State) → At p s (wordOf p s)
 at-self p s = record { word = λ b h. refl; bitM = refl; bitX = refl; bitY = refl; count = refl }

@@ -15,52 +15,49 @@ use Rattle.bits.proofs.Items.{bitOf-bit}
 use Rattle.bits.proofs.Xor.{xor-mirror}
 use Rattle.memory.specs.Table.{table}
 use Rattle.memory.specs.Memory.{cell}
+use Rattle.network.specs.Shifts.{permitted}
 use Rattle.network.specs.Pass.{unshifted, source}
 use Rattle.network.proofs.PassLaws.{unshifted-lt}
 use Rattle.network.proofs.TableRules.{none-permitted, pair-permitted}
 use Rattle.registers.specs.Logic.{functionBit, newX, newY}
 use Rattle.judge.specs.declared.Instruction.{Instruction}
+use Rattle.judge.specs.Modes.{modeOf}
 use Rattle.judge.proofs.FormLaws.{formed-by, shift-passes}
 use Rattle.module.specs.Act.{State, partAt, acted}
 use Rattle.builders.specs.Lists.{takeY, storeAt}
 use Rattle.builders.specs.Searches.{clearX}
 use Rattle.closing.specs.Closing.{takeX, takeMask, takeFurther, storeMasked, shiftMasked}
 use Rattle.builders.specs.Word.{Word, sourceBit, afterBit}
-use Rattle.fields.specs.Line.{At, wordOf, outsideAt, cameFrom, Sliced}
+use Rattle.fields.specs.Line.{At, wordOf, outsideAt, cameFrom}
 use Rattle.fields.proofs.LineLaws.{acted-from, came-flipped, at-self}
 use Rattle.fields.proofs.Runs.{Quiet}
 use Rattle.fields.proofs.OrFlips.{withX}
 use Rattle.fields.proofs.Carried.{carried}
 
--- ---- they are accepted, and have mode 0
+-- ---- they are accepted
 
-sliced-at : (k s t g f l : ℕ) → g < 256 → f < 256 → Sliced (record { kind = k; source = s; tag = t; mode = 0; addr = g; flip = f; code = 0; logic = l })
-sliced-at k s t g f l hg hf = record { mode0 = refl; inside = hg; flips = hf; shifts = none-permitted }
-
-sliced-shift : (s t g f l j : ℕ) → g < 256 → f < 256 → j < 8
-    → Sliced (record { kind = 0; source = s; tag = t; mode = 0; addr = g; flip = f; code = 16 * 8 + j; logic = l })
-sliced-shift s t g f l j hg hf h =
-    record { mode0 = refl; inside = hg; flips = hf; shifts = pair-permitted 8 j h (omega arith) }
+shifts-by : (t : ℕ) → t < 8 → permitted (16 * 8 + t) ≡ true
+shifts-by t h = pair-permitted 8 t h (omega arith)
 
 pub quiet-take-mask : Quiet takeMask
-quiet-take-mask = record { gives-none = refl; formed = formed-by _ refl refl refl }
+quiet-take-mask = record { gives-none = refl; formed = λ m. formed-by m _ refl refl refl; keeps-modes = λ m. refl }
 
 pub quiet-take-y : Quiet takeY
-quiet-take-y = record { gives-none = refl; formed = formed-by _ refl refl refl }
+quiet-take-y = record { gives-none = refl; formed = λ m. formed-by m _ refl refl refl; keeps-modes = λ m. refl }
 
 pub quiet-store-x : (g : ℕ) → Quiet (storeAt 2 g)
-quiet-store-x g = record { gives-none = refl; formed = formed-by _ refl refl refl }
+quiet-store-x g = record { gives-none = refl; formed = λ m. formed-by m _ refl refl refl; keeps-modes = λ m. refl }
 
 pub quiet-store-masked : (f g : ℕ) → Quiet (storeMasked f g)
-quiet-store-masked f g = record { gives-none = refl; formed = formed-by _ refl refl refl }
+quiet-store-masked f g = record { gives-none = refl; formed = λ m. formed-by m _ refl refl refl; keeps-modes = λ m. refl }
 
 pub quiet-take-further : (t g : ℕ) → t < 8 → Quiet (takeFurther t g)
 quiet-take-further t g h =
-    record { gives-none = refl; formed = formed-by (takeFurther t g) (shift-passes (takeFurther t g) refl refl (pair-permitted 8 t h (omega arith))) refl refl }
+    record { gives-none = refl; formed = λ m. formed-by m (takeFurther t g) (shift-passes (takeFurther t g) refl refl (shifts-by t h)) refl refl; keeps-modes = λ m. refl }
 
 pub quiet-shift-masked : (t : ℕ) → t < 8 → Quiet (shiftMasked t)
 quiet-shift-masked t h =
-    record { gives-none = refl; formed = formed-by (shiftMasked t) (shift-passes (shiftMasked t) refl refl (pair-permitted 8 t h (omega arith))) refl refl }
+    record { gives-none = refl; formed = λ m. formed-by m (shiftMasked t) (shift-passes (shiftMasked t) refl refl (shifts-by t h)) refl refl; keeps-modes = λ m. refl }
 
 -- ---- where a line comes from
 
@@ -134,8 +131,10 @@ both-tests false true x y = refl
 both-tests false false x y = refl
 
 module _ (items : List ℕ) (s : State) (p : ℕ) (hp : p < 256) where
-  acts : (i : Instruction) → Sliced i → At p (acted i items s) (afterBit i (sourceBit i (outsideAt (cameFrom i p) items) (wordOf (cameFrom i p) s)) (wordOf p s))
-  acts i sl = acted-from p hp i items s (wordOf p s) (wordOf (cameFrom i p) s) sl (at-self p s) (at-self (cameFrom i p) s)
+  acts : (i : Instruction) → modeOf (s .regs .modes) i ≡ 0 → i .addr < 256 → i .flip < 256 → permitted (i .code) ≡ true
+      → At p (acted i items s) (afterBit i (sourceBit i (outsideAt (cameFrom i p) items) (wordOf (cameFrom i p) s)) (wordOf p s))
+  acts i e hg hf h =
+      acted-from p hp i items s (wordOf p s) (wordOf (cameFrom i p) s) (record { mode0 = e; inside = hg; flips = hf; shifts = h }) (at-self p s) (at-self (cameFrom i p) s)
 
   keeps-line : (i : Instruction) → i .code ≡ 0 → i .flip ≡ 0 → cameFrom i p ≡ p
   keeps-line i c f = came-flipped i p c ∙ ap (bitXor p) f ∙ xor-zero-r p
@@ -154,7 +153,7 @@ module _ (items : List ℕ) (s : State) (p : ℕ) (hp : p < 256) where
   pub take-x : (g : ℕ) → g < 256 → At p (acted (takeX g) items s) (withX (bitAt s p g) (wordOf p s))
   unfolding afterBit sourceBit newX newY
   take-x g hg =
-      let e = acts (takeX g) (sliced-at 0 0 1 g 0 10 hg (omega arith)) in
+      let e = acts (takeX g) refl hg (omega arith) none-permitted in
       record {
         word = e .word;
         bitM = e .bitM;
@@ -167,7 +166,7 @@ module _ (items : List ℕ) (s : State) (p : ℕ) (hp : p < 256) where
   pub take-further : (t g : ℕ) → t < 8 → g < 256 → At p (acted (takeFurther t g) items s) (withX (bitAt s (bitXor (unshifted 8 t p) 255) g) (wordOf p s))
   unfolding afterBit sourceBit newX newY
   take-further t g ht hg =
-      let e = acts (takeFurther t g) (sliced-shift 0 1 g 255 10 t hg (omega arith) ht) in
+      let e = acts (takeFurther t g) refl hg (omega arith) (shifts-by t ht) in
       record {
         word = e .word;
         bitM = e .bitM;
@@ -180,7 +179,7 @@ module _ (items : List ℕ) (s : State) (p : ℕ) (hp : p < 256) where
   pub clear-x : At p (acted clearX items s) (withX 0 (wordOf p s))
   unfolding afterBit sourceBit newX newY
   clear-x =
-      let e = acts clearX (sliced-at 0 2 0 0 0 0 (omega arith) (omega arith)) in
+      let e = acts clearX refl (omega arith) (omega arith) none-permitted in
       record { word = e .word; bitM = e .bitM; bitX = e .bitX ∙ zeroed (bit-x p) (bit-x _); bitY = e .bitY; count = e .count }
 
   -- where Y is 1, X takes X of the words before
@@ -188,7 +187,7 @@ module _ (items : List ℕ) (s : State) (p : ℕ) (hp : p < 256) where
       → At p (acted (shiftMasked t) items s) (withX (carried (bitOf (s .regs .y)) (before t) (bitOf (s .regs .x)) p) (wordOf p s))
   unfolding afterBit sourceBit newX newY carried before
   shift-masked t ht =
-      let e = acts (shiftMasked t) (sliced-shift 2 0 0 0 58 t (omega arith) (omega arith) ht) in
+      let e = acts (shiftMasked t) refl (omega arith) (omega arith) (shifts-by t ht) in
       let c = came-shifted (shiftMasked t) t ht refl ∙ xor-zero-r (unshifted 8 t p) in
       record {
         word = e .word;
@@ -202,7 +201,7 @@ module _ (items : List ℕ) (s : State) (p : ℕ) (hp : p < 256) where
   pub take-mask : At p (acted takeMask items s) (takenM (outsideAt p items (s .taken)) (wordOf p s))
   unfolding afterBit sourceBit newX newY
   take-mask =
-      let e = acts takeMask (sliced-at 1 4 0 0 0 0 (omega arith) (omega arith)) in
+      let e = acts takeMask refl (omega arith) (omega arith) none-permitted in
       record {
         word = e .word;
         bitM = e .bitM ∙ ap (λ (q : ℕ). outsideAt q items (s .taken)) (keeps-line takeMask refl refl);
@@ -214,7 +213,7 @@ module _ (items : List ℕ) (s : State) (p : ℕ) (hp : p < 256) where
   pub take-y : At p (acted takeY items s) (takenY (outsideAt p items (s .taken)) (wordOf p s))
   unfolding afterBit sourceBit newX newY
   take-y =
-      let e = acts takeY (sliced-at 0 4 0 0 0 26 (omega arith) (omega arith)) in
+      let e = acts takeY refl (omega arith) (omega arith) none-permitted in
       record {
         word = e .word;
         bitM = e .bitM;
@@ -228,7 +227,7 @@ module _ (items : List ℕ) (s : State) (p : ℕ) (hp : p < 256) where
   pub store-x : (g : ℕ) → g < 256 → At p (acted (storeAt 2 g) items s) (withBit g (bitOf (s .regs .x) p) (wordOf p s))
   unfolding afterBit sourceBit newX newY
   store-x g hg =
-      let e = acts (storeAt 2 g) (sliced-at 2 2 1 g 0 0 hg (omega arith)) in
+      let e = acts (storeAt 2 g) refl hg (omega arith) none-permitted in
       record {
         word = λ b hb. e .word b hb ∙ ap (λ (q : ℕ). cond (eqb b g) (bitOf (s .regs .x) q) (bitAt s p b)) (keeps-line (storeAt 2 g) refl refl);
         bitM = e .bitM;
@@ -243,7 +242,7 @@ module _ (items : List ℕ) (s : State) (p : ℕ) (hp : p < 256) where
       (withBit g (cond (eqb (bitOf (s .regs .m) p) 1) (bitOf (s .regs .x) (bitXor p f)) (bitAt s p g)) (wordOf p s))
   unfolding afterBit sourceBit newX newY
   store-masked f g hf hg =
-      let e = acts (storeMasked f g) (sliced-at 3 2 1 g f 0 hg hf) in
+      let e = acts (storeMasked f g) refl hg hf none-permitted in
       let t = eqb (bitOf (s .regs .m) p) 1 in
       record {
         word = λ b hb. e .word b hb

@@ -12,6 +12,7 @@ use Rattle.bits.specs.Bits.{bitOf}
 use Rattle.bits.proofs.Items.{bitOf-bit}
 use Rattle.bits.proofs.Xor.{xor-assoc, xor-twice}
 use Rattle.network.proofs.TableRules.{none-permitted}
+use Rattle.registers.specs.declared.Modes.{Modes}
 use Rattle.registers.specs.Logic.{functionBit, newX, newY}
 use Rattle.module.specs.Act.{State, acted}
 use Rattle.builders.specs.Lists.{rounds}
@@ -78,15 +79,15 @@ pub record AnyAt (P : ℕ → Type 0) (s t : State) : Type 0 where
   pub same : (p : ℕ) (v : Word) → p < 256 → At p s v → At p t (withX (bitOf (t .regs .x) p) v)
   pub marks : (p : ℕ) → p < 256 → Mark (P p) (bitOf (t .regs .x) p)
 
-sliced : (k : ℕ) → k < 8 → Sliced (orFlip k)
-sliced k h = record { mode0 = refl; inside = omega arith; flips = pow-lt h; shifts = none-permitted }
+sliced : (k : ℕ) → k < 8 → (m : Modes) → Sliced m (orFlip k)
+sliced k h m = record { mode0 = refl; inside = omega arith; flips = pow-lt h; shifts = none-permitted }
 
 flip-at : (k : ℕ) → k < 8 → (items : List ℕ) (s : State) (p : ℕ) (v : Word) → p < 256 → At p s v
     → At p (acted (orFlip k) items s) (withX (functionBit 14 (v .x) (bitOf (s .regs .x) (bitXor p (2 ^ k)))) v)
 unfolding afterBit sourceBit newX newY
 flip-at k h items s p v hp a =
     subst (λ (q : ℕ). At p (acted (orFlip k) items s) (withX (functionBit 14 (v .x) (bitOf (s .regs .x) q)) v)) (came-flipped (orFlip k) p refl)
-    (acted-from p hp (orFlip k) items s v (wordOf (cameFrom (orFlip k) p) s) (sliced k h) a (at-self (cameFrom (orFlip k) p) s))
+    (acted-from p hp (orFlip k) items s v (wordOf (cameFrom (orFlip k) p) s) (sliced k h (s .regs .modes)) a (at-self (cameFrom (orFlip k) p) s))
 
 module _ (items : List ℕ) (s : State) where
   any-more : (k : ℕ) (t : State) → k < 8 → AnyAt (λ p. Near (bitOf (s .regs .x)) p k) s t

@@ -10,16 +10,20 @@ use lib.Dec.{eqb, ltb}
 use lib.ListN.{length}
 use Rattle.bits.specs.Search.{count}
 use Rattle.bits.proofs.Search.{count-none}
+use Rattle.registers.specs.declared.Modes.{Modes}
+use Rattle.registers.specs.Modes.{modesOf, wrongModes}
 use Rattle.registers.specs.Rows.{registersOf, bytesOf}
 use Rattle.judge.specs.declared.Instruction.{Instruction}
 use Rattle.judge.specs.declared.Lengths.{Lengths}
 use Rattle.judge.specs.declared.Answer.{Answer}
-use Rattle.judge.specs.Judge.{instructionAt, takes, gives, unfit, faultOf, judged}
+use Rattle.judge.specs.Instructions.{instructionAt, takes, gives}
+use Rattle.judge.specs.Modes.{modesBy, modesAfter}
+use Rattle.judge.specs.Judge.{unfit, faultOf, judged}
 use Rattle.judge.proofs.Accepted.{run-of}
 use Rattle.judge.proofs.RowLaws.{or-none}
 use Rattle.module.specs.Act.{State, passedBy, acted}
 use Rattle.module.specs.Run.{Lent, Left, runLengths, begun}
-use Rattle.module.proofs.ActLaws.{no-out}
+use Rattle.module.proofs.ActLaws.{no-out, modes-acted}
 use Rattle.module.proofs.RunLaws.{ran-done}
 use Rattle.builders.specs.Lists.{encoded, decoded, Each, none, more}
 use Rattle.builders.proofs.ListLaws.{length-encoded, decoded-encoded}
@@ -30,20 +34,17 @@ use Rattle.fields.specs.Value.{runOf}
 use Rattle.builders.proofs.Folds.{each-at, each-map}
 use Rattle.fields.proofs.LineLaws.{ran-folded}
 
--- An instruction that gives nothing and that no row refuses.
+-- An instruction that gives nothing and, whatever the mode registers hold, is not refused and leaves them.
 pub record Quiet (i : Instruction) : Type 0 where
   pub gives-none : gives i ≡ false
-  pub formed : faultOf i .number ≡ 0
+  pub formed : (m : Modes) → faultOf m i .number ≡ 0
+  pub keeps-modes : (m : Modes) → modesBy i m ≡ m
 
 -- One that also keeps to its line and takes nothing.
 pub record Plain (i : Instruction) : Type 0 where
-  pub local : Local i
+  pub local : (m : Modes) → Local m i
   pub takes-none : takes i ≡ false
-  pub gives-none : gives i ≡ false
-  pub formed : faultOf i .number ≡ 0
-
-pub plain-quiet : (i : Instruction) → Plain i → Quiet i
-plain-quiet i h = record { gives-none = h .gives-none; formed = h .formed }
+  pub quiet : Quiet i
 
 -- ---- counts
 
@@ -92,6 +93,12 @@ folded-out (i ∷ l) items s (more h e) =
     folded-out l items (acted i items s) e
     ∙ sym (no-out i (s .out) (s .given) (passedBy i (s .mem) items (s .regs) (s .taken)) (s .regs .y) (h .gives-none))
 
+-- and the mode registers are as before
+pub folded-modes : (l : List Instruction) (items : List ℕ) (s : State) → Each Quiet l → folded (λ i. acted i items) l s .regs .modes ≡ s .regs .modes
+unfolding folded
+folded-modes [] items s none = refl
+folded-modes (i ∷ l) items s (more h e) = folded-modes l items (acted i items s) e ∙ modes-acted i items s ∙ h .keeps-modes (s .regs .modes)
+
 module _ (l : List Instruction) (quiet : Each Quiet l) (few : length l ≤ 4096) where
   eighth : length (encoded l) / 8 ≡ length l
   eighth = omega (arith, length-encoded l)
@@ -109,11 +116,12 @@ module _ (l : List Instruction) (quiet : Each Quiet l) (few : length l ≤ 4096)
   taken-all = sym (taken-decoded (encoded l) (length (encoded l) / 8)) ∙ ap takenBy back
 
   -- number 0, as many steps as instructions, as many taken as take one, and nothing given
-  pub judged-quiet : (lengths : Lengths) → lengths .memory ≡ 8192 → lengths .registers ≡ 96 → unfit 32 (lengths .items) ≡ false → 32 * takenBy l ≤ lengths .items
-      → judged lengths (encoded l) ≡ record { number = 0; place = 0; byte = 0; steps = length l; taken = takenBy l; given = 0 }
-  judged-quiet lengths hm hr hi enough =
-      run-of lengths (encoded l) hm hr (fits 8 (length (encoded l)) (omega (arith, length-encoded l)) (omega (arith, length-encoded l))) hi
-      (λ j h. quiet-at j h .formed)
+  pub judged-quiet : (lengths : Lengths) (m : Modes) → lengths .memory ≡ 8192 → lengths .registers ≡ 100 → wrongModes m ≡ false
+      → unfit 32 (lengths .items) ≡ false → 32 * takenBy l ≤ lengths .items
+      → judged lengths m (encoded l) ≡ record { number = 0; place = 0; byte = 0; steps = length l; taken = takenBy l; given = 0 }
+  judged-quiet lengths m hm hr stands hi enough =
+      run-of lengths m (encoded l) hm hr (fits 8 (length (encoded l)) (omega (arith, length-encoded l)) (omega (arith, length-encoded l))) hi stands
+      (λ j h. quiet-at j h .formed (modesAfter (encoded l) m j))
       (λ j h t. let c = count-beyond (λ k. takes (instructionAt (encoded l) k)) j (length (encoded l) / 8) h t in omega (arith, taken-all))
       (λ j h t. absurd (true≢false (sym t ∙ quiet-at j h .gives-none)))
       ∙ (λ t. record { number = 0; place = 0; byte = 0; steps = eighth t; taken = taken-all t; given = no-room t })
@@ -122,15 +130,15 @@ module _ (l : List Instruction) (quiet : Each Quiet l) (few : length l ≤ 4096)
       no-room = count-none (λ k. gives (instructionAt (encoded l) k)) (length (encoded l) / 8) (λ k h. quiet-at k h .gives-none)
 
   -- ItemLaws says what each instruction of the fold takes
-  pub ran-quiet : (lent : Lent (List ℕ)) → length (lent .memory) ≡ 8192 → length (lent .registers) ≡ 96 → unfit 32 (length (lent .items)) ≡ false
-      → 32 * takenBy l ≤ length (lent .items)
+  pub ran-quiet : (lent : Lent (List ℕ)) → length (lent .memory) ≡ 8192 → length (lent .registers) ≡ 100 → wrongModes (modesOf (lent .registers)) ≡ false
+      → unfit 32 (length (lent .items)) ≡ false → 32 * takenBy l ≤ length (lent .items)
       → runOf (encoded l) lent ≡ leftBy lent (folded (λ i. acted i (lent .items)) l (begun lent (registersOf (lent .registers)))) (length l) (takenBy l)
-  ran-quiet lent hm hr hi enough =
+  ran-quiet lent hm hr stands hi enough =
       let start = begun lent (registersOf (lent .registers)) in
       let s = folded (λ i. acted i (lent .items)) l start in
       let a : Answer = record { number = 0; place = 0; byte = 0; steps = length l; taken = takenBy l; given = 0 } in
       let given : Lent (List ℕ) = record { memory = lent .memory; registers = lent .registers; list = encoded l; items = lent .items; out = lent .out } in
-      sym (ran-done given a (sym (judged-quiet (runLengths given) hm hr hi enough)) refl (registersOf (lent .registers)) s (bytesOf (s .regs)) refl
+      sym (ran-done given a (sym (judged-quiet (runLengths given) (modesOf (lent .registers)) hm hr stands hi enough)) refl (registersOf (lent .registers)) s (bytesOf (s .regs)) refl
       (sym (ran-folded (encoded l) (lent .items) start (length (encoded l) / 8) ∙ ap (λ (z : List Instruction). folded (λ i. acted i (lent .items)) z start) back))
       refl)
       ∙ ap (λ (z : List ℕ). record { memory = s .mem; registers = bytesOf (s .regs); out = z; answer = a }) (folded-out l (lent .items) start quiet)
@@ -146,10 +154,11 @@ taken-none (more h e) = ap₂ (λ (t : Bool) (n : ℕ). cond t 1 0 + n) h (taken
 
 module _ (l : List Instruction) (plain : Each Plain l) (few : length l ≤ 4096) where
   -- nothing is taken either
-  pub ran-plain : (lent : Lent (List ℕ)) → length (lent .memory) ≡ 8192 → length (lent .registers) ≡ 96 → unfit 32 (length (lent .items)) ≡ false
+  pub ran-plain : (lent : Lent (List ℕ)) → length (lent .memory) ≡ 8192 → length (lent .registers) ≡ 100 → wrongModes (modesOf (lent .registers)) ≡ false
+      → unfit 32 (length (lent .items)) ≡ false
       → runOf (encoded l) lent ≡ leftBy lent (folded (λ i. acted i (lent .items)) l (begun lent (registersOf (lent .registers)))) (length l) 0
-  ran-plain lent hm hr hi =
+  ran-plain lent hm hr stands hi =
       let s = folded (λ i. acted i (lent .items)) l (begun lent (registersOf (lent .registers))) in
       let none = taken-none (each-map (λ i h. h .takes-none) plain) in
-      ran-quiet l (each-map plain-quiet plain) few lent hm hr hi (omega arith)
+      ran-quiet l (each-map (λ i h. h .quiet) plain) few lent hm hr stands hi (omega arith)
       ∙ ap (leftBy lent s (length l)) none

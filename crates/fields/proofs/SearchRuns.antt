@@ -11,9 +11,12 @@ use lib.ListN.{length, length-append}
 use Rattle.bits.specs.Bits.{digit, bitOf}
 use Rattle.bits.proofs.Binary.{digit-bit}
 use Rattle.bits.proofs.Items.{bitOf-bit, bitOf-pack}
+use Rattle.registers.specs.declared.Modes.{Modes}
+use Rattle.registers.specs.Modes.{modesOf, wrongModes}
 use Rattle.registers.specs.Rows.{registersOf}
 use Rattle.judge.specs.declared.Instruction.{Instruction}
-use Rattle.judge.specs.Judge.{unfit, takes}
+use Rattle.judge.specs.Instructions.{takes}
+use Rattle.judge.specs.Judge.{unfit}
 use Rattle.judge.proofs.FormLaws.{formed-by}
 use Rattle.module.specs.Act.{State, acted}
 use Rattle.module.specs.Run.{Lent, begun}
@@ -33,9 +36,9 @@ use Rattle.fields.specs.Value.{value, Bytes, runOf}
 use Rattle.fields.specs.Marks.{lentWith, runOfTwo, equalRun, lessRun, Marks}
 use Rattle.fields.proofs.LineLaws.{ran-at, at-self}
 use Rattle.fields.proofs.Whole.{bytes-ext, Good}
-use Rattle.fields.proofs.Runs.{Quiet, Plain, plain-quiet}
+use Rattle.fields.proofs.Runs.{Quiet, Plain}
 use Rattle.fields.proofs.Kept.{end-good, marks-logic}
-use Rattle.fields.proofs.Plain.{local, plain-from, plain-at}
+use Rattle.fields.proofs.Plain.{plain-from, plain-at}
 use Rattle.fields.proofs.Built.{two-written, two-run}
 
 -- ---- the lists
@@ -43,11 +46,11 @@ use Rattle.fields.proofs.Built.{two-written, two-run}
 -- logic that keeps to its line, gives nothing and is not refused
 record Fit (i : Instruction) : Type 0 where
   logic : i .kind ≡ 0
-  local : Local i
+  local : (m : Modes) → Local m i
   quiet : Quiet i
 
 fit-plain : (i : Instruction) → i .kind ≡ 0 → Plain i → Fit i
-fit-plain i e p = record { logic = e; local = p .local; quiet = plain-quiet i p }
+fit-plain i e p = record { logic = e; local = p .local; quiet = p .quiet }
 
 fit-from : (t : ℕ) → ltb 4 (t / 16) ≡ false → Fit (logicFrom 2 t)
 fit-from t choice = fit-plain (logicFrom 2 t) refl (plain-from t choice)
@@ -59,8 +62,8 @@ fit-take : Fit takeY
 fit-take =
     record {
       logic = refl;
-      local = local 0 4 0 0 26 (omega arith);
-      quiet = record { gives-none = refl; formed = formed-by takeY refl refl refl };
+      local = λ m. record { mode0 = refl; flip0 = refl; code0 = refl; inside = omega arith };
+      quiet = record { gives-none = refl; formed = λ m. formed-by m takeY refl refl refl; keeps-modes = λ m. refl };
     }
 
 fit-started : (less : Bool) → Fit (started less)
@@ -107,8 +110,8 @@ module _ (less : Bool) (a n number : ℕ) (field : Field a n) (small : number < 
       two-written (encoded (searchList less a n)) (numberItems number n) list items (searchFault a n number (length list) (length items))
       (searchLength n) (itemsLength n) sound (search-length less a n) (number-length number n)
 
-  module _ (lent : Lent (List ℕ)) (memory : Bytes (lent .memory) 8192) (registers : Bytes (lent .registers) 96)
-      (supplied : unfit 32 (itemsLength n + length (lent .items)) ≡ false) where
+  module _ (lent : Lent (List ℕ)) (memory : Bytes (lent .memory) 8192) (registers : Bytes (lent .registers) 100)
+      (stands : wrongModes (modesOf (lent .registers)) ≡ false) (supplied : unfit 32 (itemsLength n + length (lent .items)) ≡ false) where
     abbrev begin : State
     begin = begun lent (registersOf (lent .registers))
 
@@ -156,7 +159,7 @@ module _ (less : Bool) (a n number : ℕ) (field : Field a n) (small : number < 
     ran : Marks (length (searchList less a n)) (takenBy (searchList less a n)) Compared (λ y. y) lent
         (runOf (encoded (searchList less a n)) (lentWith given lent))
     ran =
-        marks-logic (searchList less a n) lent memory registers given
+        marks-logic (searchList less a n) lent memory registers given stands
         (each-map (λ i f. f .quiet) fit) (each-map (λ i f. f .logic) fit) (omega (arith, steps, field .width))
         (ap (unfit 32) lengths ∙ supplied) (omega (arith, lengths, search-taken less a n)) Compared (λ y. y)
         (λ w h. subst (λ (y : ℕ). (y ≡ 1) ↔ Compared w) (sym (line w h .bitY)) (mark-iff (found w h .mark)))
@@ -186,10 +189,10 @@ module _ (a n : ℕ) (field : Field a n) where
     pub less-written : lessBuilt a n number list items .answer ≡ record { number = 0; list = searchLength n; items = itemsLength n }
     less-written = search-written true a n number field small list items room roomItems
 
-    module _ (lent : Lent (List ℕ)) (memory : Bytes (lent .memory) 8192) (registers : Bytes (lent .registers) 96)
-        (supplied : unfit 32 (itemsLength n + length (lent .items)) ≡ false) where
+    module _ (lent : Lent (List ℕ)) (memory : Bytes (lent .memory) 8192) (registers : Bytes (lent .registers) 100)
+        (stands : wrongModes (modesOf (lent .registers)) ≡ false) (supplied : unfit 32 (itemsLength n + length (lent .items)) ≡ false) where
       pub equal-marks : Marks (2 + 3 * n) n (λ w. value (lent .memory) w a n ≡ number) (λ y. y) lent (equalRun a n number list items lent)
-      equal-marks = search-marks false a n number field small list items room roomItems lent memory registers supplied
+      equal-marks = search-marks false a n number field small list items room roomItems lent memory registers stands supplied
 
       pub less-marks : Marks (2 + 3 * n) n (λ w. value (lent .memory) w a n < number) (λ y. y) lent (lessRun a n number list items lent)
-      less-marks = search-marks true a n number field small list items room roomItems lent memory registers supplied
+      less-marks = search-marks true a n number field small list items room roomItems lent memory registers stands supplied

@@ -13,12 +13,13 @@ use Rattle.bits.proofs.Binary.{Bit}
 use Rattle.bits.proofs.Digits.{digitsOf-ext}
 use Rattle.bits.proofs.Items.{bitOf-bit, bitOf-pack}
 use Rattle.bits.proofs.Search.{count-le}
+use Rattle.registers.specs.Modes.{modesOf, wrongModes}
 use Rattle.registers.specs.Rows.{registersOf}
 use Rattle.judge.specs.declared.Instruction.{Instruction}
 use Rattle.judge.specs.Judge.{unfit}
 use Rattle.module.specs.Act.{State, acted}
 use Rattle.module.specs.Run.{Lent, begun, ranBy}
-use Rattle.builders.specs.Lists.{encoded, rounds}
+use Rattle.builders.specs.Lists.{encoded, rounds, Each}
 use Rattle.closing.specs.Closing.{marked, rank, placeAt, takeX, takeMask, storeMasked}
 use Rattle.closing.specs.Closing.{spreadRound, spreadSlice, spreadingList, spreadingItem, spreadingItems}
 use Rattle.closing.specs.Closing.{closingLength, closingItemsLength, spreadingLength, spreadingItemsLength, movingFault, FieldsApart, spreadingBuilt}
@@ -31,9 +32,9 @@ use Rattle.fields.specs.Line.{outsideAt}
 use Rattle.fields.specs.Value.{wordBit, value, Bytes}
 use Rattle.fields.specs.Marks.{MarkedBy}
 use Rattle.fields.specs.Closing.{closingRun, spreadingRun, stateAfter, Spread}
-use Rattle.fields.proofs.Whole.{registers-ok, memory-ext}
-use Rattle.fields.proofs.Runs.{leftBy}
-use Rattle.fields.proofs.Kept.{end-good}
+use Rattle.fields.proofs.Whole.{memory-ext}
+use Rattle.fields.proofs.Runs.{Quiet, leftBy}
+use Rattle.fields.proofs.Kept.{end-good, modes-end, registers-end}
 use Rattle.fields.proofs.Built.{two-written, two-after, two-ran}
 use Rattle.fields.proofs.ClosingLists.{spreading-quiet, spreading-taken, marked-of, marks-numbered, rank-of, last-round, prefix-ran}
 use Rattle.fields.proofs.ClosingRuns.{closing-closed}
@@ -124,17 +125,20 @@ module _ (a s n : ℕ) (f : FieldsApart a s n) (marks list items : List ℕ) (si
             ∙ prefix-ran front (tail ++ later) given begin steps-in
             (omega (arith, length-append (rounds (spreadSlice a s) k) (takeX (s + k) ∷ rounds spreadRound c), length-spread-slices a s k, length-spread-rounds c))
 
-    module _ (memory : Bytes (lent .memory) 8192) (registers : Bytes (lent .registers) 96)
-        (supplied : unfit 32 (spreadingItemsLength n + length (lent .items)) ≡ false) where
+    module _ (memory : Bytes (lent .memory) 8192) (registers : Bytes (lent .registers) 100)
+        (stands : wrongModes (modesOf (lent .registers)) ≡ false) (supplied : unfit 32 (spreadingItemsLength n + length (lent .items)) ≡ false) where
       steps : length (spreadingList a s n) ≡ 1 + 18 * n
       steps = omega (arith, length-encoded (spreadingList a s n), spreading-length a s n)
+
+      quiet : Each Quiet (spreadingList a s n)
+      quiet = spreading-quiet a s n (f .fitsA) (f .fitsS)
 
       spreading-ran : spreadingRun a s n marks list items lent ≡ leftBy lent end (1 + 18 * n) (1 + 8 * n)
       unfolding spreadingBuilt
       spreading-ran =
           let items-length = spreading-items-length marks n in
-          two-ran (spreadingList a s n) (spreading-quiet a s n (f .fitsA) (f .fitsS)) (omega (arith, steps, f .width)) (spreadingItems marks n) list items _ no-fault lent
-          (memory .size) (registers .size) (ap (λ (k : ℕ). unfit 32 (k + length (lent .items))) items-length ∙ supplied)
+          two-ran (spreadingList a s n) quiet (omega (arith, steps, f .width)) (spreadingItems marks n) list items _ no-fault lent
+          (memory .size) (registers .size) stands (ap (λ (k : ℕ). unfit 32 (k + length (lent .items))) items-length ∙ supplied)
           (omega (arith, items-length, spreading-taken a s n))
           ∙ ap₂ (leftBy lent end) steps (spreading-taken a s n)
 
@@ -167,14 +171,14 @@ module _ (a s n : ℕ) (f : FieldsApart a s n) (marks list items : List ℕ) (si
       module _ (c : ℕ) (which : Numbered (MarkedBy marks) 256 c) where
         spread-end : Spread a s n marks c which lent (leftBy lent end (1 + 18 * n) (1 + 8 * n))
         spread-end =
-            let good = end-good (spreadingList a s n) lent memory registers given in
             record {
               done = refl;
               spread = λ k h. digitsOf-ext _ _ n (λ j l. marked-bit (which .nth k) j (which .below k h) l (which .has k h)
                   ∙ ap (λ (x : ℕ). wordBit (lent .memory) x (s + j)) (rank-of marks c which k h));
               others = other-bit;
-              memory = good .mem-ok;
-              registers = registers-ok end good;
+              keepsModes = modes-end (spreadingList a s n) lent memory registers given quiet;
+              memory = end-good (spreadingList a s n) lent memory registers given .mem-ok;
+              registers = registers-end (spreadingList a s n) lent memory registers given quiet;
               quiet = refl;
             }
 
@@ -192,10 +196,10 @@ module _ (a s n : ℕ) (f : FieldsApart a s n) (marks list items : List ℕ) (si
 module _ (a s n : ℕ) (f : FieldsApart a s n) (marks : List ℕ) (sized : length marks ≡ 32) (list items list′ items′ : List ℕ)
     (room : closingLength n ≤ length list) (roomItems : closingItemsLength ≤ length items)
     (room′ : spreadingLength n ≤ length list′) (roomItems′ : spreadingItemsLength n ≤ length items′)
-    (lent : Lent (List ℕ)) (memory : Bytes (lent .memory) 8192) (registers : Bytes (lent .registers) 96)
-    (supplied : unfit 32 (closingItemsLength + length (lent .items)) ≡ false)
-    (mid : Lent (List ℕ)) (memory′ : Bytes (mid .memory) 8192) (registers′ : Bytes (mid .registers) 96)
-    (supplied′ : unfit 32 (spreadingItemsLength n + length (mid .items)) ≡ false) where
+    (lent : Lent (List ℕ)) (memory : Bytes (lent .memory) 8192) (registers : Bytes (lent .registers) 100)
+    (stands : wrongModes (modesOf (lent .registers)) ≡ false) (supplied : unfit 32 (closingItemsLength + length (lent .items)) ≡ false)
+    (mid : Lent (List ℕ)) (memory′ : Bytes (mid .memory) 8192) (registers′ : Bytes (mid .registers) 100)
+    (stands′ : wrongModes (modesOf (mid .registers)) ≡ false) (supplied′ : unfit 32 (spreadingItemsLength n + length (mid .items)) ≡ false) where
   -- each marked word has its old A again
   pub spread-restores : ((w : ℕ) → w < 256 → value (mid .memory) w s n ≡ value (closingRun a s n marks list items lent .memory) w s n)
       → (w : ℕ) → w < 256 → MarkedBy marks w → value (spreadingRun a s n marks list′ items′ mid .memory) w a n ≡ value (lent .memory) w a n
@@ -205,7 +209,7 @@ module _ (a s n : ℕ) (f : FieldsApart a s n) (marks : List ℕ) (sized : lengt
       let t = which .each w hw e in
       let k = t .0 in
       ap (λ (x : ℕ). value (spreadingRun a s n marks list′ items′ mid .memory) x a n) (sym (t .2))
-      ∙ spreading-spread a s n f marks list′ items′ sized room′ roomItems′ mid memory′ registers′ supplied′ c which .spread k (t .1)
+      ∙ spreading-spread a s n f marks list′ items′ sized room′ roomItems′ mid memory′ registers′ stands′ supplied′ c which .spread k (t .1)
       ∙ same k (omega (arith, t .1, count-le (marked marks) 256))
-      ∙ closing-closed a s n f marks list items sized room roomItems lent memory registers supplied c which .closed k (t .1)
+      ∙ closing-closed a s n f marks list items sized room roomItems lent memory registers stands supplied c which .closed k (t .1)
       ∙ ap (λ (x : ℕ). value (lent .memory) x a n) (t .2)

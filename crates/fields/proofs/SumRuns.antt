@@ -1,5 +1,5 @@
 -- Runs of the lists that the builders write: what a sum and a difference leave, A and B exchanged, and B taken off again. Assumes nothing.
-use mathlib.Core.Path.{_≡_, refl, sym, ap₂, subst₂, _∙_}
+use mathlib.Core.Path.{_≡_, refl, sym, ap, ap₂, subst₂, _∙_}
 use mathlib.Core.Bool.{false}
 use mathlib.Core.Logic.{inl, inr}
 use mathlib.Core.List.{List}
@@ -9,6 +9,7 @@ use native.Mathlib.Omega.{arith}
 use lib.ListN.{length}
 use Rattle.bits.proofs.Digits.{digitsOf-lt, digitsOf-ext}
 use Rattle.bits.proofs.Items.{bitOf-bit}
+use Rattle.registers.specs.Modes.{modesOf, wrongModes}
 use Rattle.judge.specs.Judge.{unfit}
 use Rattle.module.specs.Run.{Lent}
 use Rattle.builders.specs.Lists.{encoded}
@@ -53,7 +54,8 @@ module _ (a b s n : ℕ) (fields : Fields a b s n) (buffer : List ℕ) where
 -- ---- the run puts A plus B into S; or A minus B, as A plus what B lacks to 2 ^ n
 
 module _ (a b s n : ℕ) (fields : Fields a b s n) (buffer : List ℕ) (lent : Lent (List ℕ))
-    (memory : Bytes (lent .memory) 8192) (registers : Bytes (lent .registers) 96) (supplied : unfit 32 (length (lent .items)) ≡ false) where
+    (memory : Bytes (lent .memory) 8192) (registers : Bytes (lent .registers) 100) (stands : wrongModes (modesOf (lent .registers)) ≡ false)
+    (supplied : unfit 32 (length (lent .items)) ≡ false) where
   pub sum-put : listLength 1 n ≤ length buffer
       → Put (1 + 5 * n) s n (λ w. value (lent .memory) w a n + value (lent .memory) w b n) lent (sumRun a b s n buffer lent)
   sum-put room =
@@ -61,7 +63,7 @@ module _ (a b s n : ℕ) (fields : Fields a b s n) (buffer : List ℕ) (lent : L
       subst₂ (λ (k : ℕ) (l : List ℕ). Put k s n (λ w. value (lent .memory) w a n + value (lent .memory) w b n) lent (runOf l lent))
       k (sym (sum-listed a b s n fields buffer room))
       (put-plain (λ z. z) a b s n 0 (sumList a b s n) (sum-plain a b s n fields) (let w = fields .width in omega arith) (fields .fitsS)
-      lent memory registers supplied (λ w. value (lent .memory) w a n + value (lent .memory) w b n)
+      lent memory registers stands supplied (λ w. value (lent .memory) w a n + value (lent .memory) w b n)
       (λ w h. sum-word a b s n (fields .clearA) (fields .clearB) (outsideAt w (lent .items)) _ (λ i. bitOf-bit (lent .memory) _))
       (λ w h. omega arith))
 
@@ -72,7 +74,7 @@ module _ (a b s n : ℕ) (fields : Fields a b s n) (buffer : List ℕ) (lent : L
       subst₂ (λ (k : ℕ) (l : List ℕ). Put k s n (λ w. value (lent .memory) w a n + (2 ^ n - value (lent .memory) w b n)) lent (runOf l lent))
       k (sym (difference-listed a b s n fields buffer room))
       (put-plain (λ z. 1 - z) a b s n 1 (differenceList a b s n) (difference-plain a b s n fields) (let w = fields .width in omega arith) (fields .fitsS)
-      lent memory registers supplied (λ w. value (lent .memory) w a n + (2 ^ n - value (lent .memory) w b n))
+      lent memory registers stands supplied (λ w. value (lent .memory) w a n + (2 ^ n - value (lent .memory) w b n))
       (λ w h. difference-word a b s n (fields .clearA) (fields .clearB) (outsideAt w (lent .items)) _ (λ i. bitOf-bit (lent .memory) _))
       (λ w h. let e = turned (λ j. wordBit (lent .memory) w (b + j)) (λ j. bitOf-bit (lent .memory) _) n in omega arith))
 
@@ -92,14 +94,15 @@ apart-out b s n j (inl h) l p q = omega arith
 apart-out b s n j (inr h) l p q = omega arith
 
 module _ (a b s n : ℕ) (fields : Fields a b s n) (buffer buffer′ : List ℕ) (lent : Lent (List ℕ))
-    (memory : Bytes (lent .memory) 8192) (registers : Bytes (lent .registers) 96) (supplied : unfit 32 (length (lent .items)) ≡ false) (room : listLength 1 n ≤ length buffer) where
+    (memory : Bytes (lent .memory) 8192) (registers : Bytes (lent .registers) 100) (stands : wrongModes (modesOf (lent .registers)) ≡ false)
+    (supplied : unfit 32 (length (lent .items)) ≡ false) (room : listLength 1 n ≤ length buffer) where
   pub exchange : listLength 1 n ≤ length buffer′ → sumRun a b s n buffer lent ≡ sumRun b a s n buffer′ lent
   exchange room′ =
       put-unique (1 + 5 * n) s n (λ w. value (lent .memory) w a n + value (lent .memory) w b n) (λ w. value (lent .memory) w b n + value (lent .memory) w a n) lent
       (sumRun a b s n buffer lent) (sumRun b a s n buffer′ lent) (fields .fitsS)
       (λ w h. add-comm (value (lent .memory) w a n) (value (lent .memory) w b n))
-      (sum-put a b s n fields buffer lent memory registers supplied room)
-      (sum-put b a s n (exchanged fields) buffer′ lent memory registers supplied room′)
+      (sum-put a b s n fields buffer lent memory registers stands supplied room)
+      (sum-put b a s n (exchanged fields) buffer′ lent memory registers stands supplied room′)
 
   value-lt : (x : List ℕ) (w start : ℕ) → value x w start n < 2 ^ n
   value-lt x w start = digitsOf-lt (λ j. wordBit x w (start + j)) (λ j. bitOf-bit x _) n
@@ -108,8 +111,8 @@ module _ (a b s n : ℕ) (fields : Fields a b s n) (buffer buffer′ : List ℕ)
       → (let r = sumRun a b s n buffer lent in TakenOff a b s n lent r (differenceRun s b s n buffer′ (lentOn lent r)))
   taking-off apart room′ =
       let r = sumRun a b s n buffer lent in
-      let h = sum-put a b s n fields buffer lent memory registers supplied room in
-      let d = difference-put s b s n (off-itself fields) buffer′ (lentOn lent r) (h .memory) (h .registers) supplied room′ in
+      let h = sum-put a b s n fields buffer lent memory registers stands supplied room in
+      let d = difference-put s b s n (off-itself fields) buffer′ (lentOn lent r) (h .memory) (h .registers) (ap wrongModes (h .keepsModes) ∙ stands) supplied room′ in
       record {
         done = d .done;
         field = λ w l. d .field w l
@@ -121,6 +124,7 @@ module _ (a b s n : ℕ) (fields : Fields a b s n) (buffer buffer′ : List ℕ)
             (λ q. e .0 (sym (d .carry w l) ∙ q), λ q. d .carry w l ∙ e .1 q);
         zeroX = d .zeroX;
         keepsM = d .keepsM ∙ h .keepsM;
+        keepsModes = d .keepsModes ∙ h .keepsModes;
         others = λ w i l q o. d .others w i l q o ∙ h .others w i l q o;
         quiet = d .quiet;
       }

@@ -11,8 +11,9 @@ use Rattle.bits.specs.Bits.{digit, bitOf, digitsOf}
 use Rattle.bits.proofs.Digits.{digitsOf-lt, digitsOf-at, digitsOf-ext}
 use Rattle.bits.proofs.Items.{bitOf-bit}
 use Rattle.registers.specs.declared.Registers.{Registers}
+use Rattle.registers.specs.Modes.{modesOf, wrongModes}
 use Rattle.registers.specs.Rows.{registersOf, bytesOf}
-use Rattle.registers.proofs.RowLaws.{registers-bytes, bytes-registers}
+use Rattle.registers.proofs.RowLaws.{bytes-registers}
 use Rattle.judge.specs.declared.Instruction.{Instruction}
 use Rattle.judge.specs.declared.Answer.{Answer}
 use Rattle.judge.specs.Judge.{unfit}
@@ -27,8 +28,9 @@ use Rattle.builders.proofs.Folds.{each-rounds, each-map}
 use Rattle.fields.proofs.LineLaws.{ran-at, at-self}
 use Rattle.builders.proofs.Carries.{quotient, rest}
 use Rattle.builders.proofs.Adder.{After}
-use Rattle.fields.proofs.Whole.{bytes-ext, zero-item, part-bytes, Good, begun-good, registers-ok, folded-good, memory-ext}
-use Rattle.fields.proofs.Runs.{Plain, ran-plain}
+use Rattle.fields.proofs.Whole.{bytes-ext, zero-item, part-bytes, Good, begun-good, memory-ext}
+use Rattle.fields.proofs.Runs.{Quiet, Plain, ran-plain}
+use Rattle.fields.proofs.Kept.{end-good, rows, modes-end, registers-end}
 use Rattle.fields.proofs.Plain.{plain-from, plain-at, plain-store}
 
 -- ---- the lists are plain
@@ -50,7 +52,8 @@ difference-plain a b s n f = more (plain-from 32 refl) (more (plain-from 31 refl
 -- ---- what a plain list leaves that has the adder's invariant at each word
 
 module _ (u : ℕ → ℕ) (a b s n c : ℕ) (l : List Instruction) (plain : Each Plain l) (few : length l ≤ 4096) (fitsS : s + n ≤ 256)
-    (lent : Lent (List ℕ)) (memory : Bytes (lent .memory) 8192) (registers : Bytes (lent .registers) 96) (supplied : unfit 32 (length (lent .items)) ≡ false) where
+    (lent : Lent (List ℕ)) (memory : Bytes (lent .memory) 8192) (registers : Bytes (lent .registers) 100)
+    (stands : wrongModes (modesOf (lent .registers)) ≡ false) (supplied : unfit 32 (length (lent .items)) ≡ false) where
   abbrev begin : State
   begin = begun lent (registersOf (lent .registers))
 
@@ -65,11 +68,14 @@ module _ (u : ℕ → ℕ) (a b s n c : ℕ) (l : List Instruction) (plain : Eac
     line : (w : ℕ) → w < 256 → At w end (wordEnd w)
     line w h = ran-at w h l (lent .items) begin (wordOf w begin) (each-map (λ i p. p .local) plain) (at-self w begin)
 
-    good : Good end
-    good = folded-good l (lent .items) begin (begun-good lent memory registers)
+    quiet : Each Quiet l
+    quiet = each-map (λ i p. p .quiet) plain
 
-    rows : registersOf (bytesOf (end .regs)) ≡ end .regs
-    rows = registers-bytes (end .regs) (good .m-ok .size) (good .x-ok .size) (good .y-ok .size)
+    good : Good end
+    good = end-good l lent memory registers (lent .items)
+
+    same-regs : registersOf (bytesOf (end .regs)) ≡ end .regs
+    same-regs = rows l lent memory registers (lent .items)
 
     field-end : (w : ℕ) → w < 256 → value (end .mem) w s n ≡ digitsOf (λ j. wordEnd w .bits (s + j)) n
     field-end w h = digitsOf-ext _ _ n (λ j q. line w h .word (s + j) (omega arith))
@@ -79,16 +85,17 @@ module _ (u : ℕ → ℕ) (a b s n c : ℕ) (l : List Instruction) (plain : Eac
 
     pub put-plain : Put (length l) s n t lent (runOf (encoded l) lent)
     put-plain =
-        subst (Put (length l) s n t lent) (sym (ran-plain l plain few lent (memory .size) (registers .size) supplied))
+        subst (Put (length l) s n t lent) (sym (ran-plain l plain few lent (memory .size) (registers .size) stands supplied))
         (record {
           done = refl;
           field = λ w h. field-end w h ∙ rest n _ (wordEnd w .y) (t w) (small w h) (after w h .total ∙ total w h);
-          carry = λ w h. ap (λ (r : Registers). bitOf (r .y) w) rows ∙ line w h .bitY ∙ quotient n _ (wordEnd w .y) (t w) (small w h) (after w h .total ∙ total w h);
-          zeroX = ap (λ (r : Registers). r .x) rows ∙ zero-item (end .regs .x) (good .x-ok) (λ w h. line w h .bitX ∙ after w h .zeroX);
-          keepsM = ap (λ (r : Registers). r .m) rows ∙ bytes-ext (end .regs .m) (begin .regs .m) 32 (good .m-ok) (begun-good lent memory registers .m-ok) (λ w h. line w h .bitM ∙ after w h .keepsM);
+          carry = λ w h. ap (λ (r : Registers). bitOf (r .y) w) same-regs ∙ line w h .bitY ∙ quotient n _ (wordEnd w .y) (t w) (small w h) (after w h .total ∙ total w h);
+          zeroX = ap (λ (r : Registers). r .x) same-regs ∙ zero-item (end .regs .x) (good .x-ok) (λ w h. line w h .bitX ∙ after w h .zeroX);
+          keepsM = ap (λ (r : Registers). r .m) same-regs ∙ bytes-ext (end .regs .m) (begin .regs .m) 32 (good .m-ok) (begun-good lent memory registers .m-ok) (λ w h. line w h .bitM ∙ after w h .keepsM);
+          keepsModes = modes-end l lent memory registers (lent .items) quiet;
           others = λ w i h q o. line w h .word i q ∙ after w h .other i o;
           memory = good .mem-ok;
-          registers = registers-ok end good;
+          registers = registers-end l lent memory registers (lent .items) quiet;
           quiet = refl;
         })
 
@@ -119,11 +126,17 @@ module _ (steps s n : ℕ) (t t′ : ℕ → ℕ) (lent : Lent (List ℕ)) (r r�
   same-y : registersOf (r .registers) .y ≡ registersOf (r′ .registers) .y
   same-y =
       bytes-ext (registersOf (r .registers) .y) (registersOf (r′ .registers) .y) 32
-      (part-bytes (r .registers) 96 64 32 (omega arith) (f .registers)) (part-bytes (r′ .registers) 96 64 32 (omega arith) (g .registers))
+      (part-bytes (r .registers) 100 64 32 (omega arith) (f .registers)) (part-bytes (r′ .registers) 100 64 32 (omega arith) (g .registers))
       (λ w h. f .carry w h ∙ ap (λ (x : ℕ). x / 2 ^ n) (same w h) ∙ sym (g .carry w h))
 
   same-rows : registersOf (r .registers) ≡ registersOf (r′ .registers)
-  same-rows = λ i. record { m = (f .keepsM ∙ sym (g .keepsM)) i; x = (f .zeroX ∙ sym (g .zeroX)) i; y = same-y i }
+  same-rows = λ i.
+      record {
+        m = (f .keepsM ∙ sym (g .keepsM)) i;
+        x = (f .zeroX ∙ sym (g .zeroX)) i;
+        y = same-y i;
+        modes = (f .keepsModes ∙ sym (g .keepsModes)) i;
+      }
 
   pub put-unique : r ≡ r′
   put-unique =

@@ -1,8 +1,8 @@
 -- States whose every line is the same are the same, byte for byte: bytes stay bytes in a run, and bytes are known by their bits. Assumes nothing.
-use mathlib.Core.Path.{_≡_, refl, sym, ap, ap₂, _∙_}
+use mathlib.Core.Path.{_≡_, refl, sym, ap, ap₂, subst, _∙_}
 use mathlib.Core.Bool.{Bool, true, false, cond}
 use mathlib.Core.List.{List, [], _∷_, _++_}
-use Prim.Native.Nat.{ℕ, _+_, _-_, _*_, _/_, _%_, _<_, _≤_}
+use Prim.Native.Nat.{ℕ, zero, suc, _+_, _-_, _*_, _/_, _%_, _<_, _≤_}
 use native.Mathlib.Decide.{decLt}
 use native.Mathlib.Omega.{arith}
 use lib.Bits.{bitXor, xor-lt}
@@ -20,12 +20,15 @@ use Rattle.network.specs.Shifts.{shiftOf, pOf, mOf}
 use Rattle.network.specs.Pass.{passed}
 use Rattle.network.specs.Answer.{passedItem}
 use Rattle.network.proofs.PassLaws.{passed-bit}
+use Rattle.registers.specs.declared.Modes.{Modes}
 use Rattle.registers.specs.declared.Registers.{Registers}
 use Rattle.registers.specs.Logic.{logicOf}
-use Rattle.registers.specs.Rows.{registersOf, bytesOf, withM}
+use Rattle.registers.specs.Modes.{modesOf, modeBytes}
+use Rattle.registers.specs.Rows.{registersOf, bytesOf, withM, withModes}
 use Rattle.registers.proofs.LogicLaws.{newX-bit, newY-bit}
 use Rattle.judge.specs.declared.Instruction.{Instruction}
-use Rattle.module.specs.Act.{State, modeOf, sourceItem, passedBy, regsAfter, memAfter, acted}
+use Rattle.judge.specs.Modes.{modesBy, modeOf}
+use Rattle.module.specs.Act.{State, sourceItem, passedBy, regsAfter, memAfter, acted}
 use Rattle.module.specs.Run.{Lent, begun}
 use Rattle.builders.specs.Word.{folded}
 use Rattle.fields.specs.Value.{Bytes}
@@ -70,7 +73,7 @@ append-bytes l r m n a b = record { size = length-append l r ∙ ap₂ (λ (x y 
         let q : getD (l ++ r) i 0 ≡ getD r (i - length l) 0 = ap (λ (z : ℕ). getD (l ++ r) z 0) e ∙ getD-append-add l r (i - length l) 0 in
         rw q (b .low (i - length l))
 
--- ---- a state of 8,192 and 96 bytes
+-- ---- a state of 8,192 bytes, and of 32 in each row of its registers
 
 pub record Good (s : State) : Type 0 where
   pub mem-ok : Bytes (s .mem) 8192
@@ -78,13 +81,29 @@ pub record Good (s : State) : Type 0 where
   pub x-ok : Bytes (s .regs .x) 32
   pub y-ok : Bytes (s .regs .y) 32
 
-pub begun-good : (lent : Lent (List ℕ)) → Bytes (lent .memory) 8192 → Bytes (lent .registers) 96 → Good (begun lent (registersOf (lent .registers)))
+pub begun-good : (lent : Lent (List ℕ)) → Bytes (lent .memory) 8192 → Bytes (lent .registers) 100 → Good (begun lent (registersOf (lent .registers)))
 begun-good lent a b =
-    let part = part-bytes (lent .registers) 96 in
+    let part = part-bytes (lent .registers) 100 in
     record { mem-ok = a; m-ok = part 0 32 (omega arith) b; x-ok = part 32 32 (omega arith) b; y-ok = part 64 32 (omega arith) b }
 
-pub registers-ok : (s : State) → Good s → Bytes (bytesOf (s .regs)) 96
-registers-ok s g = append-bytes (s .regs .m) (s .regs .x ++ s .regs .y) 32 64 (g .m-ok) (append-bytes (s .regs .x) (s .regs .y) 32 32 (g .x-ok) (g .y-ok))
+-- the four bytes of the mode registers are bytes where those of 100 bytes are
+modes-bytes : (l : List ℕ) → Bytes l 100 → Bytes (modeBytes (modesOf l)) 4
+modes-bytes l a = bytes-of (modeBytes (modesOf l)) 4 refl go
+  where
+    go : (i : ℕ) → i < 4 → getD (modeBytes (modesOf l)) i 0 < 256
+    go zero h = a .low 96
+    go (suc zero) h = a .low 97
+    go (suc (suc zero)) h = a .low 98
+    go (suc (suc (suc zero))) h = a .low 99
+    go (suc (suc (suc (suc i)))) h = absurd (omega arith)
+
+-- so a good state that has the mode registers of a register set is one as bytes
+pub registers-ok : (s : State) (l : List ℕ) → Good s → Bytes l 100 → s .regs .modes ≡ modesOf l → Bytes (bytesOf (s .regs)) 100
+registers-ok s l g a e =
+    let last = modeBytes (s .regs .modes) in
+    append-bytes (s .regs .m) (s .regs .x ++ (s .regs .y ++ last)) 32 68 (g .m-ok)
+    (append-bytes (s .regs .x) (s .regs .y ++ last) 32 36 (g .x-ok)
+    (append-bytes (s .regs .y) last 32 4 (g .y-ok) (subst (λ (m : Modes). Bytes (modeBytes m) 4) (sym e) (modes-bytes l a))))
 
 memory-good : (i : Instruction) (mode : ℕ) (mem m f : List ℕ) → Bytes mem 8192 → Bytes (memAfter i mode mem m f) 8192
 unfolding memAfter stored
@@ -107,26 +126,28 @@ passed-good i mem items r k =
 registers-good : (i : Instruction) (f : List ℕ) (s : State) → Bytes f 32 → Good s
     → Bytes (regsAfter i (s .regs) f .m) 32 × Bytes (regsAfter i (s .regs) f .x) 32 × Bytes (regsAfter i (s .regs) f .y) 32
 unfolding regsAfter logicOf
-registers-good i f s b g = go (eqb (i .kind) 0) (eqb (i .kind) 1)
+registers-good i f s b g = go (eqb (i .kind) 0) (eqb (i .kind) 1) (eqb (i .kind) 6)
   where
-    after : Bool → Bool → Registers
-    after zeroth first = cond zeroth (logicOf (s .regs) f (i .logic)) (cond first (withM (s .regs) f) (s .regs))
+    after : Bool → Bool → Bool → Registers
+    after zeroth first sixth =
+        cond zeroth (logicOf (s .regs) f (i .logic)) (cond first (withM (s .regs) f) (cond sixth (withModes (s .regs) (modesBy i (s .regs .modes))) (s .regs)))
 
-    go : (zeroth first : Bool) → Bytes (after zeroth first .m) 32 × Bytes (after zeroth first .x) 32 × Bytes (after zeroth first .y) 32
-    go true first = (
+    go : (zeroth first sixth : Bool) → Bytes (after zeroth first sixth .m) 32 × Bytes (after zeroth first sixth .x) 32 × Bytes (after zeroth first sixth .y) 32
+    go true first sixth = (
       g .m-ok,
       pack-bytes _ (λ k. newX-bit (i .logic) (bitOf (s .regs .x) k) (bitOf (s .regs .y) k) (bitOf f k) (bitOf-bit (s .regs .x) k)) 32,
       pack-bytes _ (λ k. newY-bit (i .logic) (bitOf (s .regs .y) k) (bitOf f k) (bitOf-bit (s .regs .y) k)) 32,
     )
-    go false true = (b, g .x-ok, g .y-ok)
-    go false false = (g .m-ok, g .x-ok, g .y-ok)
+    go false true sixth = (b, g .x-ok, g .y-ok)
+    go false false true = (g .m-ok, g .x-ok, g .y-ok)
+    go false false false = (g .m-ok, g .x-ok, g .y-ok)
 
 acted-good : (i : Instruction) (items : List ℕ) (s : State) → Good s → Good (acted i items s)
 unfolding acted
 acted-good i items s g =
     let f = passedBy i (s .mem) items (s .regs) (s .taken) in
     let r = registers-good i f s (passed-good i (s .mem) items (s .regs) (s .taken)) g in
-    record { mem-ok = memory-good i (modeOf i (s .regs)) (s .mem) (s .regs .m) f (g .mem-ok); m-ok = r .0; x-ok = r .1; y-ok = r .2 }
+    record { mem-ok = memory-good i (modeOf (s .regs .modes) i) (s .mem) (s .regs .m) f (g .mem-ok); m-ok = r .0; x-ok = r .1; y-ok = r .2 }
 
 pub folded-good : (l : List Instruction) (items : List ℕ) (s : State) → Good s → Good (folded (λ i. acted i items) l s)
 unfolding folded

@@ -44,9 +44,11 @@ pub record Closed (a s n : ℕ) (marks : List ℕ) (c : ℕ) (which : Numbered (
   pub zero : (k : ℕ) → c ≤ k → k < 256 → value (r .memory) k s n ≡ 0
   -- every other bit of the memory is as before
   pub others : (w b : ℕ) → w < 256 → b < 256 → (s ≤ b → b < s + n → ⊥) → wordBit (r .memory) w b ≡ wordBit (lent .memory) w b
+  -- both mode registers are as before
+  pub keepsModes : registersOf (r .registers) .modes ≡ registersOf (lent .registers) .modes
   -- the buffers are of the same lengths, and nothing is put out
   pub memory : Bytes (r .memory) 8192
-  pub registers : Bytes (r .registers) 96
+  pub registers : Bytes (r .registers) 100
   pub quiet : r .out ≡ lent .out
 
 -- And one that spread.
@@ -56,6 +58,7 @@ pub record Spread (a s n : ℕ) (marks : List ℕ) (c : ℕ) (which : Numbered (
   pub spread : (k : ℕ) → k < c → value (r .memory) (which .nth k) a n ≡ value (lent .memory) k s n
   -- every other bit of the memory is as before: A of the words that are not marked, and S
   pub others : (w b : ℕ) → w < 256 → b < 256 → (MarkedBy marks w → a ≤ b → b < a + n → ⊥) → wordBit (r .memory) w b ≡ wordBit (lent .memory) w b
+  pub keepsModes : registersOf (r .registers) .modes ≡ registersOf (lent .registers) .modes
   pub memory : Bytes (r .memory) 8192
-  pub registers : Bytes (r .registers) 96
+  pub registers : Bytes (r .registers) 100
   pub quiet : r .out ≡ lent .out

@@ -4,7 +4,7 @@ use mathlib.Core.List.{List}
 use Prim.Native.Nat.{ℕ}
 use Rattle.network.specs.Answer.{passedItem}
 use Rattle.judge.specs.declared.Instruction.{Instruction}
-use Rattle.judge.specs.Judge.{takes}
+use Rattle.judge.specs.Instructions.{takes}
 use Rattle.module.specs.Act.{State, heldItem, after}
 
 -- What instruction i makes of a state where x is the next of the lent items.

@@ -8,7 +8,9 @@ use Rattle.memory.specs.Table.{table}
 use Rattle.memory.specs.Memory.{cell}
 use Rattle.network.specs.Shifts.{permitted}
 use Rattle.network.specs.Pass.{source}
+use Rattle.registers.specs.declared.Modes.{Modes}
 use Rattle.judge.specs.declared.Instruction.{Instruction}
+use Rattle.judge.specs.Modes.{modeOf}
 use Rattle.module.specs.Act.{State, partAt}
 use Rattle.builders.specs.Word.{Word}
 
@@ -32,16 +34,16 @@ outsideAt p items t = bitOf (partAt items t) p
 abbrev pub cameFrom : Instruction → ℕ → ℕ
 cameFrom i p = source (i .flip) (i .code / 16) (i .code % 16) p
 
--- An instruction with mode 0, so that line p of its access is bit `addr` of word p; a flip and a shift move lines as they may.
-pub record Sliced (i : Instruction) : Type 0 where
-  pub mode0 : i .mode ≡ 0
+-- An instruction whose mode is 0 with the mode registers m, so that line p of its access is bit `addr` of word p; a flip and a shift move lines as they may.
+pub record Sliced (m : Modes) (i : Instruction) : Type 0 where
+  pub mode0 : modeOf m i ≡ 0
   pub inside : i .addr < 256
   pub flips : i .flip < 256
   pub shifts : permitted (i .code) ≡ true
 
--- An instruction that keeps to its line: mode 0, no flip and no shift.
-pub record Local (i : Instruction) : Type 0 where
-  pub mode0 : i .mode ≡ 0
+-- An instruction that keeps to its line with the mode registers m: mode 0, no flip and no shift.
+pub record Local (m : Modes) (i : Instruction) : Type 0 where
+  pub mode0 : modeOf m i ≡ 0
   pub flip0 : i .flip ≡ 0
   pub code0 : i .code ≡ 0
   pub inside : i .addr < 256

@@ -51,10 +51,11 @@ pub record Marks (steps taken : ℕ) (P : ℕ → Type 0) (x : List ℕ → List
   pub done : r .answer ≡ record { number = 0; place = 0; byte = 0; steps = steps; taken = taken; given = 0 }
   -- Y is 1 at word w exactly where P w holds
   pub marks : (w : ℕ) → w < 256 → Marked (r .registers) w ↔ P w
-  -- X is what is said, M and every byte of the memory are as before, and nothing is put out
+  -- X is what is said, M, both mode registers and every byte of the memory are as before, and nothing is put out
   pub afterX : registersOf (r .registers) .x ≡ x (registersOf (r .registers) .y)
   pub keepsM : registersOf (r .registers) .m ≡ registersOf (lent .registers) .m
+  pub keepsModes : registersOf (r .registers) .modes ≡ registersOf (lent .registers) .modes
   pub keeps : r .memory ≡ lent .memory
   pub quiet : r .out ≡ lent .out
-  -- the registers are still 96 bytes
-  pub registers : Bytes (r .registers) 96
+  -- the registers are still 100 bytes
+  pub registers : Bytes (r .registers) 100

@@ -34,16 +34,17 @@ pub record Bytes (l : List ℕ) (n : ℕ) : Type 0 where
 pub record Put (steps s n : ℕ) (t : ℕ → ℕ) (lent : Lent (List ℕ)) (r : Left (List ℕ) Answer) : Type 0 where
   -- it is done, with the list's count of steps, and nothing is taken or given
   pub done : r .answer ≡ record { number = 0; place = 0; byte = 0; steps = steps; taken = 0; given = 0 }
-  -- in each word S is that number modulo 2^n, Y is the carry out, X is zero, and M is as before
+  -- in each word S is that number modulo 2^n, Y is the carry out, X is zero, and M and both mode registers are as before
   pub field : (w : ℕ) → w < 256 → value (r .memory) w s n ≡ t w % 2 ^ n
   pub carry : (w : ℕ) → w < 256 → bitOf (registersOf (r .registers) .y) w ≡ t w / 2 ^ n
   pub zeroX : registersOf (r .registers) .x ≡ replicate 32 0
   pub keepsM : registersOf (r .registers) .m ≡ registersOf (lent .registers) .m
+  pub keepsModes : registersOf (r .registers) .modes ≡ registersOf (lent .registers) .modes
   -- and every other bit of the memory is as before
   pub others : (w b : ℕ) → w < 256 → b < 256 → (s ≤ b → b < s + n → ⊥) → wordBit (r .memory) w b ≡ wordBit (lent .memory) w b
   -- the buffers are of the same lengths, and nothing is put out
   pub memory : Bytes (r .memory) 8192
-  pub registers : Bytes (r .registers) 96
+  pub registers : Bytes (r .registers) 100
   pub quiet : r .out ≡ lent .out
 
 -- A run of a list on what is lent, in the place of whatever list was lent with it.
@@ -69,5 +70,6 @@ pub record TakenOff (a b s n : ℕ) (lent : Lent (List ℕ)) (r r′ : Left (Lis
   pub noBorrow : (w : ℕ) → w < 256 → (bitOf (registersOf (r′ .registers) .y) w ≡ 1) ↔ (value (r .memory) w b n ≤ value (r .memory) w s n)
   pub zeroX : registersOf (r′ .registers) .x ≡ replicate 32 0
   pub keepsM : registersOf (r′ .registers) .m ≡ registersOf (lent .registers) .m
+  pub keepsModes : registersOf (r′ .registers) .modes ≡ registersOf (lent .registers) .modes
   pub others : (w i : ℕ) → w < 256 → i < 256 → (s ≤ i → i < s + n → ⊥) → wordBit (r′ .memory) w i ≡ wordBit (lent .memory) w i
   pub quiet : r′ .out ≡ r .out

@@ -8,10 +8,13 @@ use lib.ListN.{length}
 use Rattle.bits.specs.Rows.{Row, NoRow}
 use Rattle.bits.proofs.Rows.{upTo, first-number, number-high}
 use Rattle.bits.proofs.Search.{count-le}
+use Rattle.registers.specs.declared.Modes.{Modes}
 use Rattle.judge.specs.declared.Lengths.{Lengths}
 use Rattle.judge.specs.declared.Fault.{Fault}
 use Rattle.judge.specs.declared.Answer.{Answer}
-use Rattle.judge.specs.Judge.{instructionAt, takes, gives, runRows, stepRows, refusal, done, judged, judgedStep}
+use Rattle.judge.specs.Instructions.{instructionAt, takes, gives}
+use Rattle.judge.specs.Modes.{modesAfter}
+use Rattle.judge.specs.Judge.{runRows, stepRows, refusal, done, judged, judgedStep}
 use Rattle.judge.specs.Numbers.{Refused, by-lent, by-instruction, by-item, by-room}
 use Rattle.judge.proofs.Numbers.{Outcome, refused, accepted, outcome, first-fault, fault-high}
 use Rattle.judge.proofs.Accepted.{run-fit, step-fit}
@@ -39,24 +42,26 @@ done-bounds list h =
       given = omega (arith, count-le (λ k. gives (instructionAt list k)) (length list / 8));
     }
 
-refused-bounds : (rows : List Row) (l : Lengths) (list : List ℕ) → upTo 18 rows ≡ true → (NoRow rows → length list ≤ 32768)
-    → (n k b : ℕ) → Refused rows l list n k b → Bounded (refusal n k b)
-refused-bounds rows l list high size n k b (by-lent m f) =
+refused-bounds : (rows : List Row) (l : Lengths) (modes : Modes) (list : List ℕ) → upTo 18 rows ≡ true → (NoRow rows → length list ≤ 32768)
+    → (n k b : ℕ) → Refused rows l modes list n k b → Bounded (refusal n k b)
+refused-bounds rows l modes list high size n k b (by-lent m f) =
     refusal-bounds m 0 0 (let e = first-number rows m f in let h = number-high 18 rows high in omega arith) (omega arith) (omega arith)
-refused-bounds rows l list high size n k b (by-instruction m p c r h o f) =
-    let w = subst (λ (x : Fault). (x .number ≤ 18) × (x .byte ≤ 7)) (first-fault (instructionAt list p) m c f) (fault-high (instructionAt list p)) in
+refused-bounds rows l modes list high size n k b (by-instruction m p c r h o f) =
+    let w = subst (λ (x : Fault). (x .number ≤ 18) × (x .byte ≤ 7)) (first-fault (modesAfter list modes p) (instructionAt list p) m c f) (fault-high (modesAfter list modes p) (instructionAt list p)) in
     refusal-bounds m p c (w .0) (omega (arith, size r)) (w .1)
-refused-bounds rows l list high size n k b (by-item p r f h o t) = refusal-bounds 12 p 0 (omega arith) (omega (arith, size r)) (omega arith)
-refused-bounds rows l list high size n k b (by-room p r f s h o t) = refusal-bounds 13 p 0 (omega arith) (omega (arith, size r)) (omega arith)
+refused-bounds rows l modes list high size n k b (by-item p r f h o t) = refusal-bounds 12 p 0 (omega arith) (omega (arith, size r)) (omega arith)
+refused-bounds rows l modes list high size n k b (by-room p r f s h o t) = refusal-bounds 13 p 0 (omega arith) (omega (arith, size r)) (omega arith)
 
-bounds : (rows : List Row) (l : Lengths) (list : List ℕ) → upTo 18 rows ≡ true → (NoRow rows → length list ≤ 32768)
-    → (a : Answer) → Outcome rows l list a → Bounded a
-bounds rows l list high size a (refused n k b u why) = refused-bounds rows l list high size n k b why
-bounds rows l list high size a (accepted why) = done-bounds list (size (why .lent))
+bounds : (rows : List Row) (l : Lengths) (modes : Modes) (list : List ℕ) → upTo 18 rows ≡ true → (NoRow rows → length list ≤ 32768)
+    → (a : Answer) → Outcome rows l modes list a → Bounded a
+bounds rows l modes list high size a (refused n k b u why) = refused-bounds rows l modes list high size n k b why
+bounds rows l modes list high size a (accepted why) = done-bounds list (size (why .lent))
 
-pub judged-bounds : (l : Lengths) (list : List ℕ) → Bounded (judged l list)
-judged-bounds l list = bounds (runRows l list) l list refl (run-fit l list) (judged l list) (outcome (runRows l list) l list refl)
+pub judged-bounds : (l : Lengths) (modes : Modes) (list : List ℕ) → Bounded (judged l modes list)
+judged-bounds l modes list =
+    bounds (runRows l modes list) l modes list refl (run-fit l modes list) (judged l modes list) (outcome (runRows l modes list) l modes list refl)
 
-pub step-bounds : (l : Lengths) (instruction : List ℕ) → Bounded (judgedStep l instruction)
-step-bounds l instruction =
-    bounds (stepRows l instruction) l instruction refl (step-fit l instruction) (judgedStep l instruction) (outcome (stepRows l instruction) l instruction refl)
+pub step-bounds : (l : Lengths) (modes : Modes) (instruction : List ℕ) → Bounded (judgedStep l modes instruction)
+step-bounds l modes instruction =
+    bounds (stepRows l modes instruction) l modes instruction refl (step-fit l modes instruction) (judgedStep l modes instruction)
+    (outcome (stepRows l modes instruction) l modes instruction refl)

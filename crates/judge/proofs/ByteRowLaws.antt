@@ -1,7 +1,7 @@
 -- Laws of a table whose rows say which byte is wrong: what it gives and the first row and condition that hold, both ways; a condition by its number and byte. Assumes nothing.
 use mathlib.Core.Path.{_≡_, refl, sym, ap, subst, _∙_}
 use mathlib.Core.Bool.{Bool, true, false, cond, not, _&&_, _||_}
-use mathlib.Core.List.{List, [], _∷_}
+use mathlib.Core.List.{List, [], _∷_, _++_}
 use mathlib.Core.Logic.{_⊎_, inl, inr}
 use Prim.Native.Nat.{ℕ, _≤_}
 use native.Mathlib.Omega.{arith}
@@ -173,3 +173,16 @@ fault-test (r ∷ rows) t = by (r .conditions) (fault-test rows (and-right (not 
             ≡ (not h && noneOf cs (noByteRow rows))
         go true ih = not-true (eqb (r .number) 0) (and-left _ (numbered (heads rows)) t)
         go false ih = ih
+
+-- the test of two tables one behind the other is that of both
+none-append-by : (cs : List Row) (x y : Bool) → noneOf cs (x && y) ≡ (noneOf cs x && y)
+none-append-by [] x y = refl
+none-append-by (c ∷ cs) x y = go (not (c .holds)) (none-append-by cs x y)
+  where
+    go : (h : Bool) → noneOf cs (x && y) ≡ (noneOf cs x && y) → (h && noneOf cs (x && y)) ≡ ((h && noneOf cs x) && y)
+    go true e = e
+    go false e = refl
+
+pub none-append : (rows more : List ByteRow) → noByteRow (rows ++ more) ≡ (noByteRow rows && noByteRow more)
+none-append [] more = refl
+none-append (r ∷ rows) more = ap (noneOf (r .conditions)) (none-append rows more) ∙ none-append-by (r .conditions) (noByteRow rows) (noByteRow more)

@@ -2,6 +2,7 @@
 pub mod RowLaws
 pub mod ByteRowLaws
 pub mod FormLaws
+pub mod ModeLaws
 pub mod Numbers
 pub mod Accepted
 pub mod Shortage

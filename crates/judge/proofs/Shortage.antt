@@ -10,9 +10,12 @@ use lib.ListN.{length}
 use borrow.Author.Tests.{ltb-true, ltb-false}
 use Rattle.bits.specs.Search.{first, count}
 use Rattle.bits.proofs.Search.{found-none, none-found, found-le, count-more}
+use Rattle.registers.specs.declared.Modes.{Modes}
 use Rattle.judge.specs.declared.Instruction.{Instruction}
 use Rattle.judge.specs.declared.Tally.{Tally}
-use Rattle.judge.specs.Judge.{instructionAt, takes, gives, lacks, faulty, done}
+use Rattle.judge.specs.Instructions.{instructionAt, takes, gives}
+use Rattle.judge.specs.Modes.{modesAfter}
+use Rattle.judge.specs.Judge.{lacks, faultOf, faultAt, faulty, done}
 use Rattle.judge.specs.Steps.{tallyOf}
 use Rattle.judge.specs.Numbers.{Served}
 use Rattle.judge.proofs.Numbers.{has-it, it-has}
@@ -65,21 +68,32 @@ module _ (wants : Instruction → Bool) (list : List ℕ) where
 
 -- ---- the walk that counts
 
-module _ (list : List ℕ) where
-  pub tally-is : (k taken given : ℕ) → k ≡ first (faulty list) 0 (length list / 8) → taken ≡ before takes list k → given ≡ before gives list k
-      → _≡_ {A = Tally} (record { place = k; taken = taken; given = given }) (tallyOf list)
-  unfolding tallyOf
-  tally-is k taken given e p q = cc (p ∙ ap (before takes list) e, q ∙ ap (before gives list) e)
+module _ (modes : Modes) (list : List ℕ) where
+  -- the first instruction that has a number, or how many there are
+  abbrev found : ℕ
+  found = first (faulty modes list) 0 (length list / 8)
 
-  pub tally-place : (t : Tally) → t ≡ tallyOf list → t .place ≡ first (faulty list) 0 (length list / 8)
+  pub tally-is : (k taken given : ℕ) (after : Modes) → k ≡ found → taken ≡ before takes list k → given ≡ before gives list k → after ≡ modesAfter list modes k
+      → _≡_ {A = Tally} (record { place = k; taken = taken; given = given; modes = after }) (tallyOf modes list)
+  unfolding tallyOf
+  tally-is k taken given after e p q r =
+      λ j. record { place = e j; taken = (p ∙ ap (before takes list) e) j; given = (q ∙ ap (before gives list) e) j; modes = (r ∙ ap (modesAfter list modes) e) j }
+
+  pub tally-place : (t : Tally) → t ≡ tallyOf modes list → t .place ≡ found
   unfolding tallyOf
   tally-place t e = ap (λ (x : Tally). x .place) e
 
+  -- what is wrong at the place, by the mode registers that the walk has there
+  pub tally-fault : (t : Tally) → t ≡ tallyOf modes list → (i : Instruction) → i ≡ instructionAt list (t .place)
+      → faultOf (t .modes) i ≡ faultAt modes list found
+  unfolding tallyOf
+  tally-fault t e i d = ap₂ faultOf (ap (λ (x : Tally). x .modes) e) (d ∙ ap (instructionAt list) (tally-place t e))
+
   -- where no instruction has a number the counts are the whole list's
-  pub tally-whole : (t : Tally) → t ≡ tallyOf list → length list / 8 ≤ t .place
-      → (length list / 8 ≤ first (faulty list) 0 (length list / 8)) × (t .taken ≡ done list .taken) × (t .given ≡ done list .given)
+  pub tally-whole : (t : Tally) → t ≡ tallyOf modes list → length list / 8 ≤ t .place
+      → (length list / 8 ≤ found) × (t .taken ≡ done list .taken) × (t .given ≡ done list .given)
   unfolding tallyOf
   tally-whole t e h =
       let p = tally-place t e in
-      let n : first (faulty list) 0 (length list / 8) ≡ length list / 8 = omega (arith, found-le (faulty list) (length list / 8)) in
+      let n : found ≡ length list / 8 = omega (arith, found-le (faulty modes list) (length list / 8)) in
       (omega arith, ap (λ (x : Tally). x .taken) e ∙ ap (before takes list) n, ap (λ (x : Tally). x .given) e ∙ ap (before gives list) n)

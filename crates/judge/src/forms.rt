@@ -5,14 +5,21 @@ use crate::kinds::MASKED_STORE;
 use crate::kinds::MEMORY;
 use crate::kinds::OUTSIDE;
 use crate::kinds::RESOLVE;
+use crate::kinds::SET_MODE;
 use crate::kinds::STORE;
+use crate::kinds::TAG_A;
+use crate::kinds::TAG_B;
+use crate::kinds::TAG_GIVEN;
+use registers::Modes;
 ghost use mathlib.Core.Path.{_≡_};
 ghost use mathlib.Core.Bool.{true, false};
-ghost use Prim.Native.Nat.{_+_, _*_, _≤_};
+ghost use Prim.Native.Nat.{_+_, _*_, _<_, _≤_};
 ghost use lib.Dec.{eqb};
 ghost use lib.ListN.{length};
-ghost use Rattle.judge.specs.Judge.{instructionAt, stores, faultOf};
-ghost use Rattle.judge.specs.Steps.{idle, fits, passes};
+ghost use Rattle.registers.specs.declared.Modes.{Modes};
+ghost use Rattle.judge.specs.Instructions.{instructionAt, stores};
+ghost use Rattle.judge.specs.Judge.{faultOf};
+ghost use Rattle.judge.specs.Steps.{idle, moded, fits, passes};
 
 // Are tag, mode and address 0?
 fn idle(list: &[u8], k: usize) -> bool
@@ -23,52 +30,80 @@ fn idle(list: &[u8], k: usize) -> bool
     (list[at + 2] == 0) & (list[at + 3] == 0) & (list[at + 4] == 0)
 }
 
-// Rows 5 to 9 for kinds 0, 1 and 4: memory with a mode given, or another source with none.
-fn source_fits(list: &[u8], k: usize) -> bool
+// Rows 7, 8, 9 and 14 where memory is touched: a mode given, or that of a register which is set.
+fn mode_fits(m: Modes, list: &[u8], k: usize) -> bool
+    requires { ⌜ 8 * k + 8 ≤ length (now list) ⌝ }
+    ensures { λ r. ⌜ r ≡ moded m (instructionAt (now (list .entry)) k) ⌝ }
+{
+    let at = 8 * k;
+    let tag = list[at + 2];
+    if tag == TAG_GIVEN {
+        return true;
+    }
+    let unused = list[at + 3] == 0;
+    if tag == TAG_A {
+        return unused & (m.a.set == 1);
+    }
+    if tag == TAG_B {
+        return unused & (m.b.set == 1);
+    }
+    false
+}
+
+// Rows 5 to 9 and 14 for kinds 0, 1 and 4: memory with a mode, or another source with none.
+fn source_fits(m: Modes, list: &[u8], k: usize) -> bool
     requires { ⌜ 8 * k + 8 ≤ length (now list) ⌝ }
     requires { ⌜ instructionAt (now list) k .kind ≤ 4 ⌝ }
     requires { ⌜ stores (instructionAt (now list) k) ≡ false ⌝ }
-    ensures { λ r. ⌜ r ≡ fits (instructionAt (now (list .entry)) k) ⌝ }
+    ensures { λ r. ⌜ r ≡ fits m (instructionAt (now (list .entry)) k) ⌝ }
 {
     let at = 8 * k;
     let source = list[at + 1];
     if source == MEMORY {
-        return list[at + 2] == 1;
+        return mode_fits(m, list, k);
     }
     !(source > OUTSIDE) & idle(list, k)
 }
 
-// Rows 5 to 9 for kinds 2 and 3: a source that is not memory, and a mode given.
-fn store_fits(list: &[u8], k: usize) -> bool
+// Rows 5 to 9 and 14 for kinds 2 and 3: a source that is not memory, and a mode.
+fn store_fits(m: Modes, list: &[u8], k: usize) -> bool
     requires { ⌜ 8 * k + 8 ≤ length (now list) ⌝ }
     requires { ⌜ stores (instructionAt (now list) k) ≡ true ⌝ }
-    ensures { λ r. ⌜ r ≡ fits (instructionAt (now (list .entry)) k) ⌝ }
+    ensures { λ r. ⌜ r ≡ fits m (instructionAt (now (list .entry)) k) ⌝ }
 {
-    let at = 8 * k;
-    let source = list[at + 1];
-    !(source == MEMORY) & !(source > OUTSIDE) & (list[at + 2] == 1)
+    let source = list[8 * k + 1];
+    !(source == MEMORY) & !(source > OUTSIDE) & mode_fits(m, list, k)
 }
 
-// Rows 5 to 9 for kind 5: no source and no mode.
+// Rows 5 to 9 and 14 for kind 5: no source and no mode, whatever the mode registers are.
 fn resolve_fits(list: &[u8], k: usize) -> bool
     requires { ⌜ 8 * k + 8 ≤ length (now list) ⌝ }
     requires { ⌜ instructionAt (now list) k .kind ≡ 5 ⌝ }
-    ensures { λ r. ⌜ r ≡ fits (instructionAt (now (list .entry)) k) ⌝ }
+    ensures { λ r. ⌜ ((m : Modes) → r ≡ fits m (instructionAt (now (list .entry)) k)) ⌝ }
 {
     (list[8 * k + 1] == 0) & idle(list, k)
 }
 
-// Rows 18, 16 and 17. Most instructions have no shift, which needs no search among the 37.
+// The same for kind 6: no source, the tag of a register, and no address.
+fn set_fits(list: &[u8], k: usize) -> bool
+    requires { ⌜ 8 * k + 8 ≤ length (now list) ⌝ }
+    requires { ⌜ instructionAt (now list) k .kind ≡ 6 ⌝ }
+    ensures { λ r. ⌜ ((m : Modes) → r ≡ fits m (instructionAt (now (list .entry)) k)) ⌝ }
+{
+    let at = 8 * k;
+    let tag = list[at + 2];
+    (list[at + 1] == 0) & ((tag == TAG_A) | (tag == TAG_B)) & (list[at + 4] == 0)
+}
+
+// Rows 18, 16 and 17 for kinds up to 4. Most instructions have no shift, which needs no search among the 37.
 fn pass_fits(list: &[u8], k: usize) -> bool
     requires { ⌜ 8 * k + 8 ≤ length (now list) ⌝ }
+    requires { ⌜ instructionAt (now list) k .kind ≤ 4 ⌝ }
     ensures { λ r. ⌜ r ≡ passes (instructionAt (now (list .entry)) k) ⌝ }
 {
     let at = 8 * k;
     let kind = list[at];
     let code = list[at + 6];
-    if kind == RESOLVE {
-        return (code == 0) & (list[at + 5] == 0);
-    }
     if code == 0 {
         return true;
     }
@@ -78,10 +113,29 @@ fn pass_fits(list: &[u8], k: usize) -> bool
     network::codes::is_code(code)
 }
 
-// The pass, byte 7, then the rest by kind.
-pub fn formed(list: &[u8], k: usize) -> bool
+// All rows for kinds over 4, which have no move and no function.
+pub fn still_fits(m: Modes, list: &[u8], k: usize) -> bool
     requires { ⌜ 8 * k + 8 ≤ length (now list) ⌝ }
-    ensures { λ r. ⌜ r ≡ eqb (faultOf (instructionAt (now (list .entry)) k) .number) 0 ⌝ }
+    requires { ⌜ 4 < instructionAt (now list) k .kind ⌝ }
+    ensures { λ r. ⌜ r ≡ eqb (faultOf m (instructionAt (now (list .entry)) k) .number) 0 ⌝ }
+{
+    let at = 8 * k;
+    let kind = list[at];
+    let still = (list[at + 5] == 0) & (list[at + 6] == 0) & (list[at + 7] == 0);
+    if kind == RESOLVE {
+        return still & resolve_fits(list, k);
+    }
+    if kind == SET_MODE {
+        return still & set_fits(list, k);
+    }
+    false
+}
+
+// All rows for kinds up to 4: the pass, byte 7, then the rest by kind.
+pub fn moving_fits(m: Modes, list: &[u8], k: usize) -> bool
+    requires { ⌜ 8 * k + 8 ≤ length (now list) ⌝ }
+    requires { ⌜ instructionAt (now list) k .kind ≤ 4 ⌝ }
+    ensures { λ r. ⌜ r ≡ eqb (faultOf m (instructionAt (now (list .entry)) k) .number) 0 ⌝ }
 {
     let at = 8 * k;
     let kind = list[at];
@@ -92,19 +146,13 @@ pub fn formed(list: &[u8], k: usize) -> bool
         if list[at + 7] / 16 > 4 {
             return false;
         }
-        return source_fits(list, k);
+        return source_fits(m, list, k);
     }
     if list[at + 7] != 0 {
         return false;
     }
     if (kind == STORE) | (kind == MASKED_STORE) {
-        return store_fits(list, k);
+        return store_fits(m, list, k);
     }
-    if kind == RESOLVE {
-        return resolve_fits(list, k);
-    }
-    if kind > RESOLVE {
-        return false;
-    }
-    source_fits(list, k)
+    source_fits(m, list, k)
 }

@@ -1,4 +1,4 @@
-// The kinds of instructions and their sources, under document 01's names.
+// The kinds of instructions, their sources and mode tags, under the documents' names.
 pub const LOGIC: u8 = 0;
 
 pub const SET_M: u8 = 1;
@@ -11,6 +11,8 @@ pub const DELIVER: u8 = 4;
 
 pub const RESOLVE: u8 = 5;
 
+pub const SET_MODE: u8 = 6;
+
 pub const MEMORY: u8 = 0;
 
 pub const M: u8 = 1;
@@ -18,3 +20,9 @@ pub const M: u8 = 1;
 pub const X: u8 = 2;
 
 pub const OUTSIDE: u8 = 4;
+
+pub const TAG_GIVEN: u8 = 1;
+
+pub const TAG_A: u8 = 2;
+
+pub const TAG_B: u8 = 3;

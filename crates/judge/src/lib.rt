@@ -1,21 +1,25 @@
-// The judge: the number that a run gives back, with its place, its byte and its counts, from the lengths and the list alone. Document 01, Numbers given back; document 02, Six.
+// The judge: the number that a run gives back, with its place, its byte and its counts, from the lengths, the mode registers and the list alone. Document 01, Numbers given back; document 02, Six and Seven.
 mod forms;
 pub mod kinds;
+pub mod modes;
 pub mod rows;
 pub mod searches;
 
 use bits::choices::number_or;
+use registers::Modes;
+use registers::mode_bytes::wrong_modes;
 ghost use mathlib.Core.Path.{_≡_};
 ghost use Prim.Native.Nat.{_+_, _*_, _<_, _≤_};
 ghost use lib.ListN.{length};
 ghost use Rattle.bits.specs.Rows.{numberOf};
 ghost use Rattle.judge.specs.Kinds.{mostBytes};
-ghost use Rattle.judge.specs.Judge.{instructionAt, unfit, runRows, stepRows, refusal, orElse, judgedList, judged, judgedStep};
+ghost use Rattle.judge.specs.Instructions.{instructionAt};
+ghost use Rattle.judge.specs.Judge.{unfit, runRows, stepRows, refusal, orElse, judgedList, judged, judgedStep};
 
 // The lengths that stand: of the memory, of the registers, and the most that a list or items may have.
 pub const MEMORY_BYTES: usize = 8192;
 
-pub const REGISTER_BYTES: usize = 96;
+pub const REGISTER_BYTES: usize = 100;
 
 pub const MOST_BYTES: usize = 32768;
 
@@ -55,11 +59,12 @@ pub struct Answer {
     pub given: usize,
 }
 
-// The first instruction that has a number, and how many before it take an item and give one.
+// The first instruction that has a number, how many before it take an item and give one, and the mode registers before it.
 pub struct Tally {
     pub place: usize,
     pub taken: usize,
     pub given: usize,
+    pub modes: Modes,
 }
 
 // Instruction `k` of a list.
@@ -88,21 +93,23 @@ fn unfit(unit: usize, size: usize) -> bool
     !(size % unit == 0) | (size > MOST_BYTES)
 }
 
-// The number of what a run is lent, 1 to 4: 0 where nothing is wrong.
-fn run_fault(l: Lengths, list: &[u8]) -> u8
-    ensures { λ r. ⌜ r ≡ numberOf (runRows l (now (list .entry))) ⌝ }
+// The number of what a run is lent, 1 to 4, and 15: 0 where nothing is wrong.
+fn run_fault(l: Lengths, m: Modes, list: &[u8]) -> u8
+    ensures { λ r. ⌜ r ≡ numberOf (runRows l m (now (list .entry))) ⌝ }
 {
-    let from4 = number_or(unfit(32, l.items), 4, 0);
+    let from15 = number_or(wrong_modes(m), 15, 0);
+    let from4 = number_or(unfit(32, l.items), 4, from15);
     let from3 = number_or(unfit(8, list.len()), 3, from4);
     let from2 = number_or(!(l.registers == REGISTER_BYTES), 2, from3);
     number_or(!(l.memory == MEMORY_BYTES), 1, from2)
 }
 
 // The number of what a step is lent.
-fn step_fault(l: Lengths, instruction: &[u8]) -> u8
-    ensures { λ r. ⌜ r ≡ numberOf (stepRows l (now (instruction .entry))) ⌝ }
+fn step_fault(l: Lengths, m: Modes, instruction: &[u8]) -> u8
+    ensures { λ r. ⌜ r ≡ numberOf (stepRows l m (now (instruction .entry))) ⌝ }
 {
-    let from4 = number_or(unfit(32, l.items), 4, 0);
+    let from15 = number_or(wrong_modes(m), 15, 0);
+    let from4 = number_or(unfit(32, l.items), 4, from15);
     let from3 = number_or(!(instruction.len() == 8), 3, from4);
     number_or(!(l.memory == MEMORY_BYTES), 1, from3)
 }
@@ -122,15 +129,16 @@ fn refused(number: u8, place: usize, byte: u8) -> Answer
 
 // Each instruction in turn; then 12; then 13. A list that stands is walked once: what all of it takes and gives is there exactly if each instruction
 // finds its own, so that only a list that lacks some is searched for the instruction.
-fn judge_list(l: Lengths, list: &[u8]) -> Answer
+fn judge_list(l: Lengths, m: Modes, list: &[u8]) -> Answer
     requires { ⌜ length (now list) ≤ mostBytes ⌝ }
-    ensures { λ r. ⌜ r ≡ judgedList l (now (list .entry)) ⌝ }
+    ensures { λ r. ⌜ r ≡ judgedList l m (now (list .entry)) ⌝ }
 {
     let n = list.len() / 8;
-    let tally = searches::tally(list);
+    let tally = searches::tally(m, list);
     let bad = tally.place;
     if bad < n {
-        let fault = rows::fault(decode(list, bad));
+        let before = tally.modes;
+        let fault = rows::fault(before, decode(list, bad));
         return refused(fault.number, bad, fault.byte);
     }
     if l.items < 32 * tally.taken {
@@ -150,26 +158,26 @@ fn judge_list(l: Lengths, list: &[u8]) -> Answer
 }
 
 // What is lent first, whose number is `wrong`; then the list.
-fn judge_by(wrong: u8, l: Lengths, list: &[u8]) -> Answer
+fn judge_by(wrong: u8, l: Lengths, m: Modes, list: &[u8]) -> Answer
     requires { ⌜ (wrong ≡ 0 → length (now list) ≤ mostBytes) ⌝ }
-    ensures { λ r. ⌜ r ≡ orElse (refusal wrong 0 0) (judgedList l (now (list .entry))) ⌝ }
+    ensures { λ r. ⌜ r ≡ orElse (refusal wrong 0 0) (judgedList l m (now (list .entry))) ⌝ }
 {
     if wrong != 0 {
         return refused(wrong, 0, 0);
     }
-    judge_list(l, list)
+    judge_list(l, m, list)
 }
 
-// What a run gives back.
-pub fn judge(l: Lengths, list: &[u8]) -> Answer
-    ensures { λ r. ⌜ r ≡ judged l (now (list .entry)) ⌝ }
+// What a run gives back, by the mode registers at its start.
+pub fn judge(l: Lengths, m: Modes, list: &[u8]) -> Answer
+    ensures { λ r. ⌜ r ≡ judged l m (now (list .entry)) ⌝ }
 {
-    judge_by(run_fault(l, list), l, list)
+    judge_by(run_fault(l, m, list), l, m, list)
 }
 
 // What a step gives back: a run's answer for its one instruction, which is exactly 8 bytes, else 3.
-pub fn judge_step(l: Lengths, instruction: &[u8]) -> Answer
-    ensures { λ r. ⌜ r ≡ judgedStep l (now (instruction .entry)) ⌝ }
+pub fn judge_step(l: Lengths, m: Modes, instruction: &[u8]) -> Answer
+    ensures { λ r. ⌜ r ≡ judgedStep l m (now (instruction .entry)) ⌝ }
 {
-    judge_by(step_fault(l, instruction), l, instruction)
+    judge_by(step_fault(l, m, instruction), l, m, instruction)
 }

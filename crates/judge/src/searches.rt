@@ -3,8 +3,11 @@ use crate::Instruction;
 use crate::Tally;
 use crate::decode;
 use crate::forms;
+use crate::kinds::DELIVER;
+use crate::modes::modes_by;
 use crate::rows;
 use bits::choices::one_if;
+use registers::Modes;
 ghost use mathlib.Core.Path.{_≡_};
 ghost use Prim.Native.Nat.{_/_, _≤_};
 ghost use lib.ListN.{length};
@@ -13,21 +16,24 @@ ghost use Rattle.judge.specs.Kinds.{mostBytes};
 ghost use Rattle.judge.specs.Judge.{lacks, uses};
 ghost use Rattle.judge.specs.Steps.{tallyOf};
 
-// The first instruction that has a number, or how many there are, and what those before it take and give.
-pub fn tally(list: &[u8]) -> Tally
-    ensures { λ r. ⌜ r ≡ tallyOf (now (list .entry)) ⌝ }
+// The first instruction that has a number, or how many there are, what those before it take and give, and what they make of the mode registers.
+// Kinds up to 4 leave those as they are and are asked apart, so that a list that uses no mode register does not pay for them.
+pub fn tally(m: Modes, list: &[u8]) -> Tally
+    ensures { λ r. ⌜ r ≡ tallyOf m (now (list .entry)) ⌝ }
 {
     let n = list.len() / 8;
+    let mut modes = m;
     let mut taken: usize = 0;
     let mut given: usize = 0;
     let mut k: usize = 0;
     while k < n {
-        if !forms::formed(list, k) {
-            return Tally {
-                place: k,
-                taken: taken,
-                given: given,
-            };
+        if list[8 * k] > DELIVER {
+            if !forms::still_fits(modes, list, k) {
+                break;
+            }
+            modes = modes_by(decode(list, k), modes);
+        } else if !forms::moving_fits(modes, list, k) {
+            break;
         }
         let i = decode(list, k);
         taken += one_if(rows::takes(i));
@@ -35,9 +41,10 @@ pub fn tally(list: &[u8]) -> Tally
         k += 1;
     }
     Tally {
-        place: n,
+        place: k,
         taken: taken,
         given: given,
+        modes: modes,
     }
 }
 

@@ -9,6 +9,7 @@ use lib.ListN.{length}
 use Rattle.network.specs.declared.Passed.{Passed}
 use Rattle.network.specs.Answer.{answer}
 use Rattle.registers.specs.declared.Registers.{Registers}
+use Rattle.registers.specs.Modes.{modesOf}
 use Rattle.judge.specs.declared.Answer.{Answer as Verdict}
 use Rattle.judge.proofs.Bounds.{Bounded as Bounded6, judged-bounds, step-bounds}
 use Rattle.module.specs.Run.{Lent, Left, runLengths, stepLengths, ran, stepped}
@@ -43,7 +44,7 @@ module _ {R : Type 0} (u v : Left R Verdict) where
 module _ (l : Lent (List ℕ)) (u : Left (List ℕ) Verdict) where
   pub ran-small : u ≡ ran l → (u .answer .place ≤ 4096) × (u .answer .steps ≤ 4096) × (u .answer .taken ≤ 4096) × (u .answer .given ≤ 4096)
   ran-small e =
-      small-six (u .answer) _ (ap (λ (x : Left (List ℕ) Verdict). x .answer) e ∙ ran-answer l) (judged-bounds (runLengths l) (l .list))
+      small-six (u .answer) _ (ap (λ (x : Left (List ℕ) Verdict). x .answer) e ∙ ran-answer l) (judged-bounds (runLengths l) (modesOf (l .registers)) (l .list))
 
   pub run-left : (w : List ℕ) → u ≡ ran l → w ≡ six (u .answer)
       → _≡_ {A = Left (List ℕ) (List ℕ)} (record { memory = u .memory; registers = u .registers; out = u .out; answer = w }) (runLeft l)
@@ -53,7 +54,7 @@ module _ (l : Lent (List ℕ)) (u : Left (List ℕ) Verdict) where
 module _ (l : Lent Registers) (u : Left Registers Verdict) where
   pub stepped-small : u ≡ stepped l → (u .answer .place ≤ 4096) × (u .answer .steps ≤ 4096) × (u .answer .taken ≤ 4096) × (u .answer .given ≤ 4096)
   stepped-small e =
-      small-six (u .answer) _ (ap (λ (x : Left Registers Verdict). x .answer) e ∙ stepped-answer l) (step-bounds (stepLengths l) (l .list))
+      small-six (u .answer) _ (ap (λ (x : Left Registers Verdict). x .answer) e ∙ stepped-answer l) (step-bounds (stepLengths l) (l .registers .modes) (l .list))
 
   pub step-left : (w : List ℕ) → u ≡ stepped l → w ≡ six (u .answer)
       → _≡_ {A = Left Registers (List ℕ)} (record { memory = u .memory; registers = u .registers; out = u .out; answer = w }) (stepLeft l)

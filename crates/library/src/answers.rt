@@ -22,7 +22,7 @@ pub fn six(a: judge::Answer) -> [u32; 6]
     ]
 }
 
-// The same six, put into the lent array: `staran_step_4` hands its own on to here.
+// The same six, put into the lent array: `staran_step_5` hands its own on to here.
 pub fn put_six(a: judge::Answer, answer: &mut [u32; 6])
     requires { ⌜ (a .place ≤ 4096) × (a .steps ≤ 4096) × (a .taken ≤ 4096) × (a .given ≤ 4096) ⌝ }
     ensures { λ _. ⌜ now (answer .exit) ≡ six a ⌝ }

@@ -18,9 +18,9 @@ use Rattle.module.specs.Act.{State}
 use Rattle.module.specs.Run.{Lent, Left, unmoved, stepLengths, ranAll, ran, stepped, lentBytes, leftBytes}
 use Rattle.registers.proofs.RowLaws.{registers-bytes, length-bytes}
 
-module _ (l : Lent Registers) (a : Answer) (judge : a ≡ judgedStep (stepLengths l) (l .list)) where
-  pub instruction-accepted : a .number ≡ 0 → Accepted (stepLengths l) (l .list)
-  instruction-accepted h = step-accepted (stepLengths l) (l .list) (sym (ap (λ (x : Answer). x .number) judge) ∙ h)
+module _ (l : Lent Registers) (a : Answer) (judge : a ≡ judgedStep (stepLengths l) (l .registers .modes) (l .list)) where
+  pub instruction-accepted : a .number ≡ 0 → Accepted (stepLengths l) (l .registers .modes) (l .list)
+  instruction-accepted h = step-accepted (stepLengths l) (l .registers .modes) (l .list) (sym (ap (λ (x : Answer). x .number) judge) ∙ h)
 
   pub stepped-done : a .number ≡ 0 → (s : State) → s ≡ ranAll l (l .registers)
       → _≡_ {A = Left Registers Answer} (record { memory = s .mem; registers = s .regs; out = s .out; answer = a }) (stepped l)
@@ -33,12 +33,12 @@ module _ (l : Lent Registers) (a : Answer) (judge : a ≡ judgedStep (stepLength
   unfolding stepped
   stepped-refused h = ap (unmoved l) judge ∙ simp (ne-eqb _ _ (λ q. h (ap (λ (x : Answer). x .number) judge ∙ q)))
 
--- the answer is the judge's, of the lengths and the instruction alone
-pub stepped-answer : (l : Lent Registers) → stepped l .answer ≡ judgedStep (stepLengths l) (l .list)
+-- the answer is the judge's, of the lengths, the mode registers and the instruction alone
+pub stepped-answer : (l : Lent Registers) → stepped l .answer ≡ judgedStep (stepLengths l) (l .registers .modes) (l .list)
 stepped-answer l = go (ℕ-discrete (a .number) 0)
   where
     a : Answer
-    a = judgedStep (stepLengths l) (l .list)
+    a = judgedStep (stepLengths l) (l .registers .modes) (l .list)
 
     go : Dec (a .number ≡ 0) → stepped l .answer ≡ a
     go (yes z) = sym (ap (λ (x : Left Registers Answer). x .answer) (stepped-done l a refl z (ranAll l (l .registers)) refl))
@@ -52,7 +52,7 @@ pub stored-if-done : (l : Lent Registers) (u : Left Registers Answer) → u ≡ 
 stored-if-done l u e =
     ap (λ (q : Registers). record { memory = u .memory; registers = q; out = u .out; answer = u .answer }) (sym (go (ℕ-discrete (u .answer .number) 0))) ∙ e
   where
-    same : u .answer ≡ judgedStep (stepLengths l) (l .list)
+    same : u .answer ≡ judgedStep (stepLengths l) (l .registers .modes) (l .list)
     same = ap (λ (x : Left Registers Answer). x .answer) e ∙ stepped-answer l
 
     go : Dec (u .answer .number ≡ 0) → u .registers ≡ cond (eqb (u .answer .number) 0) (u .registers) (l .registers)
@@ -70,14 +70,14 @@ module _ (l : Lent Registers) where
   unfolding ran stepped
   step-is-run hm hx hy h =
       ap₂ (λ (a : Answer) (q : Registers). left (eqb (a .number) 0) a q)
-      (ap (λ (n : ℕ). judged (record { memory = length (l .memory); registers = n; items = length (l .items); out = length (l .out) }) (l .list))
-      (length-bytes (l .registers) hm hx hy)
-      ∙ sym (step-as-run (stepLengths l) (l .list) refl h))
+      (ap₂ (λ (n : ℕ) (q : Registers). judged (record { memory = length (l .memory); registers = n; items = length (l .items); out = length (l .out) }) (q .modes) (l .list))
+      (length-bytes (l .registers) hm hx hy) (registers-bytes (l .registers) hm hx hy)
+      ∙ sym (step-as-run (stepLengths l) (l .registers .modes) (l .list) refl h))
       (registers-bytes (l .registers) hm hx hy)
       ∙ split (eqb (b .number) 0) b
     where
       b : Answer
-      b = judgedStep (stepLengths l) (l .list)
+      b = judgedStep (stepLengths l) (l .registers .modes) (l .list)
 
       left : Bool → Answer → Registers → Left (List ℕ) Answer
       left t a q =
@@ -94,4 +94,4 @@ module _ (l : Lent Registers) where
   -- an instruction of any other length is 3, unless the memory is wrong, which is 1; nothing changes
   pub step-not-eight : length (l .memory) ≡ 8192 → (length (l .list) ≡ 8 → ⊥) → stepped l ≡ unmoved l (refusal 3 0 0)
   step-not-eight e u =
-      sym (stepped-refused l (refusal 3 0 0) (sym (step-unlike (stepLengths l) (l .list) e u)) (λ z. omega arith))
+      sym (stepped-refused l (refusal 3 0 0) (sym (step-unlike (stepLengths l) (l .registers .modes) (l .list) e u)) (λ z. omega arith))

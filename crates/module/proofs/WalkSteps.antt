@@ -1,4 +1,4 @@
--- Steps for walks by hand, `step` here and `staran_step_4` above, beside the kit's: an operand that is a local, read whichever local it is, and a store that a test decides. Assumes nothing.
+-- Steps for walks by hand, `step` here and `staran_step_5` above, beside the kit's: an operand that is a local, read whichever local it is, and a store that a test decides. Assumes nothing.
 use mathlib.Core.Path.{_≡_, sym, subst}
 use mathlib.Core.Bool.{Bool, true, false}
 use mathlib.Core.List.{List, []}

@@ -1,4 +1,4 @@
--- What one instruction makes of the memory, the out buffer, the registers and the counts. Document 01, Instructions.
+-- What one instruction makes of the memory, the out buffer, the registers and the counts. Document 01, Instructions; document 02, Seven.
 use mathlib.Core.Bool.{cond}
 use mathlib.Core.List.{List, _++_}
 use Prim.Native.Nat.{ℕ, zero, suc, _+_, _*_}
@@ -9,12 +9,13 @@ use Rattle.memory.specs.Access.{readBit}
 use Rattle.memory.specs.Memory.{cell, stored, every}
 use Rattle.network.specs.Answer.{passedItem}
 use Rattle.registers.specs.declared.Registers.{Registers}
-use Rattle.registers.specs.Rows.{withM}
+use Rattle.registers.specs.Rows.{withM, withModes}
 use Rattle.registers.specs.Logic.{logicOf}
 use Rattle.registers.specs.Resolver.{resolved}
 use Rattle.judge.specs.declared.Instruction.{Instruction}
-use Rattle.judge.specs.Kinds.{logic, setM, store, maskedStore, deliver, resolve}
-use Rattle.judge.specs.Judge.{takes, gives}
+use Rattle.judge.specs.Kinds.{logic, setM, store, maskedStore, deliver, resolve, setMode}
+use Rattle.judge.specs.Instructions.{takes, gives}
+use Rattle.judge.specs.Modes.{modesBy, modeOf}
 
 -- ---- parts of a buffer
 
@@ -26,12 +27,6 @@ partAt l k = take 32 (drop (32 * k) l)
 unfoldable pub putPart : List ℕ → ℕ → List ℕ → List ℕ
 putPart l k x = take (32 * k) l ++ (x ++ drop (32 * k + 32) l)
 
--- ---- what an instruction accesses
-
--- The mode under which instruction i accesses memory, in a register set: its byte 3, whatever the registers hold.
-abbrev pub modeOf : Instruction → Registers → ℕ
-modeOf i r = i .mode
-
 -- ---- the source item, and its pass
 
 -- "Source: 0 memory, 1 M, 2 X, 3 Y": what the module itself holds.
@@ -42,7 +37,7 @@ held (suc (suc zero)) mode addr mem r = r .x
 held (suc (suc (suc n))) mode addr mem r = r .y
 
 unfoldable pub heldItem : Instruction → List ℕ → Registers → List ℕ
-heldItem i mem r = held (i .source) (modeOf i r) (i .addr) mem r
+heldItem i mem r = held (i .source) (modeOf (r .modes) i) (i .addr) mem r
 
 -- "4 outside: each use takes the next 32 bytes of the lent items", of which some were taken.
 unfoldable pub sourceItem : Instruction → List ℕ → List ℕ → Registers → ℕ → List ℕ
@@ -54,9 +49,11 @@ passedBy i mem items r taken = passedItem (sourceItem i mem items r taken) (i .f
 
 -- ---- what the passed item f does
 
--- The registers: kind 0 is logic, kind 1 sets M.
+-- The registers: kind 0 is logic, kind 1 sets M, kind 6 a mode register.
 unfoldable pub regsAfter : Instruction → Registers → List ℕ → Registers
-regsAfter i r f = cond (eqb (i .kind) logic) (logicOf r f (i .logic)) (cond (eqb (i .kind) setM) (withM r f) r)
+regsAfter i r f =
+    cond (eqb (i .kind) logic) (logicOf r f (i .logic))
+    (cond (eqb (i .kind) setM) (withM r f) (cond (eqb (i .kind) setMode) (withModes r (modesBy i (r .modes))) r))
 
 -- The memory, under a mode: kind 2 stores at all lines. Kind 3, document 02, Three: "a masked store writes line P's bit exactly if M's bit P is 1". P is the line that points at the memory's bit, after the flip: the item has passed, and M has not.
 unfoldable pub memAfter : Instruction → ℕ → List ℕ → List ℕ → List ℕ → List ℕ
@@ -84,7 +81,7 @@ pub record State : Type 0 where
 abbrev pub after : Instruction → List ℕ → State → State
 after i f s =
     record {
-      mem = memAfter i (modeOf i (s .regs)) (s .mem) (s .regs .m) f;
+      mem = memAfter i (modeOf (s .regs .modes) i) (s .mem) (s .regs .m) f;
       out = outAfter i (s .out) (s .given) f (s .regs .y);
       regs = regsAfter i (s .regs) f;
       taken = s .taken + cond (takes i) 1 0;

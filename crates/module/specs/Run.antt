@@ -5,11 +5,13 @@ use Prim.Native.Nat.{ℕ, zero, suc, _/_}
 use lib.Dec.{eqb}
 use lib.ListN.{length}
 use Rattle.registers.specs.declared.Registers.{Registers}
+use Rattle.registers.specs.Modes.{modesOf}
 use Rattle.registers.specs.Rows.{registersOf, bytesOf}
 use Rattle.judge.specs.declared.Lengths.{Lengths}
 use Rattle.judge.specs.declared.Answer.{Answer}
 use Rattle.judge.specs.Kinds.{registerBytes}
-use Rattle.judge.specs.Judge.{instructionAt, judged, judgedStep}
+use Rattle.judge.specs.Instructions.{instructionAt}
+use Rattle.judge.specs.Judge.{judged, judgedStep}
 use Rattle.module.specs.Act.{State, acted}
 
 -- ---- what is lent, and what is left: R is the register set as bytes, for a run, or as a record, for a step
@@ -59,7 +61,7 @@ ranAll l r = ranBy (l .list) (l .items) (begun l r) (length (l .list) / 8)
 
 unfoldable pub ran : Lent (List ℕ) → Left (List ℕ) Answer
 ran l =
-    let a = judged (runLengths l) (l .list) in
+    let a = judged (runLengths l) (modesOf (l .registers)) (l .list) in
     let s = ranAll l (registersOf (l .registers)) in
     cond (eqb (a .number) 0)
     (record { memory = s .mem; registers = bytesOf (s .regs); out = s .out; answer = a })
@@ -68,7 +70,7 @@ ran l =
 -- A step's list is its one instruction.
 unfoldable pub stepped : Lent Registers → Left Registers Answer
 stepped l =
-    let a = judgedStep (stepLengths l) (l .list) in
+    let a = judgedStep (stepLengths l) (l .registers .modes) (l .list) in
     let s = ranAll l (l .registers) in
     cond (eqb (a .number) 0)
     (record { memory = s .mem; registers = s .regs; out = s .out; answer = a })

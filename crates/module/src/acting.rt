@@ -13,14 +13,21 @@ use judge::kinds::STORE;
 use judge::kinds::X;
 use registers::Registers;
 ghost use mathlib.Core.Path.{_≡_};
-ghost use mathlib.Core.Bool.{true};
-ghost use Prim.Native.Nat.{_+_, _*_, _<_, _≤_};
+ghost use mathlib.Core.Bool.{true, false, cond};
+ghost use mathlib.Core.List.{List};
+ghost use Prim.Native.Nat.{ℕ, _+_, _*_, _<_, _≤_};
+ghost use lib.Dec.{eqb};
 ghost use lib.ListN.{length};
 ghost use Rattle.network.specs.Shifts.{permitted};
-ghost use Rattle.judge.specs.Kinds.{memoryBytes};
-ghost use Rattle.judge.specs.Judge.{gives, takes};
-ghost use Rattle.module.specs.Act.{modeOf, heldItem, passedBy, regsAfter, memAfter, putPart, outAfter, acted};
-ghost use Rattle.module.specs.Ready.{Ready};
+ghost use Rattle.registers.specs.declared.Modes.{Modes};
+ghost use Rattle.registers.specs.Logic.{logicOf};
+ghost use Rattle.registers.specs.Rows.{withM, withModes};
+ghost use Rattle.judge.specs.Kinds.{memoryBytes, logic, setM, deliver};
+ghost use Rattle.judge.specs.Instructions.{gives, takes};
+ghost use Rattle.judge.specs.Modes.{modesBy};
+ghost use Rattle.judge.specs.Steps.{settledBy};
+ghost use Rattle.module.specs.Act.{held, memAfter, putPart, acted};
+ghost use Rattle.module.specs.Ready.{Ready, passedUnder};
 
 // What an act leaves beside the buffers: the registers, and how many items were taken and given.
 pub struct Acted {
@@ -29,20 +36,13 @@ pub struct Acted {
     pub given: usize,
 }
 
-// The mode under which an instruction accesses memory.
-fn mode_of(i: Instruction, r: Registers) -> u8
-    ensures { λ m. ⌜ m ≡ modeOf i r ⌝ }
-{
-    i.mode
-}
-
 // The item that the module itself holds: of memory, M, X or Y.
-fn held_item(mem: &[u8], r: Registers, i: Instruction) -> [u8; 32]
+fn held_item(mem: &[u8], r: Registers, i: Instruction, mode: u8) -> [u8; 32]
     requires { ⌜ (length (now mem) ≡ memoryBytes) × (i .source < 4) ⌝ }
-    ensures { λ f. ⌜ f ≡ heldItem i (now (mem .entry)) r ⌝ }
+    ensures { λ f. ⌜ f ≡ held (i .source) mode (i .addr) (now (mem .entry)) r ⌝ }
 {
     if i.source == MEMORY {
-        return memory::load(mem, mode_of(i, r), i.addr);
+        return memory::load(mem, mode, i.addr);
     }
     if i.source == M {
         let m = r.m;
@@ -56,28 +56,32 @@ fn held_item(mem: &[u8], r: Registers, i: Instruction) -> [u8; 32]
     y
 }
 
-// The source item, passed. An outside item is handed to the pass as the part of the lent items that it is; a resolve reads no source. Most instructions move no line: a call of the pass, which has the same test for its other callers, would cost them more than the copy.
-fn passed_item(mem: &[u8], r: Registers, i: Instruction, items: &[u8], taken: usize) -> [u8; 32]
+// The source item, passed. An outside item is handed to the pass as the part of the lent items that it is. Most instructions move no line: a call of the pass, which has the same test for its other callers, would cost them more than the copy.
+fn passed_item(
+    mem: &[u8],
+    r: Registers,
+    i: Instruction,
+    mode: u8,
+    items: &[u8],
+    taken: usize,
+) -> [u8; 32]
     requires { ⌜ (length (now mem) ≡ memoryBytes) × (i .source ≤ 4) × (permitted (i .code) ≡ true) × (takes i ≡ true → 32 * taken + 32 ≤ length (now items)) ⌝ }
-    ensures { λ f. ⌜ ((i .kind ≡ 5 → ⊥) → f ≡ passedBy i (now (mem .entry)) (now (items .entry)) r taken) ⌝ }
+    ensures { λ f. ⌜ f ≡ passedUnder mode i (now (mem .entry)) (now (items .entry)) r taken ⌝ }
 {
-    if i.kind == RESOLVE {
-        return [0u8; 32];
-    }
     if judge::rows::takes(i) {
         return network::pass_part(&items[32 * taken..32 * taken + 32], i.flip, i.code);
     }
-    let s = held_item(mem, r, i);
+    let s = held_item(mem, r, i, mode);
     if i.flip | i.code == 0 {
         return network::items::copied(&s);
     }
     network::pass_item(&s, i.flip, i.code)
 }
 
-// The registers after it: logic and set M change them.
+// The registers after an instruction that passes an item: logic and set M change them.
 fn turn(i: Instruction, r: Registers, f: &[u8; 32]) -> Registers
     requires { ⌜ (i .kind ≡ 0 → i .logic < 80) ⌝ }
-    ensures { λ s. ⌜ s ≡ regsAfter i r (now (f .entry)) ⌝ }
+    ensures { λ s. ⌜ s ≡ cond (eqb (i .kind) logic) (logicOf r (now (f .entry)) (i .logic)) (cond (eqb (i .kind) setM) (withM r (now (f .entry))) r) ⌝ }
 {
     if i.kind == LOGIC {
         return registers::logic(r, f, i.logic);
@@ -110,44 +114,67 @@ fn put_out(out: &mut [u8], given: usize, x: &[u8; 32])
     copy(x, &mut out[32 * given..32 * given + 32]);
 }
 
-// The out buffer after it: a deliver puts the passed item out, a resolve what the resolver says. Each copies its own: joined to one value first, a deliver took longer.
-fn deliver<'a>(out: &mut [u8], i: Instruction, given: usize, f: &'a [u8; 32], y: &'a [u8; 32])
+// The out buffer after it: a deliver puts the passed item out.
+fn deliver(out: &mut [u8], i: Instruction, given: usize, f: &[u8; 32])
     requires { ⌜ (gives i ≡ true → 32 * given + 32 ≤ length (now out)) ⌝ }
-    ensures { λ r. ⌜ now (out .exit) ≡ outAfter i (now (out .entry)) given (now (f .entry)) (now (y .entry)) ⌝ }
+    ensures { λ r. ⌜ now (out .exit) ≡ cond (eqb (i .kind) deliver) (putPart (now (out .entry)) given (now (f .entry))) (now (out .entry)) ⌝ }
 {
     if i.kind == DELIVER {
         put_out(out, given, f);
-        return;
-    }
-    if i.kind == RESOLVE {
-        let x = registers::resolver::resolve(y);
-        put_out(out, given, &x);
     }
 }
 
-// What an instruction does to a state, and the counts after it.
+// What an instruction does that passes no item: a resolve puts out what the resolver says; kind 6 has set its mode register.
+fn act_still(r: Registers, i: Instruction, out: &mut [u8], taken: usize, given: usize) -> Acted
+    requires { ⌜ (4 < i .kind) × (i .kind ≤ 6) × (takes i ≡ false) × (gives i ≡ true → 32 * given + 32 ≤ length (now out)) × (given ≤ 4096) ⌝ }
+    ensures { λ a. ⌜ ((mem items : List ℕ) (m : Modes) → r .modes ≡ modesBy i m →
+        record { mem = mem; out = now (out .exit); regs = a .regs; taken = a .taken; given = a .given }
+        ≡ acted i items (record { mem = mem; out = now (out .entry); regs = withModes r m; taken = taken; given = given }))
+        ⌝ }
+{
+    if i.kind == RESOLVE {
+        let y = r.y;
+        let x = registers::resolver::resolve(&y);
+        put_out(out, given, &x);
+        let put = given + 1;
+        return Acted {
+            regs: r,
+            taken: taken,
+            given: put,
+        };
+    }
+    Acted {
+        regs: r,
+        taken: taken,
+        given: given,
+    }
+}
+
+// What an instruction does to a state, and the counts after it. `mode` is that under which it accesses memory, and the record already has the mode registers after it: `judge::modes::settle` says both, before anything else, so that an instruction that names no register pays for one test.
 pub fn act(
     mem: &mut [u8],
     r: Registers,
     i: Instruction,
+    mode: u8,
     items: &[u8],
     out: &mut [u8],
     taken: usize,
     given: usize,
 ) -> Acted
     requires { ⌜ Ready (now mem) (now items) (now out) i taken given ⌝ }
-    ensures { λ a. ⌜
+    ensures { λ a. ⌜ ((m : Modes) → record { mode = mode; modes = r .modes } ≡ settledBy i m →
         record { mem = now (mem .exit); out = now (out .exit); regs = a .regs; taken = a .taken; given = a .given }
         ≡ acted i (now (items .entry))
-        (record { mem = now (mem .entry); out = now (out .entry); regs = r; taken = taken; given = given })
+        (record { mem = now (mem .entry); out = now (out .entry); regs = withModes r m; taken = taken; given = given }))
         ⌝ }
 {
-    let f = passed_item(mem, r, i, items, taken);
-    let mode = mode_of(i, r);
+    if i.kind > DELIVER {
+        return act_still(r, i, out, taken, given);
+    }
+    let f = passed_item(mem, r, i, mode, items, taken);
     let m = r.m;
-    let y = r.y;
     keep(mem, i, mode, &m, &f);
-    deliver(out, i, given, &f, &y);
+    deliver(out, i, given, &f);
     let t = turn(i, r, &f);
     let takes = judge::rows::takes(i);
     let gives = judge::rows::gives(i);

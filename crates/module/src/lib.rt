@@ -1,4 +1,4 @@
-// The array module: a run of an instruction list, and a step for an operator's console. Document 01, Instructions and Numbers given back.
+// The array module: a run of an instruction list, and a step for an operator's console. Document 01, Instructions and Numbers given back; document 02, Seven.
 mod acting;
 
 use acting::Acted;
@@ -21,6 +21,7 @@ fn run_list(mem: &mut [u8], r: Registers, list: &[u8], items: &[u8], out: &mut [
     requires { ⌜
         Accepted
         (stepLengths (record { memory = now mem; registers = r; list = now list; items = now items; out = now out }))
+        (r .modes)
         (now list)
         ⌝ }
     ensures { λ a. ⌜
@@ -36,7 +37,12 @@ fn run_list(mem: &mut [u8], r: Registers, list: &[u8], items: &[u8], out: &mut [
     let mut given: usize = 0;
     let mut k: usize = 0;
     while k < n {
-        let a = acting::act(mem, s, judge::decode(list, k), items, out, taken, given);
+        let i = judge::decode(list, k);
+        let before = s.modes;
+        let t = judge::modes::settle(i, before);
+        let modes = t.modes;
+        let r = registers::with_modes(s, modes);
+        let a = acting::act(mem, r, i, t.mode, items, out, taken, given);
         s = a.regs;
         taken = a.taken;
         given = a.given;
@@ -62,7 +68,8 @@ pub fn run(mem: &mut [u8], regs: &mut [u8], list: &[u8], items: &[u8], out: &mut
         items: items.len(),
         out: out.len(),
     };
-    let verdict = judge::judge(lengths, list);
+    let modes = registers::mode_bytes::modes_of(regs);
+    let verdict = judge::judge(lengths, modes, list);
     if verdict.steps != 0 {
         let r = registers::rows::registers_of(regs);
         let d = run_list(mem, r, list, items, out);
@@ -91,7 +98,8 @@ pub fn advance(
         items: items.len(),
         out: out.len(),
     };
-    let answer = judge::judge_step(lengths, instruction);
+    let modes = r.modes;
+    let answer = judge::judge_step(lengths, modes, instruction);
     if answer.number == 0 {
         let d = run_list(mem, r, instruction, items, out);
         let t = d.regs;

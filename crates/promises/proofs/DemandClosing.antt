@@ -5,6 +5,7 @@ use Prim.Native.Nat.{ℕ, _+_, _*_, _<_, _≤_}
 use native.Mathlib.Omega.{arith}
 use lib.ListN.{length}
 use Rattle.bits.specs.Search.{Numbered}
+use Rattle.registers.specs.Modes.{wrongModes}
 use Rattle.registers.specs.Rows.{registersOf}
 use Rattle.module.specs.Run.{Lent}
 use Rattle.builders.specs.Field.{Field}
@@ -27,17 +28,17 @@ demand-closing a s n marks lent g l =
       numbered = marks-numbered marks;
       closingWritten = λ list items q. closing-written a s n (g .fields) marks list items (g .sized) (q .room) (q .roomItems);
       closed = λ list items q.
-          closing-closed a s n (g .fields) marks list items (g .sized) (q .room) (q .roomItems) lent (l .memory) (l .registers) (q .supplied);
+          closing-closed a s n (g .fields) marks list items (g .sized) (q .room) (q .roomItems) lent (l .memory) (l .registers) (l .modes) (q .supplied);
       spreadingWritten = λ list items q. spreading-written a s n (g .fields) marks list items (g .sized) (q .room) (q .roomItems);
       spread = λ list items q.
-          spreading-spread a s n (g .fields) marks list items (g .sized) (q .room) (q .roomItems) lent (l .memory) (l .registers) (q .supplied);
+          spreading-spread a s n (g .fields) marks list items (g .sized) (q .room) (q .roomItems) lent (l .memory) (l .registers) (l .modes) (q .supplied);
       restored = λ list items list′ items′ mid q q′ l′.
           spread-restores a s n (g .fields) marks (g .sized) list items list′ items′ (q .room) (q .roomItems) (q′ .room) (q′ .roomItems)
-          lent (l .memory) (l .registers) (q .supplied) mid (l′ .memory) (l′ .registers) (q′ .supplied);
+          lent (l .memory) (l .registers) (l .modes) (q .supplied) mid (l′ .memory) (l′ .registers) (l′ .modes) (q′ .supplied);
       noneClosed = λ list items q.
-          closing-none a s n (g .fields) marks list items (g .sized) (q .room) (q .roomItems) lent (l .memory) (l .registers) (q .supplied);
+          closing-none a s n (g .fields) marks list items (g .sized) (q .room) (q .roomItems) lent (l .memory) (l .registers) (l .modes) (q .supplied);
       noneSpread = λ list items q.
-          spreading-none a s n (g .fields) marks list items (g .sized) (q .room) (q .roomItems) lent (l .memory) (l .registers) (q .supplied);
+          spreading-none a s n (g .fields) marks list items (g .sized) (q .room) (q .roomItems) lent (l .memory) (l .registers) (l .modes) (q .supplied);
       inOrder = λ t i j h e. in-order (marked marks) t i j h (marked-of marks i e);
       closingWay = λ list items q. closing-way a s n (g .fields) marks list items (g .sized) (q .room) (q .roomItems) lent;
       spreadingWay = λ list items q. spreading-way a s n (g .fields) marks list items (g .sized) (q .room) (q .roomItems) lent;
@@ -68,7 +69,7 @@ closes-below a s n lent f l =
 
     marks : (number : ℕ) (list items : List ℕ) → Sought n number list items lent
         → Marks (2 + 3 * n) n (λ w. value (lent .memory) w a n < number) (λ y. y) lent (lessRun a n number list items lent)
-    marks number list items q = less-marks a n field number (q .small) list items (q .room) (q .roomItems) lent (l .memory) (l .registers) (q .supplied)
+    marks number list items q = less-marks a n field number (q .small) list items (q .room) (q .roomItems) lent (l .memory) (l .registers) (l .modes) (q .supplied)
 
     both : (number : ℕ) (list items list′ items′ : List ℕ) → Sought n number list items lent → ForClosing n list′ items′ lent
         → (c : ℕ) (which : Numbered (λ w. value (lent .memory) w a n < number) 256 c)
@@ -81,7 +82,8 @@ closes-below a s n lent f l =
         let r = lentOn lent (lessRun a n number list items lent) in
         let y = registersOf (r .registers) .y in
         let memory : Bytes (r .memory) 8192 = subst (λ (z : List ℕ). Bytes z 8192) (sym (less .keeps)) (l .memory) in
-        let sized : length y ≡ 32 = part-bytes (r .registers) 96 64 32 (omega arith) (less .registers) .size in
+        let stand = ap wrongModes (less .keepsModes) ∙ l .modes in
+        let sized : length y ≡ 32 = part-bytes (r .registers) 100 64 32 (omega arith) (less .registers) .size in
         let those : Numbered (MarkedBy y) 256 c =
         record {
           nth = which .nth;
@@ -90,7 +92,7 @@ closes-below a s n lent f l =
           rising = which .rising;
           each = λ w h e. which .each w h (less .marks w h .0 e);
         } in
-        let closed = closing-closed a s n f y list′ items′ sized (p .room) (p .roomItems) r memory (less .registers) (p .supplied) c those in (
+        let closed = closing-closed a s n f y list′ items′ sized (p .room) (p .roomItems) r memory (less .registers) stand (p .supplied) c those in (
           λ k h. closed .closed k h ∙ ap (λ (m : List ℕ). value m (which .nth k) a n) (less .keeps),
           closed .zero,
         )

@@ -11,7 +11,9 @@ use Rattle.network.specs.declared.Passed.{Passed}
 use Rattle.network.specs.Answer.{passedItem, answer}
 use Rattle.network.proofs.TableRules.{listed-none}
 use Rattle.network.proofs.AnswerLaws.{pass-refusals, pass-0, given, refused}
+use Rattle.registers.specs.declared.Modes.{Modes}
 use Rattle.registers.specs.declared.Registers.{Registers}
+use Rattle.registers.specs.Modes.{modesOf}
 use Rattle.judge.specs.declared.Lengths.{Lengths}
 use Rattle.judge.specs.declared.Answer.{Answer}
 use Rattle.judge.specs.Judge.{runRows, stepRows, judgedBy, judged, judgedStep}
@@ -42,7 +44,7 @@ use Rattle.pictures.specs.Picture.{pictureOf, scrambled, pictureFits, pictureRe
 use Rattle.pictures.proofs.PictureLaws.{both-parts}
 use Rattle.library.specs.Left.{six, three, runLeft, stepLeft, PassLeft, passLeft, BufferLeft, sumLeft, differenceLeft, TwoLeft, builtTwoLeft, equalLeft, lessLeft, greatestLeft, closingLeft, spreadingLeft, readLeft, writeLeft, writePictureLeft, TargetsLeft, readPictureLeft}
 use Rattle.promises.specs.Clauses.{Run, Step, SumList, DifferenceList, GreatestList, ClosingList, SpreadingList, ReadContent, WriteContent, ReadPicture, WritePicture, LibraryRun, LibraryStep, LibraryPass, LibraryBuffer, LibraryTwo, LibraryReadPicture}
-use Rattle.promises.specs.DemandOne.{AnswerTable, PassTable, ListTable, TwoTable, FieldsTable, SearchTable, GreatestTable, MovingTable, ClosingTable, SpreadingTable, ReadTable, WriteTable, Kept, AllKept, DemandOne}
+use Rattle.promises.specs.DemandOne.{AnswerTable, RunTable, StepTable, PassTable, ListTable, TwoTable, FieldsTable, SearchTable, GreatestTable, MovingTable, ClosingTable, SpreadingTable, ReadTable, WriteTable, Kept, AllKept, DemandOne}
 
 -- ---- the tables, from the laws
 
@@ -55,14 +57,15 @@ pass-table lines flip code =
       passed = λ t. sym (ap (λ (r : Passed). r .item) (given lines flip code (passedItem lines flip code) t refl));
     }
 
-answer-table : (rows : List Row) (l : Lengths) (list : List ℕ) → numbered rows ≡ true → among 10 rows ≡ false → AnswerTable rows l list (judgedBy rows l list)
-answer-table rows l list apart off =
+answer-table : (rows : List Row) (l : Lengths) (m : Modes) (list : List ℕ) → numbered rows ≡ true → among 10 rows ≡ false
+    → AnswerTable rows l m list (judgedBy rows l m list)
+answer-table rows l m list apart off =
     record {
-      refused = numbers.refusals rows l list apart;
-      unrefused = numbers.unrefused rows l list apart;
-      done-is = λ z. numbers.done-is rows l list (numbers.unrefused rows l list apart .0 z);
-      never-10 = numbers.never-10 rows l list apart off;
-      refused-is = numbers.refusal-counts rows l list apart;
+      refused = numbers.refusals rows l m list apart;
+      unrefused = numbers.unrefused rows l m list apart;
+      done-is = λ z. numbers.done-is rows l m list (numbers.unrefused rows l m list apart .0 z);
+      never-10 = numbers.never-10 rows l m list apart off;
+      refused-is = numbers.refusal-counts rows l m list apart;
     }
 
 -- the table of a builder: `fault` is the number that its rows give, and where it is 0 the request is good
@@ -116,24 +119,22 @@ all-kept {R} l u h =
     (λ n. ap (λ (x : Left R Answer). x .memory) (h n), λ n. ap (λ (x : Left R Answer). x .registers) (h n), λ n. ap (λ (x : Left R Answer). x .out) (h n))
 
 run-meets : (l : Lent (List ℕ)) (u : Left (List ℕ) Answer) → Run l u
-    → (u .answer ≡ judged (runLengths l) (l .list)) × AnswerTable (runRows (runLengths l) (l .list)) (runLengths l) (l .list) (u .answer)
-    × AllKept (u .answer .number) l u
+    → (u .answer ≡ judged (runLengths l) (modesOf (l .registers)) (l .list)) × RunTable l (u .answer) × AllKept (u .answer .number) l u
 run-meets l u h =
     let e = ap (λ (x : Left (List ℕ) Answer). x .answer) h ∙ ran-answer l in
-    let rows = runRows (runLengths l) (l .list) in (
+    let m = modesOf (l .registers) in (
       e,
-      subst (AnswerTable rows (runLengths l) (l .list)) (sym e) (answer-table rows (runLengths l) (l .list) refl refl),
+      subst (RunTable l) (sym e) (answer-table (runRows (runLengths l) m (l .list)) (runLengths l) m (l .list) refl refl),
       all-kept l u (λ n. h ∙ sym (ran-refused l (u .answer) e n)),
     )
 
 step-meets : (l : Lent Registers) (u : Left Registers Answer) → Step l u
-    → (u .answer ≡ judgedStep (stepLengths l) (l .list)) × AnswerTable (stepRows (stepLengths l) (l .list)) (stepLengths l) (l .list) (u .answer)
-    × AllKept (u .answer .number) l u
+    → (u .answer ≡ judgedStep (stepLengths l) (l .registers .modes) (l .list)) × StepTable l (u .answer) × AllKept (u .answer .number) l u
 step-meets l u h =
     let e = ap (λ (x : Left Registers Answer). x .answer) h ∙ stepped-answer l in
-    let rows = stepRows (stepLengths l) (l .list) in (
+    let m = l .registers .modes in (
       e,
-      subst (AnswerTable rows (stepLengths l) (l .list)) (sym e) (answer-table rows (stepLengths l) (l .list) refl refl),
+      subst (StepTable l) (sym e) (answer-table (stepRows (stepLengths l) m (l .list)) (stepLengths l) m (l .list) refl refl),
       all-kept l u (λ n. h ∙ sym (stepped-refused l (u .answer) e n)),
     )
 
@@ -285,7 +286,7 @@ library-pass item flip code passed′ answer′ h =
     (answer item flip code, ap (λ (l : PassLeft). l .answer) h, ap (λ (l : PassLeft). l .passed) h, pass-table item flip code)
 
 library-run : (l : Lent (List ℕ)) (u : Left (List ℕ) (List ℕ)) → LibraryRun l u
-    → (a : Answer) × (u .answer ≡ six a) × AnswerTable (runRows (runLengths l) (l .list)) (runLengths l) (l .list) a × AllKept (a .number) l u
+    → (a : Answer) × (u .answer ≡ six a) × RunTable l a × AllKept (a .number) l u
 unfolding runLeft
 library-run l u h =
     let a = ran l .answer in
@@ -294,7 +295,7 @@ library-run l u h =
     (a, ap (λ (x : Left (List ℕ) (List ℕ)). x .answer) h, m .1, m .2)
 
 library-step : (l : Lent Registers) (u : Left Registers (List ℕ)) → LibraryStep l u
-    → (a : Answer) × (u .answer ≡ six a) × AnswerTable (stepRows (stepLengths l) (l .list)) (stepLengths l) (l .list) a × AllKept (a .number) l u
+    → (a : Answer) × (u .answer ≡ six a) × StepTable l a × AllKept (a .number) l u
 unfolding stepLeft
 library-step l u h =
     let a = stepped l .answer in

@@ -14,8 +14,8 @@ demand-three a b s n buffer buffer′ lent l =
     record {
       sumWritten = sum-built a b s n (l .fields) buffer (l .room);
       differenceWritten = difference-built a b s n (l .fields) buffer′ (l .room′);
-      sum = sum-put a b s n (l .fields) buffer lent (l .memory) (l .registers) (l .supplied) (l .room);
-      difference = difference-put a b s n (l .fields) buffer′ lent (l .memory) (l .registers) (l .supplied) (l .room′);
-      exchanged = exchange a b s n (l .fields) buffer buffer′ lent (l .memory) (l .registers) (l .supplied) (l .room) more;
-      takenOff = λ apart. taking-off a b s n (l .fields) buffer buffer′ lent (l .memory) (l .registers) (l .supplied) (l .room) apart (l .room′);
+      sum = sum-put a b s n (l .fields) buffer lent (l .memory) (l .registers) (l .modes) (l .supplied) (l .room);
+      difference = difference-put a b s n (l .fields) buffer′ lent (l .memory) (l .registers) (l .modes) (l .supplied) (l .room′);
+      exchanged = exchange a b s n (l .fields) buffer buffer′ lent (l .memory) (l .registers) (l .modes) (l .supplied) (l .room) more;
+      takenOff = λ apart. taking-off a b s n (l .fields) buffer buffer′ lent (l .memory) (l .registers) (l .modes) (l .supplied) (l .room) apart (l .room′);
     }

@@ -1,4 +1,4 @@
--- The examples of specs/Examples.antt: the crates' own Examples compute the starred ones, those of the resolver and those of the byte; the office's of the mask is an instance of `masked-slice`. Assumes nothing.
+-- The examples of specs/Examples.antt: the crates' own Examples compute the starred ones, those of the resolver, of the byte and of the mode registers; the office's of the mask is an instance of `masked-slice`. Assumes nothing.
 use mathlib.Core.Path.{_≡_, refl, ap, ap₂, _∙_}
 use mathlib.Core.Bool.{Bool, cond, _&&_}
 use mathlib.Core.List.{List}
@@ -17,15 +17,16 @@ use Rattle.memory.proofs.Examples.{mode-seven, mode-zero, mode-all}
 use Rattle.network.proofs.Examples.{passed-48, one-mod-8, eight-mod-256, back-31, half-is-flip, refused-136, refused-1, refused-159}
 use Rattle.registers.proofs.Examples.{none-responds, zero-responds, all-respond}
 use Rattle.judge.specs.declared.Instruction.{Instruction}
-use Rattle.judge.proofs.Examples.{store-shifts, resolve-moves, group-of-512, not-below-p, mode-unused}
-use Rattle.module.specs.Act.{State, partAt, modeOf, held, heldItem, sourceItem, acted}
+use Rattle.judge.specs.Modes.{modeOf}
+use Rattle.judge.proofs.Examples.{store-shifts, resolve-moves, group-of-512, not-below-p, mode-unused, nobody-set, two-modes, set-first, set-later}
+use Rattle.module.specs.Act.{State, partAt, held, heldItem, sourceItem, acted}
 use Rattle.builders.proofs.Examples.{one-bit, the-fourth, stands, overlaps, reaches, goes-beyond}
 use Rattle.fields.proofs.LineLaws.{masked-slice}
 use Rattle.fields.proofs.SumRuns.{sum-built, difference-built, sum-listed}
 use Rattle.report.specs.Report.{printed}
 use Rattle.report.proofs.Examples.{printed-example, printed-byte}
 use Rattle.promises.proofs.DemandThree.{demand-three}
-use Rattle.promises.specs.Examples.{Starred, Mirrors, EverySecond, SaysNone, NamesByte}
+use Rattle.promises.specs.Examples.{Starred, Mirrors, EverySecond, SaysNone, NamesByte, AsksMode}
 
 pub starred : Starred
 starred =
@@ -69,7 +70,7 @@ module _ (i : Instruction) (items : List ℕ) (s : State) (m : Mirrors i s) wher
 
   from-y : sourceItem i (s .mem) items (s .regs) (s .taken) ≡ s .regs .y
   unfolding sourceItem heldItem
-  from-y = ap (λ (n : ℕ). cond (eqb n 4) (partAt items (s .taken)) (held n (modeOf i (s .regs)) (i .addr) (s .mem) (s .regs))) (m .fromY)
+  from-y = ap (λ (n : ℕ). cond (eqb n 4) (partAt items (s .taken)) (held n (modeOf (s .regs .modes) i) (i .addr) (s .mem) (s .regs))) (m .fromY)
 
   marked : (w : ℕ) → w < 256 → bitOf (s .regs .m) w ≡ 1 - w % 2
   unfolding second
@@ -123,3 +124,8 @@ names-byte =
       modeUnused = mode-unused;
       printedByte = printed-byte;
     }
+
+-- ---- the mode registers
+
+pub asks-mode : AsksMode
+asks-mode = record { nobodySet = nobody-set; twoModes = two-modes; setFirst = set-first; setLater = set-later }

@@ -169,7 +169,10 @@ module _ {M : Type 1} (𝓤 : URA M) (H : Heap 𝓤) (A : Atoms 𝓤) (memory : 
   of-registers =
       record {
         setM = equation 𝓤 _ (λ κs a g r e. refl);
+        withModes = equation 𝓤 _ (λ κs a g r e. refl);
         logic = equation 𝓤 _ (λ κs a g r e. refl);
+        modesOf = equation 𝓤 _ (λ κs a g r e. refl);
+        wrongModes = equation 𝓤 _ (λ κs a g r e. refl);
         resolve = equation 𝓤 _ (λ κs a g r e. refl);
         registersOf = equation 𝓤 _ (λ κs a g r e. refl);
         writeRegisters = equation 𝓤 _ (λ κs a g r e. refl);
@@ -181,6 +184,7 @@ module _ {M : Type 1} (𝓤 : URA M) (H : Heap 𝓤) (A : Atoms 𝓤) (memory : 
         judge = equation 𝓤 _ (λ κs a g r e. refl);
         judgeStep = equation 𝓤 _ (λ κs a g r e. refl);
         decode = equation 𝓤 _ (λ κs a g r e. refl);
+        settle = equation 𝓤 _ (λ κs a g r e. refl);
         fault = equation 𝓤 _ (λ κs a g r e. refl);
         takes = equation 𝓤 _ (λ κs a g r e. refl);
         gives = equation 𝓤 _ (λ κs a g r e. refl);

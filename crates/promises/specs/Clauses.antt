@@ -97,7 +97,7 @@ WritePicture kind memory registers out out′ r =
 abbrev pub LibraryRun : Lent (List ℕ) → Left (List ℕ) (List ℕ) → Type 0
 LibraryRun l u = u ≡ runLeft l
 
--- `staran_step_4`
+-- `staran_step_5`
 abbrev pub LibraryStep : Lent Registers → Left Registers (List ℕ) → Type 0
 LibraryStep l u = u ≡ stepLeft l
 
@@ -118,6 +118,6 @@ abbrev pub LibraryReadPicture : (kind : ℕ) (bytes memory registers memory′ r
 LibraryReadPicture kind bytes memory registers memory′ registers′ answer′ =
     _≡_ {A = TargetsLeft} (record { memory = memory′; registers = registers′; answer = answer′ }) (readPictureLeft kind bytes memory registers)
 
--- `staran_version`: 4.0
+-- `staran_version`: 5.0
 abbrev pub LibraryVersion : ℕ → Type 0
-LibraryVersion r = r ≡ version 4 0
+LibraryVersion r = r ≡ version 5 0

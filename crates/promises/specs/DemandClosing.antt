@@ -7,6 +7,7 @@ use Prim.Native.Nat.{ℕ, _+_, _-_, _*_, _<_, _≤_}
 use lib.ListN.{length}
 use Rattle.bits.specs.Bits.{bitOf}
 use Rattle.bits.specs.Search.{Numbered}
+use Rattle.registers.specs.Modes.{modesOf, wrongModes}
 use Rattle.registers.specs.Rows.{registersOf}
 use Rattle.judge.specs.Judge.{unfit}
 use Rattle.module.specs.Run.{Lent}
@@ -21,10 +22,12 @@ pub record Moving (a s n : ℕ) (marks : List ℕ) : Type 0 where
   pub fields : FieldsApart a s n
   pub sized : length marks ≡ 32
 
--- Any memory of 8,192 bytes, and any registers of 96, whatever M, X and Y hold.
+-- Any memory of 8,192 bytes, and any registers of 100 but those that 15 refuses, whatever M, X and Y hold.
 pub record OnAny (lent : Lent (List ℕ)) : Type 0 where
   pub memory : Bytes (lent .memory) 8192
-  pub registers : Bytes (lent .registers) 96
+  pub registers : Bytes (lent .registers) 100
+  -- as in demand 3, "any register set but one that 15 refuses" (document 02, Seven)
+  pub modes : wrongModes (modesOf (lent .registers)) ≡ false
 
 -- Buffers that are not too short, and behind the items that the list takes any with which the judge does not refuse the whole: `need` and `supply` are the lengths of the list and of its items.
 pub record Supplied (need supply : ℕ) (list items : List ℕ) (lent : Lent (List ℕ)) : Type 0 where

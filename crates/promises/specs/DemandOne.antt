@@ -1,4 +1,4 @@
--- Demand 1, on a page: "Every public entry takes arbitrary bytes and lengths, and ends. A list is judged whole before its first instruction acts. A refusal gives the number and place that document 01 fixes, exactly when it says, and no lent byte has changed." Document 02, Six: "Demand 1 reads with the finer table", and a run's or step's refusal gives the offending byte.
+-- Demand 1, on a page: "Every public entry takes arbitrary bytes and lengths, and ends. A list is judged whole before its first instruction acts. A refusal gives the number and place that document 01 fixes, exactly when it says, and no lent byte has changed." Document 02, Six: "Demand 1 reads with the finer table", and a run's or step's refusal gives the offending byte; Seven adds 14 and 15.
 -- A record states each table of document 01; `DemandOne`, below them, has a field for each public entry and for each function of the library. A table is a list of rows with their numbers, in the order in which they are judged; `FirstRow rows n` says that row n is the first that holds, and `FirstByteRow rows n b` also that its condition about byte b is the first of its conditions that does. The names are those of specs/. It is proved in proofs/DemandOne.antt, and assumes nothing.
 -- What is lent is any list of bytes, and a kind, a start or a width any number: no contract of an entry has a `requires`, so no field has a condition on them. That an entry ends is part of every check. A name with ′ is what a buffer lent for writing holds afterwards; one lent for reading cannot change. What stands before a field's last arrow is the entry's promise, its contract's clauses as specs/Clauses.antt has them.
 use mathlib.Core.Path.{_≡_}
@@ -12,7 +12,9 @@ use Rattle.network.specs.declared.Passed.{Passed}
 use Rattle.network.specs.Shifts.{permitted}
 use Rattle.network.specs.Unlisted.{codeRows}
 use Rattle.network.specs.Answer.{passedItem}
+use Rattle.registers.specs.declared.Modes.{Modes}
 use Rattle.registers.specs.declared.Registers.{Registers}
+use Rattle.registers.specs.Modes.{modesOf}
 use Rattle.judge.specs.declared.Instruction.{Instruction}
 use Rattle.judge.specs.declared.Lengths.{Lengths}
 use Rattle.judge.specs.declared.Answer.{Answer}
@@ -42,19 +44,26 @@ pub record PassTable (lines : List ℕ) (flip code : ℕ) (r : Passed) : Type 0 
   pub zero-item : permitted code ≡ false → r .item ≡ replicate 32 0
   pub passed : permitted code ≡ true → r .item ≡ passedItem lines flip code
 
--- ---- Numbers given back: what a run or a step answers, from the lengths of what is lent and the list
+-- ---- Numbers given back: what a run or a step answers, from the lengths of what is lent, the mode registers and the list
 
--- `rows` are those of what is lent, 1 to 4: `runRows` or `stepRows`. Those of an instruction, 5 to 9, 18, 16, 17 and 11, are `instructionRows`, with the byte of each condition; `Refused` has the order of all: "1 to 4 (place 0); then each instruction in turn ..; then 12; then 13. Place is the instruction's number; for 12 and 13 the first that lacks its item or room." The byte "is 0 .. for refusals without an instruction and for 12 and 13".
-pub record AnswerTable (rows : List Row) (l : Lengths) (list : List ℕ) (a : Answer) : Type 0 where
+-- `rows` are those of what is lent, 1 to 4 and 15: `runRows` or `stepRows`. Those of an instruction, 5 to 9, 14, 18, 16, 17 and 11, are `instructionRows`, by the mode registers before it and with the byte of each condition; `Refused` has the order of all: "1 to 4 (place 0); then each instruction in turn ..; then 12; then 13. Place is the instruction's number; for 12 and 13 the first that lacks its item or room." The byte "is 0 .. for refusals without an instruction and for 12 and 13".
+pub record AnswerTable (rows : List Row) (l : Lengths) (m : Modes) (list : List ℕ) (a : Answer) : Type 0 where
   -- number n is given at place k for byte b exactly where the tables say so
-  pub refused : (n k b : ℕ) → n ≢ 0 → Gives a n k b ↔ Refused rows l list n k b
+  pub refused : (n k b : ℕ) → n ≢ 0 → Gives a n k b ↔ Refused rows l m list n k b
   -- no row holds anywhere: "Done is 0, place 0", byte 0; "steps is the count of instructions, taken of source 4, given of kinds 4 and 5"
-  pub unrefused : (a .number ≡ 0) ↔ Unrefused rows l list
+  pub unrefused : (a .number ≡ 0) ↔ Unrefused rows l m list
   pub done-is : a .number ≡ 0 → a ≡ done list
   -- "Number 10 is split and no longer given"
   pub never-10 : a .number ≢ 10
   -- "A refusal has the last three 0"
   pub refused-is : a .number ≢ 0 → a ≡ refusal (a .number) (a .place) (a .byte)
+
+-- Of a run, whose mode registers are bytes 96 to 99 of its register set, and of a step, whose record has them.
+abbrev pub RunTable : Lent (List ℕ) → Answer → Type 0
+RunTable l = let m = modesOf (l .registers) in AnswerTable (runRows (runLengths l) m (l .list)) (runLengths l) m (l .list)
+
+abbrev pub StepTable : Lent Registers → Answer → Type 0
+StepTable l = let m = l .registers .modes in AnswerTable (stepRows (stepLengths l) m (l .list)) (stepLengths l) m (l .list)
 
 -- ---- Builders of lists: "In that order; nothing is written and the count is 0. Else .. their count is given"
 
@@ -128,18 +137,16 @@ pub record DemandOne : Type 0 where
   -- a byte 6 that is neither 16 nor 17 is one of the 37, and the other way
   pub listed : (c : ℕ) → NoRow (codeRows c) ↔ (permitted c ≡ true)
   -- the byte is "the first one wrong": the conditions of each row of an instruction stand in the order of the bytes
-  pub firstWrong : (i : Instruction) → InOrder (instructionRows i)
+  pub firstWrong : (m : Modes) (i : Instruction) → InOrder (instructionRows m i)
   -- `pass` and `wired_pass`, whose contracts are the same; nothing is lent for writing
   pub pass : (lines : List ℕ) (flip code : ℕ) (r : Passed) → Pass lines flip code r → PassTable lines flip code r
-  -- `run`: judged whole before its first instruction acts, since the answer is the judge's, of the lengths and the list alone, whatever the other bytes are
+  -- `run`: judged whole before its first instruction acts, since the answer is the judge's, of the lengths, the mode registers and the list alone, whatever the other bytes are
   pub run : (l : Lent (List ℕ)) (u : Left (List ℕ) Answer) → Run l u
-      → (u .answer ≡ judged (runLengths l) (l .list)) × AnswerTable (runRows (runLengths l) (l .list)) (runLengths l) (l .list) (u .answer)
-      × AllKept (u .answer .number) l u
+      → (u .answer ≡ judged (runLengths l) (modesOf (l .registers)) (l .list)) × RunTable l (u .answer) × AllKept (u .answer .number) l u
   -- `step`, on the lent register record, and `advance`, on one by value
   pub step : (l : Lent Registers) (u : Left Registers Answer) → Step l u
-      → (u .answer ≡ judgedStep (stepLengths l) (l .list)) × AnswerTable (stepRows (stepLengths l) (l .list)) (stepLengths l) (l .list) (u .answer)
-      × AllKept (u .answer .number) l u
-  -- "A step answers, refuses and leaves its buffers as a run of a list of that one instruction does": a run on the 96 bytes of the record
+      → (u .answer ≡ judgedStep (stepLengths l) (l .registers .modes) (l .list)) × StepTable l (u .answer) × AllKept (u .answer .number) l u
+  -- "A step answers, refuses and leaves its buffers as a run of a list of that one instruction does": a run on the 100 bytes of the record
   pub stepIsRun : (l : Lent Registers) (u : Left Registers Answer)
       → length (l .registers .m) ≡ 32 → length (l .registers .x) ≡ 32 → length (l .registers .y) ≡ 32 → length (l .list) ≡ 8
       → Step l u → Run (lentBytes l) (leftBytes u)
@@ -187,10 +194,10 @@ pub record DemandOne : Type 0 where
       → (r : Passed) × (answer′ ≡ r .number ∷ []) × (passed′ ≡ r .item) × PassTable item flip code r
   -- `staran_run_4`
   pub libraryRun : (l : Lent (List ℕ)) (u : Left (List ℕ) (List ℕ)) → LibraryRun l u
-      → (a : Answer) × (u .answer ≡ six a) × AnswerTable (runRows (runLengths l) (l .list)) (runLengths l) (l .list) a × AllKept (a .number) l u
-  -- `staran_step_4`
+      → (a : Answer) × (u .answer ≡ six a) × RunTable l a × AllKept (a .number) l u
+  -- `staran_step_5`
   pub libraryStep : (l : Lent Registers) (u : Left Registers (List ℕ)) → LibraryStep l u
-      → (a : Answer) × (u .answer ≡ six a) × AnswerTable (stepRows (stepLengths l) (l .list)) (stepLengths l) (l .list) a × AllKept (a .number) l u
+      → (a : Answer) × (u .answer ≡ six a) × StepTable l a × AllKept (a .number) l u
   -- `staran_sum_list` and `staran_difference_list`
   pub librarySumList : (a b s n : ℕ) (list list′ answer′ : List ℕ) → LibraryBuffer (sumLeft a b s n list) list′ answer′
       → (r : Built) × (answer′ ≡ r .number ∷ r .count ∷ []) × FieldsTable 1 a b s n (length list) r × Kept (r .number) list list′
@@ -227,5 +234,5 @@ pub record DemandOne : Type 0 where
   pub libraryWritePicture : (kind : ℕ) (memory registers out out′ answer′ : List ℕ) → LibraryBuffer (writePictureLeft kind memory registers out) out′ answer′
       → (r : Moved) × (answer′ ≡ three r) × WriteTable kind (pictureFits kind (length memory) (length registers)) pictureBytes (length out) r
       × Kept (r .number) out out′
-  -- `staran_version` has no number of the tables: 4.0, and nothing else
-  pub libraryVersion : (r : ℕ) → LibraryVersion r → r ≡ 262144
+  -- `staran_version` has no number of the tables: 5.0, and nothing else
+  pub libraryVersion : (r : ℕ) → LibraryVersion r → r ≡ 327680

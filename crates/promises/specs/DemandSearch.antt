@@ -5,6 +5,7 @@ use mathlib.Core.Bool.{false}
 use mathlib.Core.List.{List}
 use Prim.Native.Nat.{ℕ, _+_, _*_, _^_, _<_, _≤_}
 use lib.ListN.{length, replicate}
+use Rattle.registers.specs.Modes.{modesOf, wrongModes}
 use Rattle.judge.specs.declared.Instruction.{Instruction}
 use Rattle.judge.specs.Judge.{unfit}
 use Rattle.module.specs.Run.{Lent}
@@ -14,11 +15,13 @@ use Rattle.builders.specs.Searches.{equalList, lessList, greatestList, searchLe
 use Rattle.fields.specs.Value.{value, Bytes, lentOn}
 use Rattle.fields.specs.Marks.{equalRun, lessRun, greatestRun, Marked, Greatest, Marks}
 
--- Any field of 1 to 64 bits inside the word, any memory of 8,192 bytes, and any registers of 96, whatever M, X and Y hold.
+-- Any field of 1 to 64 bits inside the word, any memory of 8,192 bytes, and any registers of 100 but those that 15 refuses, whatever M, X and Y hold.
 pub record Searched (a n : ℕ) (lent : Lent (List ℕ)) : Type 0 where
   pub field : Field a n
   pub memory : Bytes (lent .memory) 8192
-  pub registers : Bytes (lent .registers) 96
+  pub registers : Bytes (lent .registers) 100
+  -- as in demand 3, "any register set but one that 15 refuses" (document 02, Seven)
+  pub modes : wrongModes (modesOf (lent .registers)) ≡ false
 
 -- For equal and less: any number that is not too large, buffers that are not too short, and behind the items that the list takes any with which the judge does not refuse the whole.
 pub record Sought (n number : ℕ) (list items : List ℕ) (lent : Lent (List ℕ)) : Type 0 where

@@ -1,23 +1,26 @@
--- Demand 3, on a page: of the very list that the builder writes and of the very run that `run` promises. Document 01, Sum and difference lists.
--- The names are those of specs/: a field's `value` is the sum of its bits' weights, `sumRun` is `ran` of the bytes that `sum_list` leaves, and `Put` says for each of the 256 words that S is the number modulo 2 ^ n, Y the carry out and X zero, that M and every other bit of the memory are as before, and that the run is done. It is proved in proofs/DemandThree.antt, and assumes nothing.
+-- Demand 3, on a page: of the very list that the builder writes and of the very run that `run` promises. Document 01, Sum and difference lists. Document 02, Seven: it "leaves both registers as they were, and takes any register set but one that 15 refuses".
+-- The names are those of specs/: a field's `value` is the sum of its bits' weights, `sumRun` is `ran` of the bytes that `sum_list` leaves, and `Put` says for each of the 256 words that S is the number modulo 2 ^ n, Y the carry out and X zero, that M, both mode registers and every other bit of the memory are as before, and that the run is done. It is proved in proofs/DemandThree.antt, and assumes nothing.
 use mathlib.Core.Path.{_≡_}
 use mathlib.Core.Bool.{false}
 use mathlib.Core.List.{List}
 use Prim.Native.Nat.{ℕ, _+_, _-_, _*_, _^_, _≤_}
 use lib.ListN.{length}
+use Rattle.registers.specs.Modes.{modesOf, wrongModes}
 use Rattle.judge.specs.Judge.{unfit}
 use Rattle.module.specs.Run.{Lent}
 use Rattle.builders.specs.Sums.{Fields, Apart, listLength, sumBuilt, differenceBuilt}
 use Rattle.fields.specs.Value.{value, Bytes, Put, TakenOff, lentOn, sumRun, differenceRun}
 
--- What is lent: any memory of 8,192 bytes and any registers of 96; items that the judge does not refuse; any out buffer; a buffer with room for a sum list, and one with room for a difference list.
+-- What is lent: any memory of 8,192 bytes and any registers of 100 but those that 15 refuses; items that the judge does not refuse; any out buffer; a buffer with room for a sum list, and one with room for a difference list.
 -- `Fields` says that the width is 1 to 64, that each field lies in the word, and that S is the same field or wholly apart, towards A and towards B each.
 pub record Given (a b s n : ℕ) (buffer buffer′ : List ℕ) (lent : Lent (List ℕ)) : Type 0 where
   pub fields : Fields a b s n
   pub room : listLength 1 n ≤ length buffer
   pub room′ : listLength 2 n ≤ length buffer′
   pub memory : Bytes (lent .memory) 8192
-  pub registers : Bytes (lent .registers) 96
+  pub registers : Bytes (lent .registers) 100
+  -- "takes any register set but one that 15 refuses"
+  pub modes : wrongModes (modesOf (lent .registers)) ≡ false
   pub supplied : unfit 32 (length (lent .items)) ≡ false
 
 pub record DemandThree (a b s n : ℕ) (buffer buffer′ : List ℕ) (lent : Lent (List ℕ)) : Type 0 where

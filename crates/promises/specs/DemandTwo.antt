@@ -1,5 +1,5 @@
--- Demand 2, on a page: "Storage, access, flips, shifts, register logic and resolver follow Batcher's published rules as document 01 states them. What is stored under one mode reads, under each of the 256 modes, as from an unscrambled table. Pictures, lists and items come back from disk as they were written." Document 02, Three and Four, put their rules of the masked store and of the resolved item in place of document 01's.
--- The names are those of specs/. `Memory`, `Network` and `Logic` say what the parts do; `Acts` that an instruction does this and nothing else, by its source and its kind; `MasksByLine` whose M bit a masked store asks; `Runs` that a run is all of its instructions, one after the other, and so that `run`, which promises `ran`, does it; `Returns` is the disk. It is proved in proofs/DemandTwo.antt, and assumes nothing.
+-- Demand 2, on a page: "Storage, access, flips, shifts, register logic and resolver follow Batcher's published rules as document 01 states them. What is stored under one mode reads, under each of the 256 modes, as from an unscrambled table. Pictures, lists and items come back from disk as they were written." Document 02, Three and Four, put their rules of the masked store and of the resolved item in place of document 01's; by Seven the mode comes "from the tag".
+-- The names are those of specs/. `Memory`, `Network` and `Logic` say what the parts do; `ByTag` under which mode an instruction accesses memory, and which instruction sets a mode register; `Acts` that an instruction does this and nothing else, by its source and its kind; `MasksByLine` whose M bit a masked store asks; `Runs` that a run is all of its instructions, one after the other, and so that `run`, which promises `ran`, does it; `Returns` is the disk. It is proved in proofs/DemandTwo.antt, and assumes nothing.
 use mathlib.Core.Path.{_≡_}
 use mathlib.Core.Bool.{true, cond}
 use mathlib.Core.List.{List, _∷_}
@@ -16,13 +16,17 @@ use Rattle.network.specs.Shifts.{permitted}
 use Rattle.network.specs.Pass.{moved}
 use Rattle.network.specs.Wired.{wired, wiredItem}
 use Rattle.network.specs.Answer.{passedItem}
+use Rattle.registers.specs.declared.Modes.{Modes}
 use Rattle.registers.specs.declared.Registers.{Registers}
-use Rattle.registers.specs.Rows.{registersOf, bytesOf, withM}
+use Rattle.registers.specs.Modes.{modesOf}
+use Rattle.registers.specs.Rows.{registersOf, bytesOf, withM, withModes}
 use Rattle.registers.specs.Logic.{functionBit, newX, newY, logicOf}
 use Rattle.registers.specs.Resolver.{responderCount, resolved}
 use Rattle.judge.specs.declared.Instruction.{Instruction}
-use Rattle.judge.specs.Judge.{instructionAt, takes, gives, done, faultOf, judged}
-use Rattle.module.specs.Act.{State, modeOf, partAt, putPart, sourceItem, passedBy, acted}
+use Rattle.judge.specs.Instructions.{instructionAt, takes, gives}
+use Rattle.judge.specs.Modes.{modesBy, modeOf}
+use Rattle.judge.specs.Judge.{done, faultOf, judged}
+use Rattle.module.specs.Act.{State, partAt, putPart, sourceItem, passedBy, acted}
 use Rattle.module.specs.Run.{Lent, unmoved, runLengths, begun, ranBy, ran}
 use Rattle.blocks.specs.Sums.{at}
 use Rattle.contents.specs.File.{pictureKind, pictureBytes, done as put}
@@ -80,10 +84,11 @@ pub record Choices (n x y f : ℕ) : Type 0 where
 
 pub record Logic : Type 0 where
   pub choices : (n x y f : ℕ) → n < 16 → Choices n x y f
-  -- each line by itself, and "all read the old state"; M stays
+  -- each line by itself, and "all read the old state"; M and the mode registers stay
   pub lineX : (r : Registers) (l : List ℕ) (t k : ℕ) → k < 256 → bitOf (logicOf r l t .x) k ≡ newX t (bitOf (r .x) k) (bitOf (r .y) k) (bitOf l k)
   pub lineY : (r : Registers) (l : List ℕ) (t k : ℕ) → k < 256 → bitOf (logicOf r l t .y) k ≡ newY t (bitOf (r .y) k) (bitOf l k)
   pub keepsM : (r : Registers) (l : List ℕ) (t : ℕ) → logicOf r l t .m ≡ r .m
+  pub keepsModes : (r : Registers) (l : List ℕ) (t : ℕ) → logicOf r l t .modes ≡ r .modes
   -- document 02, Four: "byte 0 activity; bytes 1 and 2 the smallest responder, low byte first, 256 if there is none; bytes 3 and 4 the count of responders, 0 to 256; zeros after". The item where line k is the smallest responder, and the item where there is none; the count has its low byte first as well
   pub resolves : (y : ℕ → ℕ) (k : ℕ) → k < 256 → y k ≡ 1 → ((j : ℕ) → j < k → y j ≢ 1)
       → resolved y ≡ 1 ∷ k ∷ 0 ∷ responderCount y % 256 ∷ responderCount y / 256 ∷ replicate 27 0
@@ -93,11 +98,24 @@ pub record Logic : Type 0 where
   pub countsOnce : (y : ℕ → ℕ) (c : ℕ) → Numbered (λ k. y k ≡ 1) 256 c → responderCount y ≡ c
   pub countsMost : (y : ℕ → ℕ) → responderCount y ≤ 256
 
+-- ---- the mode registers
+
+-- Document 02, Seven, of instruction i where the mode registers are m.
+pub record ByTag (m : Modes) (i : Instruction) : Type 0 where
+  -- "Tags 2 and 3 take the mode from A or B"; with another tag it is byte 3
+  pub fromA : i .tag ≡ 2 → modeOf m i ≡ m .a .mode
+  pub fromB : i .tag ≡ 3 → modeOf m i ≡ m .b .mode
+  pub given : i .tag ≢ 2 → i .tag ≢ 3 → modeOf m i ≡ i .mode
+  -- "A new kind 6 with tag 2 or 3 sets that register from byte 3", and the other stays; no other kind changes either
+  pub setsA : i .kind ≡ 6 → i .tag ≡ 2 → modesBy i m ≡ record { a = record { set = 1; mode = i .mode }; b = m .b }
+  pub setsB : i .kind ≡ 6 → i .tag ≡ 3 → modesBy i m ≡ record { a = m .a; b = record { set = 1; mode = i .mode } }
+  pub keeps : i .kind ≢ 6 → modesBy i m ≡ m
+
 -- ---- an instruction
 
 -- "The source item, unscrambled if from memory, makes one pass": what instruction i has of the memory, the items, the registers and the count of items taken.
 pub record Sources (i : Instruction) (mem items : List ℕ) (r : Registers) (taken : ℕ) : Type 0 where
-  pub fromMemory : i .source ≡ 0 → passedBy i mem items r taken ≡ passedItem (item (readBit (cell mem) (i .mode) (i .addr))) (i .flip) (i .code)
+  pub fromMemory : i .source ≡ 0 → passedBy i mem items r taken ≡ passedItem (item (readBit (cell mem) (modeOf (r .modes) i) (i .addr))) (i .flip) (i .code)
   pub fromM : i .source ≡ 1 → passedBy i mem items r taken ≡ passedItem (r .m) (i .flip) (i .code)
   pub fromX : i .source ≡ 2 → passedBy i mem items r taken ≡ passedItem (r .x) (i .flip) (i .code)
   pub fromY : i .source ≡ 3 → passedBy i mem items r taken ≡ passedItem (r .y) (i .flip) (i .code)
@@ -111,16 +129,17 @@ left i s mem out regs = record { mem = mem; out = out; regs = regs; taken = s .t
 pub record Acts (i : Instruction) (items f : List ℕ) (s : State) : Type 0 where
   pub logic : i .kind ≡ 0 → acted i items s ≡ left i s (s .mem) (s .out) (logicOf (s .regs) f (i .logic))
   pub setM : i .kind ≡ 1 → acted i items s ≡ left i s (s .mem) (s .out) (withM (s .regs) f)
-  pub store : i .kind ≡ 2 → acted i items s ≡ left i s (stored (s .mem) (modeOf i (s .regs)) (i .addr) every (bitOf f)) (s .out) (s .regs)
-  pub maskedStore : i .kind ≡ 3 → acted i items s ≡ left i s (stored (s .mem) (modeOf i (s .regs)) (i .addr) (bitOf (s .regs .m)) (bitOf f)) (s .out) (s .regs)
+  pub store : i .kind ≡ 2 → acted i items s ≡ left i s (stored (s .mem) (modeOf (s .regs .modes) i) (i .addr) every (bitOf f)) (s .out) (s .regs)
+  pub maskedStore : i .kind ≡ 3 → acted i items s ≡ left i s (stored (s .mem) (modeOf (s .regs .modes) i) (i .addr) (bitOf (s .regs .m)) (bitOf f)) (s .out) (s .regs)
   pub deliver : i .kind ≡ 4 → acted i items s ≡ left i s (s .mem) (putPart (s .out) (s .given) f) (s .regs)
   pub resolve : i .kind ≡ 5 → acted i items s ≡ left i s (s .mem) (putPart (s .out) (s .given) (resolved (bitOf (s .regs .y)))) (s .regs)
+  pub setMode : i .kind ≡ 6 → acted i items s ≡ left i s (s .mem) (s .out) (withModes (s .regs) (modesBy i (s .regs .modes)))
 
 -- Document 02, Three: "a masked store writes line P's bit exactly if M's bit P is 1." P is the line that points at the memory's bit, after the flip F, and only the source item goes through the network: where M's bit P is 1, the bit that line P meets becomes the source item's bit P xor F; every other bit of the table stays. Of any masked store that no row refuses; mode and address are bytes.
 abbrev pub MasksByLine : Instruction → List ℕ → State → Type 0
 MasksByLine i items s =
-    i .kind ≡ 3 → faultOf i .number ≡ 0 → modeOf i (s .regs) < 256 → i .addr < 256
-    → Updated 8 (modeOf i (s .regs)) (i .addr)
+    i .kind ≡ 3 → faultOf (s .regs .modes) i .number ≡ 0 → modeOf (s .regs .modes) i < 256 → i .addr < 256
+    → Updated 8 (modeOf (s .regs .modes) i) (i .addr)
     (bitOf (s .regs .m))
     (flipped (sourceItem i (s .mem) items (s .regs) (s .taken)) (i .flip))
     (table (cell (s .mem)))
@@ -130,8 +149,8 @@ MasksByLine i items s =
 
 -- Judged whole; then refused, and every buffer as it was, or each instruction of the list in turn.
 pub record Runs (l : Lent (List ℕ)) : Type 0 where
-  pub refused : judged (runLengths l) (l .list) .number ≢ 0 → ran l ≡ unmoved l (judged (runLengths l) (l .list))
-  pub accepted : judged (runLengths l) (l .list) .number ≡ 0
+  pub refused : judged (runLengths l) (modesOf (l .registers)) (l .list) .number ≢ 0 → ran l ≡ unmoved l (judged (runLengths l) (modesOf (l .registers)) (l .list))
+  pub accepted : judged (runLengths l) (modesOf (l .registers)) (l .list) .number ≡ 0
       → (let s = ranBy (l .list) (l .items) (begun l (registersOf (l .registers))) (length (l .list) / 8) in
       ran l ≡ record { memory = s .mem; registers = bytesOf (s .regs); out = s .out; answer = done (l .list) })
   pub before : (s : State) → ranBy (l .list) (l .items) s 0 ≡ s
@@ -169,6 +188,7 @@ pub record DemandTwo : Type 0 where
   pub memory : Memory
   pub network : Network
   pub registers : Logic
+  pub modes : (m : Modes) (i : Instruction) → ByTag m i
   pub sources : (i : Instruction) (mem items : List ℕ) (r : Registers) (taken : ℕ) → Sources i mem items r taken
   pub acts : (i : Instruction) (items : List ℕ) (s : State) → Acts i items (passedBy i (s .mem) items (s .regs) (s .taken)) s
   pub masks : (i : Instruction) (items : List ℕ) (s : State) → MasksByLine i items s

@@ -1,4 +1,4 @@
--- The starred examples of document 01 as one table, in the document's order: its sentences, and of what each is; sums and differences are those of a run of the list that a builder wrote. Then the office's examples of document 02, Three, Four and Six. All are proved in proofs/Examples.antt, and assume nothing.
+-- The starred examples of document 01 as one table, in the document's order: its sentences, and of what each is; sums and differences are those of a run of the list that a builder wrote. Then the office's examples of document 02, Three, Four and Six, and four of Seven. All are proved in proofs/Examples.antt, and assume nothing.
 use mathlib.Core.Path.{_≡_}
 use mathlib.Core.List.{List, [], _∷_, _++_}
 use mathlib.Core.Logic.{_⊎_}
@@ -10,10 +10,13 @@ use Rattle.memory.specs.Table.{table, lineBit, lineWord}
 use Rattle.memory.specs.Memory.{cell}
 use Rattle.network.specs.Pass.{moved, passed}
 use Rattle.network.specs.Answer.{answer}
+use Rattle.registers.specs.declared.Modes.{Modes}
+use Rattle.registers.specs.Modes.{noneSet}
 use Rattle.registers.specs.Rows.{registersOf}
 use Rattle.registers.specs.Resolver.{resolved}
 use Rattle.judge.specs.declared.Instruction.{Instruction}
-use Rattle.judge.specs.Judge.{faultOf}
+use Rattle.judge.specs.Modes.{modeOf}
+use Rattle.judge.specs.Judge.{faultOf, refusal, judgedAlone}
 use Rattle.builders.specs.Sums.{sumBuilt, differenceBuilt}
 use Rattle.module.specs.Act.{State, acted}
 use Rattle.module.specs.Run.{Lent}
@@ -66,10 +69,10 @@ pub record Starred : Type 0 where
 pub record Mirrors (i : Instruction) (s : State) : Type 0 where
   pub masked : i .kind ≡ 3
   pub fromY : i .source ≡ 3
-  pub slice : i .mode ≡ 0
+  pub slice : modeOf (s .regs .modes) i ≡ 0
   pub bit : i .addr < 256
   pub mirrored : i .flip ≡ 255
-  pub accepted : faultOf i .number ≡ 0
+  pub accepted : faultOf (s .regs .modes) i .number ≡ 0
   pub everySecond : s .regs .m ≡ replicate 32 85
 
 -- Now the half that M marks is written, whatever the memory held: that bit of a marked station becomes the Y bit of the station across, and every other bit of every station stays.
@@ -87,20 +90,37 @@ pub record SaysNone : Type 0 where
       ≡ (114 ∷ 32 ∷ 48 ∷ 32 ∷ 48 ∷ 32 ∷ 48 ∷ 32 ∷ 50 ∷ 32 ∷ 48 ∷ 32 ∷ 49 ∷ 10 ∷ [])
       ++ (48 ∷ 49 ∷ 48 ∷ 48 ∷ 48 ∷ 48 ∷ 48 ∷ 48 ∷ 48 ∷ 49 ∷ (replicate 54 48 ++ (10 ∷ [])))
 
--- Document 02, Six: "A list author gets "10 at 57" and has eight bytes to stare at." Instructions that were refused with 10, and one with 9, by what is wrong now: a number, and the first byte that is wrong by it.
+-- Document 02, Six: "A list author gets "10 at 57" and has eight bytes to stare at." Instructions that were refused with 10, and one with 9, by what is wrong now: a number, and the first byte that is wrong by it, whatever the mode registers are.
 pub record NamesByte : Type 0 where
   -- a store of Y with byte 6 = 144, a group of 512 lines: 18 comes before 16
-  pub storeShifts : faultOf (record { kind = 2; source = 3; tag = 1; mode = 0; addr = 9; flip = 0; code = 144; logic = 0 }) ≡ record { number = 18; byte = 6 }
+  pub storeShifts : (m : Modes) → faultOf m (record { kind = 2; source = 3; tag = 1; mode = 0; addr = 9; flip = 0; code = 144; logic = 0 }) ≡ record { number = 18; byte = 6 }
   -- a resolve with a flip and a shift, and with the shift alone
-  pub resolveMoves : (faultOf (record { kind = 5; source = 0; tag = 0; mode = 0; addr = 0; flip = 1; code = 136; logic = 0 }) ≡ record { number = 18; byte = 5 })
-      × (faultOf (record { kind = 5; source = 0; tag = 0; mode = 0; addr = 0; flip = 0; code = 136; logic = 0 }) ≡ record { number = 18; byte = 6 })
+  pub resolveMoves : (m : Modes) → (faultOf m (record { kind = 5; source = 0; tag = 0; mode = 0; addr = 0; flip = 1; code = 136; logic = 0 }) ≡ record { number = 18; byte = 5 })
+      × (faultOf m (record { kind = 5; source = 0; tag = 0; mode = 0; addr = 0; flip = 0; code = 136; logic = 0 }) ≡ record { number = 18; byte = 6 })
   -- byte 6 = 159, p 9 and m 15, in a set M from X, and of a pass by itself: 16 comes before 17
-  pub groupOf512 : faultOf (record { kind = 1; source = 2; tag = 0; mode = 0; addr = 0; flip = 0; code = 159; logic = 0 }) ≡ record { number = 16; byte = 6 }
+  pub groupOf512 : (m : Modes) → faultOf m (record { kind = 1; source = 2; tag = 0; mode = 0; addr = 0; flip = 0; code = 159; logic = 0 }) ≡ record { number = 16; byte = 6 }
   pub passOf512 : (l : List ℕ) (f : ℕ) → answer l f 159 ≡ record { number = 16; item = replicate 32 0 }
   -- document 01's two, 136 and 1
-  pub notBelowP : (c : ℕ) → (c ≡ 136) ⊎ (c ≡ 1)
-      → faultOf (record { kind = 1; source = 2; tag = 0; mode = 0; addr = 0; flip = 0; code = c; logic = 0 }) ≡ record { number = 17; byte = 6 }
+  pub notBelowP : (m : Modes) (c : ℕ) → (c ≡ 136) ⊎ (c ≡ 1)
+      → faultOf m (record { kind = 1; source = 2; tag = 0; mode = 0; addr = 0; flip = 0; code = c; logic = 0 }) ≡ record { number = 17; byte = 6 }
   -- a delivery of Y that has mode and address, but no tag: the mode is the first
-  pub modeUnused : faultOf (record { kind = 4; source = 3; tag = 0; mode = 255; addr = 13; flip = 0; code = 0; logic = 0 }) ≡ record { number = 9; byte = 3 }
+  pub modeUnused : (m : Modes) → faultOf m (record { kind = 4; source = 3; tag = 0; mode = 255; addr = 13; flip = 0; code = 0; logic = 0 }) ≡ record { number = 9; byte = 3 }
   -- and what the program prints of it as instruction 57: "r 9 57 3 0 0 0"
   pub printedByte : (out : List ℕ) → printed 114 9 57 3 0 0 0 out ≡ 114 ∷ 32 ∷ 57 ∷ 32 ∷ 53 ∷ 55 ∷ 32 ∷ 51 ∷ 32 ∷ 48 ∷ 32 ∷ 48 ∷ 32 ∷ 48 ∷ 10 ∷ []
+
+-- Document 02, Seven: "a register counts as set if its flag is 1 at the start or an earlier kind 6 set it", and else it is "14, register unset (byte 2), after 9". A store of Y under the mode of register A, tag 2, where both registers are unset at the start; and lists of it and of a kind 6 that sets A to 255.
+abbrev storeByA : List ℕ
+storeByA = 2 ∷ 3 ∷ 2 ∷ 0 ∷ 13 ∷ 0 ∷ 0 ∷ 0 ∷ []
+
+abbrev setA : List ℕ
+setA = 6 ∷ 0 ∷ 2 ∷ 255 ∷ 0 ∷ 0 ∷ 0 ∷ 0 ∷ []
+
+pub record AsksMode : Type 0 where
+  -- nobody set A
+  pub nobodySet : faultOf noneSet (record { kind = 2; source = 3; tag = 2; mode = 0; addr = 13; flip = 0; code = 0; logic = 0 }) ≡ record { number = 14; byte = 2 }
+  -- with a mode in byte 3 beside the tag: 9 comes before 14
+  pub twoModes : faultOf noneSet (record { kind = 2; source = 3; tag = 2; mode = 255; addr = 13; flip = 0; code = 0; logic = 0 }) ≡ record { number = 9; byte = 3 }
+  -- a list that sets A first is not refused
+  pub setFirst : judgedAlone noneSet (setA ++ storeByA) ≡ refusal 0 0 0
+  -- the same two the other way round: 14 at place 0, since a kind 6 behind the store does not count
+  pub setLater : judgedAlone noneSet (storeByA ++ setA) ≡ refusal 14 0 2

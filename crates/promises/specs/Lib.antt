@@ -2,6 +2,7 @@
 pub mod Clauses
 pub mod DemandOne
 pub mod DemandTwo
+pub mod DemandModes
 pub mod DemandThree
 pub mod DemandSearch
 pub mod DemandClosing

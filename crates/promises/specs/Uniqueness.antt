@@ -45,13 +45,17 @@ use Rattle.network.proofs.codes.is_code as is_code
 use Rattle.network.proofs.codes.unlisted as unlisted
 use Rattle.network.proofs.items.copied as copied
 use Rattle.registers.proofs.set_m as set_m
+use Rattle.registers.proofs.with_modes as with_modes
 use Rattle.registers.proofs.logic as logic
+use Rattle.registers.proofs.mode_bytes.modes_of as modes_of
+use Rattle.registers.proofs.mode_bytes.wrong_modes as wrong_modes
 use Rattle.registers.proofs.resolver.resolve as resolve
 use Rattle.registers.proofs.rows.registers_of as registers_of
 use Rattle.registers.proofs.rows.write_registers as write_registers
 use Rattle.judge.proofs.judge as judge
 use Rattle.judge.proofs.judge_step as judge_step
 use Rattle.judge.proofs.decode as decode
+use Rattle.judge.proofs.modes.settle as settle
 use Rattle.judge.proofs.rows.fault as fault
 use Rattle.judge.proofs.rows.takes as takes
 use Rattle.judge.proofs.rows.gives as gives
@@ -96,7 +100,7 @@ use Rattle.pictures.proofs.read_picture as read_picture
 use Rattle.pictures.proofs.write_picture as write_picture
 use Rattle.library.specs.Left.{PassLeft, BufferLeft, TwoLeft, TargetsLeft}
 use Rattle.library.proofs.staran_run_4 as library_run
-use Rattle.library.proofs.staran_step_4 as library_step
+use Rattle.library.proofs.staran_step_5 as library_step
 use Rattle.library.proofs.staran_pass as staran_pass
 use Rattle.library.proofs.staran_wired_pass as staran_wired_pass
 use Rattle.library.proofs.staran_sum_list as staran_sum_list
@@ -239,7 +243,10 @@ module _ {M : Type 1} (𝓤 : URA M) (H : Heap 𝓤) (A : Atoms 𝓤) (memory : 
   -- `registers`
   pub record OfRegisters : Type 2 where
     pub setM : OneOutcome 𝓤 set_m.ended (set_m.clauses 𝓤 H A memory runs) (λ κs r e. r)
+    pub withModes : OneOutcome 𝓤 with_modes.ended (with_modes.clauses 𝓤 H A memory runs) (λ κs r e. r)
     pub logic : OneOutcome 𝓤 logic.ended (logic.clauses 𝓤 H A memory runs) (λ κs r e. r)
+    pub modesOf : OneOutcome 𝓤 modes_of.ended (modes_of.clauses 𝓤 H A memory runs) (λ κs r e. r)
+    pub wrongModes : OneOutcome 𝓤 wrong_modes.ended (wrong_modes.clauses 𝓤 H A memory runs) (λ κs r e. r)
     pub resolve : OneOutcome 𝓤 resolve.ended (resolve.clauses 𝓤 H A memory runs) (λ κs r e. r)
     pub registersOf : OneOutcome 𝓤 registers_of.ended (registers_of.clauses 𝓤 H A memory runs) (λ κs r e. r)
     pub writeRegisters : OneOutcome 𝓤 write_registers.ended (write_registers.clauses 𝓤 H A memory runs) (λ κs r e. now (e .0))
@@ -249,6 +256,7 @@ module _ {M : Type 1} (𝓤 : URA M) (H : Heap 𝓤) (A : Atoms 𝓤) (memory : 
     pub judge : OneOutcome 𝓤 judge.ended (judge.clauses 𝓤 H A memory runs) (λ κs r e. r)
     pub judgeStep : OneOutcome 𝓤 judge_step.ended (judge_step.clauses 𝓤 H A memory runs) (λ κs r e. r)
     pub decode : OneOutcome 𝓤 decode.ended (decode.clauses 𝓤 H A memory runs) (λ κs r e. r)
+    pub settle : OneOutcome 𝓤 settle.ended (settle.clauses 𝓤 H A memory runs) (λ κs r e. r)
     pub fault : OneOutcome 𝓤 fault.ended (fault.clauses 𝓤 H A memory runs) (λ κs r e. r)
     pub takes : OneOutcome 𝓤 takes.ended (takes.clauses 𝓤 H A memory runs) (λ κs r e. r)
     pub gives : OneOutcome 𝓤 gives.ended (gives.clauses 𝓤 H A memory runs) (λ κs r e. r)

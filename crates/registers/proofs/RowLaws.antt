@@ -1,51 +1,82 @@
--- The register set as its three parts of 32 bytes. Assumes nothing.
-use mathlib.Core.Path.{_≡_, sym, ap, ap₂, _∙_}
-use mathlib.Core.List.{List, [], _++_, append-assoc, append-nil}
+-- The register set as its three parts of 32 bytes and its four bytes of modes. Assumes nothing.
+use mathlib.Core.Path.{_≡_, refl, sym, ap, ap₂, _∙_}
+use mathlib.Core.List.{List, [], _∷_, _++_, append-assoc, append-nil}
 use Prim.Native.Nat.{ℕ, _+_}
-use native.Mathlib.Nat.{le-of-eq}
 use native.Mathlib.Omega.{arith}
-use lib.ListN.{length, take, drop, length-append, length-drop, drop-of-length-le, take-append-drop}
-use lib.Seq.{take-at, drop-at, take-all, drop-drop}
+use lib.ListN.{length, getD, take, drop, length-append, length-drop, drop-of-length-le, take-append-drop}
+use lib.Seq.{take-at, drop-at, drop-drop, getD-drop}
 use borrow.Rule.Slice.PartMut.{putMid}
 use Rattle.registers.specs.declared.Registers.{Registers}
+use Rattle.registers.specs.Modes.{modesOf, modeBytes}
 use Rattle.registers.specs.Rows.{registersOf, bytesOf}
 
-put-next : (a d b : List ℕ) (n : ℕ) → length a ≡ n → putMid n 32 (a ++ d) b ≡ a ++ (b ++ drop 32 d)
-put-next a d b n e = ap₂ (λ (p q : List ℕ). p ++ (b ++ drop 32 q)) (take-at a d n e) (drop-at a d n e)
+-- k bytes more, behind the n that are written
+put-more : (p d b : List ℕ) (n k : ℕ) → length p ≡ n → putMid n k (p ++ d) b ≡ (p ++ b) ++ drop k d
+put-more p d b n k e = ap₂ (λ (x y : List ℕ). x ++ (b ++ drop k y)) (take-at p d n e) (drop-at p d n e) ∙ sym (append-assoc p b (drop k d))
 
--- 96 bytes, written in three parts
-pub put-three : (l a b c : List ℕ) (r : Registers) → length l ≡ 96 → length (r .m) ≡ 32 → length (r .x) ≡ 32 → a ≡ r .m → b ≡ r .x → c ≡ r .y
-    → putMid 64 32 (putMid 32 32 (a ++ drop 32 l) b) c ≡ bytesOf r
-put-three l a b c r hl hm hx ea eb ec =
+longer : (p b : List ℕ) (n k : ℕ) → length p ≡ n → length b ≡ k → length (p ++ b) ≡ n + k
+longer p b n k e f = length-append p b ∙ ap₂ (λ (x y : ℕ). x + y) e f
+
+-- 100 bytes, written in four parts
+pub put-four : (l a b c d : List ℕ) (r : Registers) → length l ≡ 100 → length (r .m) ≡ 32 → length (r .x) ≡ 32 → length (r .y) ≡ 32
+    → a ≡ r .m → b ≡ r .x → c ≡ r .y → d ≡ modeBytes (r .modes)
+    → putMid 96 4 (putMid 64 32 (putMid 32 32 (a ++ drop 32 l) b) c) d ≡ bytesOf r
+put-four l a b c d r hl hm hx hy ea eb ec ed =
     let la : length a ≡ 32 = ap (λ (z : List ℕ). length z) ea ∙ hm in
     let lb : length b ≡ 32 = ap (λ (z : List ℕ). length z) eb ∙ hx in
-    let lab : length (a ++ b) ≡ 64 = length-append a b ∙ omega arith in
-    let none : drop 32 (drop 32 (drop 32 l)) ≡ [] = drop-of-length-le (drop 32 (drop 32 l)) {i = 32} (simp length-drop (omega arith)) in
-    ap (λ (z : List ℕ). putMid 64 32 z c) (put-next a (drop 32 l) b 32 la ∙ sym (append-assoc a b (drop 32 (drop 32 l))))
-    ∙ put-next (a ++ b) (drop 32 (drop 32 l)) c 64 lab
-    ∙ ap (λ (z : List ℕ). (a ++ b) ++ (c ++ z)) none
-    ∙ append-assoc a b (c ++ [])
-    ∙ ap (λ (z : List ℕ). a ++ (b ++ z)) (append-nil c)
-    ∙ ap₂ (λ (p q : List ℕ). p ++ (q ++ c)) ea eb
-    ∙ ap (λ (z : List ℕ). r .m ++ (r .x ++ z)) ec
+    let lc : length c ≡ 32 = ap (λ (z : List ℕ). length z) ec ∙ hy in
+    let behind = drop 32 (drop 32 (drop 32 l)) in
+    let none : drop 4 behind ≡ [] = drop-of-length-le behind {i = 4} (simp length-drop (omega arith)) in
+    ap (λ (z : List ℕ). putMid 96 4 (putMid 64 32 z c) d) (put-more a (drop 32 l) b 32 32 la)
+    ∙ ap (λ (z : List ℕ). putMid 96 4 z d) (put-more (a ++ b) (drop 32 (drop 32 l)) c 64 32 (longer a b 32 32 la lb))
+    ∙ put-more ((a ++ b) ++ c) behind d 96 4 (longer (a ++ b) c 64 32 (longer a b 32 32 la lb) lc)
+    ∙ ap (λ (z : List ℕ). (((a ++ b) ++ c) ++ d) ++ z) none
+    ∙ append-nil (((a ++ b) ++ c) ++ d)
+    ∙ append-assoc (a ++ b) c d
+    ∙ append-assoc a b (c ++ d)
+    ∙ ap₂ (λ (x y : List ℕ). x ++ (y ++ (c ++ d))) ea eb
+    ∙ ap₂ (λ (x y : List ℕ). r .m ++ (r .x ++ (x ++ y))) ec ed
+
+-- the modes of bytes are those at the front of what stands behind the first 96
+modes-behind : (l z : List ℕ) → drop 96 l ≡ z
+    → modesOf l ≡ record { a = record { set = getD z 0 0; mode = getD z 1 0 }; b = record { set = getD z 2 0; mode = getD z 3 0 } }
+modes-behind l z e =
+    let byte : (k : ℕ) → getD l (96 + k) 0 ≡ getD z k 0 = λ k. sym (getD-drop 96 l k 0) ∙ ap (λ (x : List ℕ). getD x k 0) e in
+    λ j. record { a = record { set = byte 0 j; mode = byte 1 j }; b = record { set = byte 2 j; mode = byte 3 j } }
 
 -- a record comes back from its bytes
 pub registers-bytes : (r : Registers) → length (r .m) ≡ 32 → length (r .x) ≡ 32 → length (r .y) ≡ 32 → registersOf (bytesOf r) ≡ r
 registers-bytes r hm hx hy =
-    let e : drop 32 (bytesOf r) ≡ r .x ++ r .y = drop-at (r .m) (r .x ++ r .y) 32 hm in
-    let d : drop 64 (bytesOf r) ≡ r .y = sym (drop-drop 32 32 (bytesOf r)) ∙ ap (drop 32) e ∙ drop-at (r .x) (r .y) 32 hx in
+    let last = modeBytes (r .modes) in
+    let e : drop 32 (bytesOf r) ≡ r .x ++ (r .y ++ last) = drop-at (r .m) (r .x ++ (r .y ++ last)) 32 hm in
+    let d : drop 64 (bytesOf r) ≡ r .y ++ last = sym (drop-drop 32 32 (bytesOf r)) ∙ ap (drop 32) e ∙ drop-at (r .x) (r .y ++ last) 32 hx in
+    let f : drop 96 (bytesOf r) ≡ last = sym (drop-drop 32 64 (bytesOf r)) ∙ ap (drop 32) d ∙ drop-at (r .y) last 32 hy in
     λ j. record {
-      m = take-at (r .m) (r .x ++ r .y) 32 hm j;
-      x = (ap (take 32) e ∙ take-at (r .x) (r .y) 32 hx) j;
-      y = (ap (take 32) d ∙ take-all 32 (r .y) (le-of-eq hy)) j;
+      m = take-at (r .m) (r .x ++ (r .y ++ last)) 32 hm j;
+      x = (ap (take 32) e ∙ take-at (r .x) (r .y ++ last) 32 hx) j;
+      y = (ap (take 32) d ∙ take-at (r .y) last 32 hy) j;
+      modes = modes-behind (bytesOf r) last f j;
     }
 
--- and 96 bytes from their record
-pub bytes-registers : (l : List ℕ) → length l ≡ 96 → bytesOf (registersOf l) ≡ l
+four : (z : List ℕ) → length z ≡ 4 → getD z 0 0 ∷ getD z 1 0 ∷ getD z 2 0 ∷ getD z 3 0 ∷ [] ≡ z
+four [] h = absurd (omega arith)
+four (a ∷ []) h = absurd (omega arith)
+four (a ∷ b ∷ []) h = absurd (omega arith)
+four (a ∷ b ∷ c ∷ []) h = absurd (omega arith)
+four (a ∷ b ∷ c ∷ d ∷ []) h = refl
+four (a ∷ b ∷ c ∷ d ∷ e ∷ z) h = absurd (omega arith)
+
+-- and 100 bytes from their record
+pub bytes-registers : (l : List ℕ) → length l ≡ 100 → bytesOf (registersOf l) ≡ l
 bytes-registers l h =
-    ap (λ (z : List ℕ). take 32 l ++ (take 32 (drop 32 l) ++ z)) (take-all 32 (drop 64 l) (simp length-drop (omega arith)) ∙ sym (drop-drop 32 32 l))
+    let last : modeBytes (modesOf l) ≡ drop 96 l = ap modeBytes (modes-behind l (drop 96 l) refl) ∙ four (drop 96 l) (length-drop 96 l ∙ omega arith) in
+    ap (λ (z : List ℕ). take 32 l ++ (take 32 (drop 32 l) ++ (take 32 (drop 64 l) ++ z))) (last ∙ sym (drop-drop 32 64 l))
+    ∙ ap (λ (z : List ℕ). take 32 l ++ (take 32 (drop 32 l) ++ z)) (take-append-drop 32 (drop 64 l) ∙ sym (drop-drop 32 32 l))
     ∙ ap (λ (z : List ℕ). take 32 l ++ z) (take-append-drop 32 (drop 32 l))
     ∙ take-append-drop 32 l
 
-pub length-bytes : (r : Registers) → length (r .m) ≡ 32 → length (r .x) ≡ 32 → length (r .y) ≡ 32 → length (bytesOf r) ≡ 96
-length-bytes r hm hx hy = length-append (r .m) (r .x ++ r .y) ∙ ap₂ (λ (x y : ℕ). x + y) hm (length-append (r .x) (r .y) ∙ ap₂ (λ (x y : ℕ). x + y) hx hy)
+pub length-bytes : (r : Registers) → length (r .m) ≡ 32 → length (r .x) ≡ 32 → length (r .y) ≡ 32 → length (bytesOf r) ≡ 100
+length-bytes r hm hx hy =
+    let last = modeBytes (r .modes) in
+    length-append (r .m) (r .x ++ (r .y ++ last))
+    ∙ ap₂ (λ (x y : ℕ). x + y) hm (length-append (r .x) (r .y ++ last) ∙ ap₂ (λ (x y : ℕ). x + y) hx (longer (r .y) last 32 4 hy refl))

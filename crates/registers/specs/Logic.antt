@@ -42,4 +42,5 @@ logicOf r l t =
       m = r .m;
       x = item (λ k. newX t (bitOf (r .x) k) (bitOf (r .y) k) (bitOf l k));
       y = item (λ k. newY t (bitOf (r .y) k) (bitOf l k));
+      modes = r .modes;
     }

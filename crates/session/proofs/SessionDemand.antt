@@ -2,7 +2,9 @@
 use mathlib.Core.Path.{_≡_, refl, sym, ap, _∙_}
 use mathlib.Core.List.{List, []}
 use Prim.Native.Nat.{ℕ, _*_}
-use lib.ListN.{length}
+use native.Mathlib.Omega.{arith}
+use lib.ListN.{length, take}
+use lib.Seq.{length-take-le}
 use Rattle.contents.specs.File.{done, refused, blockCount, blocksOf}
 use Rattle.contents.specs.Content.{over}
 use Rattle.pictures.specs.Picture.{pictureOf}
@@ -38,14 +40,16 @@ pub refused-run : (s : Left (List ℕ) Answer) → (s .answer .number ≡ 0 → 
 unfolding finished
 refused-run s u = after-none (s .answer .number) (s .memory) (s .registers) u
 
--- a run that is done writes the picture of the memory and the registers that it left: 17 blocks
-pub done-run : (s : Left (List ℕ) Answer) → s .answer .number ≡ 0 → finished s .after ≡ blocksOf 1 (pictureOf (s .memory) (s .registers))
+-- a run that is done writes the picture of the memory and of the M, X and Y that it left: 17 blocks
+pub done-run : (s : Left (List ℕ) Answer) → s .answer .number ≡ 0 → finished s .after ≡ blocksOf 1 (pictureOf (s .memory) (take 96 (s .registers)))
 unfolding finished
 done-run s z = after-done (s .answer .number) (s .memory) (s .registers) z
 
-pub done-size : (s : Left (List ℕ) Answer) → s .answer .number ≡ 0 → length (s .registers) ≡ 96 → length (finished s .after) ≡ 8704
+pub done-size : (s : Left (List ℕ) Answer) → s .answer .number ≡ 0 → length (s .registers) ≡ 100 → length (finished s .after) ≡ 8704
 done-size s z l =
-    ap length (done-run s z) ∙ all-length 1 (pictureOf (s .memory) (s .registers)) ∙ ap (λ (k : ℕ). 512 * blockCount k) (length-picture (s .memory) (s .registers) l)
+    let x = take 96 (s .registers) in
+    ap length (done-run s z) ∙ all-length 1 (pictureOf (s .memory) x)
+    ∙ ap (λ (k : ℕ). 512 * blockCount k) (length-picture (s .memory) x (length-take-le 96 (s .registers) (omega arith)))
 
 -- where none is written its buffer stays
 pub no-picture : (o : Outcome) (before : List ℕ) → o .after ≡ [] → over (o .after) before ≡ before

@@ -5,8 +5,11 @@ use mathlib.Core.List.{List, [], _++_}
 use Prim.Native.Nat.{ℕ, _*_, _≤_}
 use native.Mathlib.Decide.{ℕ-discrete}
 use native.Mathlib.Omega.{arith}
-use lib.ListN.{length, drop}
+use lib.ListN.{length, take, drop}
+use lib.Seq.{length-take-le}
 use borrow.Author.Tests.{eq-eqb, ne-eqb}
+use Rattle.registers.specs.declared.Modes.{Modes}
+use Rattle.registers.specs.Modes.{modesOf}
 use Rattle.judge.specs.declared.Lengths.{Lengths}
 use Rattle.judge.specs.declared.Answer.{Answer}
 use Rattle.judge.specs.Judge.{runRows, judged}
@@ -29,22 +32,22 @@ use Rattle.session.specs.Shown.{Shown}
 use Rattle.session.specs.Steps.{Small}
 
 -- no more is given than there is room for
-given-there : (l : Lengths) (list : List ℕ) → 32 * judged l list .given ≤ l .out
-given-there l list = go (ℕ-discrete (judged l list .number) 0)
+given-there : (l : Lengths) (modes : Modes) (list : List ℕ) → 32 * judged l modes list .given ≤ l .out
+given-there l modes list = go (ℕ-discrete (judged l modes list .number) 0)
   where
-    go : Dec (judged l list .number ≡ 0) → 32 * judged l list .given ≤ l .out
-    go (yes z) = omega (arith, ap (λ (a : Answer). a .given) (run-done l list z), room-fits l list (run-accepted l list z))
-    go (no u) = omega (arith, ap (λ (a : Answer). a .given) (refusal-counts (runRows l list) l list refl u))
+    go : Dec (judged l modes list .number ≡ 0) → 32 * judged l modes list .given ≤ l .out
+    go (yes z) = omega (arith, ap (λ (a : Answer). a .given) (run-done l modes list z), room-fits l modes list (run-accepted l modes list z))
+    go (no u) = omega (arith, ap (λ (a : Answer). a .given) (refusal-counts (runRows l modes list) l modes list refl u))
 
-judged-small : (l : Lengths) (list : List ℕ) → Small (judged l list) (l .out)
-judged-small l list =
-    let b = judged-bounds l list in
-    record { place = b .place; steps = b .steps; taken = b .taken; given = b .given; there = given-there l list }
+judged-small : (l : Lengths) (modes : Modes) (list : List ℕ) → Small (judged l modes list) (l .out)
+judged-small l modes list =
+    let b = judged-bounds l modes list in
+    record { place = b .place; steps = b .steps; taken = b .taken; given = b .given; there = given-there l modes list }
 
 pub run-small : (l : Lent (List ℕ)) (out′ : List ℕ) (a : Answer) → a ≡ ran l .answer → length out′ ≡ length (l .out) → Small a (length out′)
 run-small l out′ a e h =
     subst (λ (n : ℕ). Small a n) (sym h)
-    (subst (λ (x : Answer). Small x (length (l .out))) (sym (e ∙ ran-answer l)) (judged-small (runLengths l) (l .list)))
+    (subst (λ (x : Answer). Small x (length (l .out))) (sym (e ∙ ran-answer l)) (judged-small (runLengths l) (modesOf (l .registers)) (l .list)))
 
 -- ---- the outcome, by the first refused file
 
@@ -99,21 +102,23 @@ pub after-none : (number : ℕ) (m g : List ℕ) → (number ≡ 0 → ⊥) → 
 unfolding afterOf
 after-none number m g u = simp (ne-eqb number 0 u)
 
-pub after-done : (number : ℕ) (m g : List ℕ) → number ≡ 0 → afterOf number m g ≡ blocksOf 1 (pictureOf m g)
+pub after-done : (number : ℕ) (m g : List ℕ) → number ≡ 0 → afterOf number m g ≡ blocksOf 1 (pictureOf m (take 96 g))
 unfolding afterOf
 after-done number m g z = simp (eq-eqb number 0 z)
 
-pub kept : (number : ℕ) (m g a a′ : List ℕ) (r : Moved) → number ≡ 0 → length m ≡ 8192 → length g ≡ 96 → length a ≡ 8704
-    → _≡_ {A = ContentLeft} (record { answer = r; buffer = a′ }) (pictureWritten 1 m g a)
+pub kept : (number : ℕ) (m g a a′ : List ℕ) (r : Moved) → number ≡ 0 → length m ≡ 8192 → length g ≡ 100 → length a ≡ 8704
+    → _≡_ {A = ContentLeft} (record { answer = r; buffer = a′ }) (pictureWritten 1 m (take 96 g) a)
     → (r .bytes ≤ 8704) × (r .bytes ≡ length (afterOf number m g)) × (a′ ≡ over (afterOf number m g) a)
 unfolding kindRight pictureWritten
 kept number m g a a′ r z lm lg la q =
-    let b = blocksOf 1 (pictureOf m g) in
+    let x = take 96 g in
+    let lx : length x ≡ 96 = length-take-le 96 g (omega arith) in
+    let b = blocksOf 1 (pictureOf m x) in
     let p = left-parts r _ (over b a) a a′ q in
-    let f : pictureFits 1 (length m) (length g) ≡ true = ap₂ _&&_ (eq-eqb (length m) 8192 lm) (eq-eqb (length g) 96 lg) in
-    let d : r ≡ done 8704 = p .0 ∙ sym (write-done 1 (pictureFits 1 (length m) (length g)) 8288 (length a) refl f (omega arith)) in
+    let f : pictureFits 1 (length m) (length x) ≡ true = ap₂ _&&_ (eq-eqb (length m) 8192 lm) (eq-eqb (length x) 96 lx) in
+    let d : r ≡ done 8704 = p .0 ∙ sym (write-done 1 (pictureFits 1 (length m) (length x)) 8288 (length a) refl f (omega arith)) in
     let n : r .bytes ≡ 8704 = ap (λ (x : Moved). x .bytes) d in
-    let w : length b ≡ 8704 = all-length 1 (pictureOf m g) ∙ ap (λ (k : ℕ). 512 * blockCount k) (length-picture m g lg) in
+    let w : length b ≡ 8704 = all-length 1 (pictureOf m x) ∙ ap (λ (k : ℕ). 512 * blockCount k) (length-picture m x lx) in
     let s = sym (after-done number m g z) in (
       omega arith,
       n ∙ sym w ∙ ap length s,

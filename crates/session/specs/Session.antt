@@ -1,9 +1,10 @@
--- The program on its three files: what it prints, and the picture that it writes. Document 01, The program. A letter is its ASCII code.
+-- The program on its three files: what it prints, and the picture that it writes. Document 01, The program; document 02, Seven. A letter is its ASCII code.
 use mathlib.Core.Bool.{cond, not}
-use mathlib.Core.List.{List, [], replicate}
+use mathlib.Core.List.{List, [], _∷_, _++_, replicate}
 use Prim.Native.Nat.{ℕ}
 use lib.Dec.{eqb, ltb}
 use lib.ListN.{length, take, drop}
+use Rattle.registers.specs.Modes.{modeBytes, noneSet}
 use Rattle.contents.specs.declared.Moved.{Moved}
 use Rattle.contents.specs.File.{done, refused, contentOf, fileJudged, blocksOf}
 use Rattle.pictures.specs.Picture.{pictureOf, scrambled}
@@ -61,9 +62,9 @@ pub record Outcome : Type 0 where
 abbrev pub onlyLine : ℕ → Moved → Outcome
 onlyLine letter a = record { text = printed letter (a .number) (a .place) 0 0 0 0 []; after = [] }
 
--- "If done writes after.pic": the picture of memory and registers after the run, and nothing where the number is not 0.
+-- "If done writes after.pic": the picture of memory and registers after the run, and nothing where the number is not 0. Until document 02, Eight, it is a picture of M, X and Y, the first 96 register bytes, even if a mode register was set.
 unfoldable pub afterOf : ℕ → List ℕ → List ℕ → List ℕ
-afterOf number mem regs = cond (eqb number 0) (blocksOf 1 (pictureOf mem regs)) []
+afterOf number mem regs = cond (eqb number 0) (blocksOf 1 (pictureOf mem (take 96 regs))) []
 
 -- "Otherwise there is one r line. After a run that is done, each given item follows": a run that is refused has given none.
 unfoldable pub finished : Left (List ℕ) Answer → Outcome
@@ -76,6 +77,10 @@ finished s =
 -- "Has 8,192 out bytes."
 unfoldable pub outBytes : List ℕ
 outBytes = replicate 8192 0
+
+-- "After M, X, Y come set-flag and mode of register A, then of B. The program starts with both unset."
+abbrev pub unsetModes : List ℕ
+unsetModes = modeBytes noneSet
 
 -- A stage: the line of its file where that is refused, else the next stage.
 abbrev pub unlessRefused : ℕ → Moved → Outcome → Outcome
@@ -92,8 +97,8 @@ unfoldable pub withList : List ℕ → List ℕ → File → File → Outcome
 withList memory registers list items =
     unlessRefused 108 (contentAnswer 2 list) (withItems memory registers (contentIn list) items)
 
--- The first, and so the program.
+-- The first, and so the program: M, X and Y are the picture's.
 unfoldable pub outcome : File → File → File → Outcome
 outcome picture list items =
     unlessRefused 112 (pictureAnswer picture)
-    (withList (scrambled (contentIn picture)) (drop 8192 (contentIn picture)) list items)
+    (withList (scrambled (contentIn picture)) (drop 8192 (contentIn picture) ++ unsetModes) list items)

@@ -1,5 +1,5 @@
 // All of the program but the system's calls: what it prints and writes, from what was found of its three files.
-// Document 01, The program.
+// Document 01, The program; document 02, Seven.
 use contents::Moved;
 ghost use mathlib.Core.Path.{_≡_};
 ghost use mathlib.Core.List.{_++_};
@@ -147,16 +147,17 @@ fn print_run(a: judge::Answer, out: &[u8], text: &mut [u8]) -> usize
     )
 }
 
-// The picture after a run that is done, and its size; nothing after one that is not.
+// The picture after a run that is done, and its size; nothing after one that is not. Of the registers it has M, X and Y, the
+// first 96 bytes.
 fn keep(number: u8, memory: &[u8], registers: &[u8], after: &mut [u8]) -> usize
-    requires { ⌜ (length (now memory) ≡ 8192) × (length (now registers) ≡ 96) × (length (now after) ≡ 8704) ⌝ }
+    requires { ⌜ (length (now memory) ≡ 8192) × (length (now registers) ≡ 100) × (length (now after) ≡ 8704) ⌝ }
     ensures { λ r. ⌜ (r ≤ 8704) × (r ≡ length (afterOf number (now (memory .entry)) (now (registers .entry))))
         × (now (after .exit) ≡ over (afterOf number (now (memory .entry)) (now (registers .entry))) (now (after .entry))) ⌝ }
 {
     if number != 0 {
         return 0;
     }
-    let written = pictures::write_picture(1, memory, registers, after);
+    let written = pictures::write_picture(1, memory, &registers[..96], after);
     written.bytes
 }
 
@@ -170,7 +171,7 @@ fn finish(
     after: &mut [u8],
     text: &mut [u8],
 ) -> Counts
-    requires { ⌜ (length (now memory) ≡ 8192) × (length (now registers) ≡ 96) × (length (now out) ≡ 8192)
+    requires { ⌜ (length (now memory) ≡ 8192) × (length (now registers) ≡ 100) × (length (now out) ≡ 8192)
         × (length (now after) ≡ 8704) × (16708 ≤ length (now text)) ⌝ }
     ensures text { λ r. ⌜ Shown
         (finished (ran (record {
@@ -207,7 +208,7 @@ fn with_items(
     after: &mut [u8],
     text: &mut [u8],
 ) -> Counts
-    requires { ⌜ (length (now memory) ≡ 8192) × (length (now registers) ≡ 96)
+    requires { ⌜ (length (now memory) ≡ 8192) × (length (now registers) ≡ 100)
         × (length (now after) ≡ 8704) × (16708 ≤ length (now text)) ⌝ }
     ensures text { λ r. ⌜ Shown (withItems (now (memory .entry)) (now (registers .entry)) (now (list .entry))
         (fileOf i (now (items .entry)))) r (now (text .entry)) (now (text .exit)) ⌝ }
@@ -235,7 +236,7 @@ fn with_list(
     after: &mut [u8],
     text: &mut [u8],
 ) -> Counts
-    requires { ⌜ (length (now memory) ≡ 8192) × (length (now registers) ≡ 96)
+    requires { ⌜ (length (now memory) ≡ 8192) × (length (now registers) ≡ 100)
         × (length (now after) ≡ 8704) × (16708 ≤ length (now text)) ⌝ }
     ensures text { λ r. ⌜ Shown (withList (now (memory .entry)) (now (registers .entry)) (fileOf l (now (list .entry)))
         (fileOf i (now (items .entry)))) r (now (text .entry)) (now (text .exit)) ⌝ }
@@ -253,7 +254,8 @@ fn with_list(
 
 // The program, from what was found of before.pic, run.lst and in.itm and the buffers that they were read into: the text to
 // print, and the bytes of after.pic. What stands behind either stays, and all of after.pic's buffer where it is not to be
-// written. The first of three stages, before.pic: its line, or the second stage.
+// written. The first of three stages, before.pic: its line, or the second stage. A picture has M, X and Y; both mode registers
+// behind them start unset.
 pub fn session(
     p: Found,
     l: Found,
@@ -271,8 +273,8 @@ pub fn session(
         (fileOf i (now (items .entry))) .after) (now (after .entry)) ⌝ }
 {
     let mut memory = blank();
-    let mut registers = [0u8; 96];
-    let read_p = take_picture(p, picture, &mut memory, &mut registers);
+    let mut registers = [0u8; 100];
+    let read_p = take_picture(p, picture, &mut memory, &mut registers[..96]);
     if read_p.number != 0 {
         return print_line(b'p', read_p, text);
     }

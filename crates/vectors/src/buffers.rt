@@ -47,10 +47,13 @@ fn sized(x: u8) -> u8 {
     }
 }
 
-// A good instruction's kind: any of the six by `shape` 1, and else one of the last two in eight of 256.
+// A good instruction's kind: any of the first six by `shape` 1 and of all seven by 3, and by 2 a deliver or resolve in eight of 256.
 fn kind_of(kind: u8, rare: u8, shape: u8) -> u8 {
     if shape == 1 {
         return kind % 6;
+    }
+    if shape == 3 {
+        return kind % 7;
     }
     if rare < 248 {
         return kind % 4;
@@ -58,10 +61,34 @@ fn kind_of(kind: u8, rare: u8, shape: u8) -> u8 {
     4 + kind % 2
 }
 
+// A good instruction's mode tag: 1, and by `shape` 3 also that of a mode register.
+fn tag_of(tag: u8, shape: u8) -> u8 {
+    if shape == 3 { 1 + tag % 3 } else { 1 }
+}
+
+// A good access in the instruction `b`: a mode is given with tag 1 alone.
+fn accessing(b: [u8; 8], tag: u8, mode: u8, addr: u8) -> [u8; 8] {
+    let mut c = b;
+    c[2] = tag;
+    c[4] = addr;
+    if tag == 1 {
+        c[3] = mode;
+    }
+    c
+}
+
+// A mode register set: A or B, by the byte where the tag will stand.
+fn setting(tag: u8, mode: u8) -> [u8; 8] {
+    [6, 0, 2 + tag % 2, mode, 0, 0, 0, 0]
+}
+
 // An instruction made good from eight bytes that may be anything.
 fn shaped(r: [u8; 8], shape: u8) -> [u8; 8] {
     let mut b = [0u8; 8];
     let kind = kind_of(r[0], r[2], shape);
+    if kind == 6 {
+        return setting(r[2], r[3]);
+    }
     let stores = kind == 2 || kind == 3;
     let reads = kind == 0 || kind == 1 || kind == 4;
     let place = if stores { 1 + r[1] % 4 } else { r[1] % 5 };
@@ -73,9 +100,7 @@ fn shaped(r: [u8; 8], shape: u8) -> [u8; 8] {
         b[6] = sized(r[6]);
     }
     if stores || (reads && place == 0) {
-        b[2] = 1;
-        b[3] = r[3];
-        b[4] = r[4];
+        b = accessing(b, tag_of(r[2], shape), r[3], r[4]);
     }
     if kind != 5 {
         b[5] = r[5];

@@ -109,7 +109,7 @@ fn read_picture_front(
 fn call_read_picture(record: &[u8], room: &mut [u8]) -> Numbers {
     let mut file = [0u8; 35000];
     let mut memory = [0u8; 8200];
-    let mut registers = [0u8; 100];
+    let mut registers = [0u8; 104];
     take(record, 5, room, &mut file);
     take(record, 0, room, &mut memory);
     take(record, 1, room, &mut registers);
@@ -147,7 +147,7 @@ fn write_picture_front(record: &[u8], memory: &[u8], registers: &[u8], file: &mu
 
 fn call_write_picture(record: &[u8], room: &mut [u8]) -> Numbers {
     let mut memory = [0u8; 8200];
-    let mut registers = [0u8; 100];
+    let mut registers = [0u8; 104];
     let mut file = [0u8; 35000];
     take(record, 0, room, &mut memory);
     take(record, 1, room, &mut registers);

@@ -9,7 +9,7 @@ use super::rooms::take;
 use module::advance;
 use module::run;
 
-// One instruction of a list taken; nothing is done where there are no 96 bytes of registers.
+// One instruction of a list taken; nothing is done where there are no 100 bytes of registers.
 fn step_on(
     memory: &mut [u8],
     registers: &mut [u8],
@@ -17,7 +17,7 @@ fn step_on(
     items: &[u8],
     out: &mut [u8],
 ) -> Numbers {
-    if registers.len() != 96 {
+    if registers.len() != 100 {
         return of_none(0);
     }
     let old = registers::rows::registers_of(registers);
@@ -72,7 +72,7 @@ fn run_front(
 // A run of the first `most` bytes of the case's list, or a step.
 pub(crate) fn call_module(record: &[u8], room: &mut [u8], most: usize, step: bool) -> Numbers {
     let mut memory = [0u8; 8200];
-    let mut registers = [0u8; 100];
+    let mut registers = [0u8; 104];
     let mut list = [0u8; 33000];
     let mut items = [0u8; 33000];
     let mut out = [0u8; 8200];

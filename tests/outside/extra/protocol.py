@@ -1,7 +1,7 @@
 """The making of the buffers and the digest once more, from PROTOCOL.md alone: checks that page and
 the stored files against each other for every buffer that a call leaves as it was, for runs, steps, passes,
-sums and differences built and run every number, and for the searches, for closing and for spreading every
-word of the answer.
+sums and differences built and run every number, for runs and steps the memory if none is stored, the registers if
+M, X and Y stay, and for the searches, for closing and for spreading every word of the answer.
 
     python3 extra/protocol.py ../../crates/vectors/stdin ../../crates/vectors/stdout
 """
@@ -34,10 +34,13 @@ def make(r):
         l=B[2]
         for i in range(len(l)//8):
             r_=l[8*i:8*i+8]
-            b0=r_[0]%6 if shape==1 else (r_[0]%4 if r_[2]<248 else 4+r_[0]%2)
+            b0=r_[0]%6 if shape==1 else r_[0]%7 if shape==3 else (r_[0]%4 if r_[2]<248 else 4+r_[0]%2)
+            if b0==6:
+                l[8*i:8*i+8]=bytes([6,0,2+r_[2]%2,r_[3],0,0,0,0]); continue
             b1=r_[1]%5 if b0 in(0,1,4) else 1+r_[1]%4 if b0 in(2,3) else 0
             t=b0 in(2,3) or (b0 in(0,1,4) and b1==0)
-            b234=[1,r_[3],r_[4]] if t else [0,0,0]
+            tag=1+r_[2]%3 if shape==3 else 1
+            b234=[tag,r_[3] if tag==1 else 0,r_[4]] if t else [0,0,0]
             b5=0 if b0==5 else r_[5]
             q=r_[6]%9
             b6=(0 if q==0 else 16*q+(r_[6]//16)%q) if b0 in(0,1,4) else 0
@@ -63,48 +66,61 @@ def make(r):
         at+=4+n
     assert at==len(r)
     return kind,p,B
-def fault(b):
-    """Number and byte from the page's part on the offending byte; None if the instruction stands."""
-    kind,source=b[:2];store=kind in(2,3)
+def fault(b,unset):
+    """Number and byte from the page's part on the offending byte; None if the instruction stands. The tags of the mode
+    registers that are unset here are given."""
+    kind,source,tag=b[:3];store=kind in(2,3)
     touches=store or kind in(0,1,4) and source==0
     zero=lambda bytes_:[k for k in bytes_ if b[k]]
     p,m=divmod(b[6],16)
-    table=[(5,[0]*(kind>5)),
-           (6,[1]*(source>4 or store and source==0 or kind==5 and source>0)),
-           (7,[2]*(touches and b[2]==0)),
-           (8,[2]*(touches and b[2]>1)),
-           (9,zero(() if touches else (2,3,4))),
-           (18,zero((6,) if store else (5,6) if kind==5 else ())),
+    table=[(5,[0]*(kind>6)),
+           (6,[1]*(source>4 or store and source==0 or kind in(5,6) and source>0)),
+           (7,[2]*((touches or kind==6) and tag==0)),
+           (8,[2]*((touches or kind==6) and tag>3 or kind==6 and tag==1)),
+           (9,zero((4,) if kind==6 else (2,3,4) if not touches else (3,) if tag in(2,3) else ())),
+           (14,[2]*(touches and tag in unset)),
+           (18,zero((6,) if store else (5,6) if kind in(5,6) else ())),
            (16,[6]*(p>8)),
            (17,[6]*(b[6]>0 and m>=p)),
            (11,[7]*(b[7]//16>4 if kind==0 else b[7]>0))]
     return next(((number,wrong[0]) for number,wrong in table if wrong),None)
+def lent(B,step=0,built=0):
+    """1 to 4 and 15: what a run or step of these lengths and mode registers is refused with, else 0."""
+    mem,reg,lst,itm=B[:4]
+    if len(mem)!=8192: return 1
+    if len(reg)!=100: return 2
+    if not built and (len(lst)!=8 if step else len(lst)%8 or len(lst)>32768): return 3
+    if len(itm)%32 or len(itm)>32768: return 4
+    return 15 if any(reg[k]>1 or reg[k]==0<reg[k+1] for k in(96,98)) else 0
 def run(kind,B):
-    """Kinds 0 and 1: the six numbers."""
+    """Kinds 0 and 1: the six numbers. Where the run is done the mode registers are changed in B."""
     mem,reg,lst,itm,out=B[:5]
-    if kind and len(reg)!=96: return 6*[0]
-    bad=1 if len(mem)!=8192 else 2 if len(reg)!=96 else 3 if (len(lst)!=8 if kind else len(lst)%8 or len(lst)>32768) else 4 if len(itm)%32 or len(itm)>32768 else 0
+    if kind and len(reg)!=100: return 6*[0]
+    bad=lent(B,step=kind)
     if bad: return [bad,0,0,0,0,0]
     code=[lst[k:k+8] for k in range(0,len(lst),8)]
+    modes={2:list(reg[96:98]),3:list(reg[98:100])}
     for place,b in enumerate(code):
-        wrong=fault(b)
+        wrong=fault(b,[tag for tag in modes if modes[tag][0]==0])
         if wrong: return [wrong[0],place,wrong[1],0,0,0]
+        if b[0]==6: modes[b[2]]=[1,b[3]]
     takes=[place for place,b in enumerate(code) if b[1]==4]
-    gives=[place for place,b in enumerate(code) if b[0]>3]
+    gives=[place for place,b in enumerate(code) if b[0] in(4,5)]
     for number,places,there in((12,takes,len(itm)//32),(13,gives,len(out)//32)):
         if len(places)>there: return [number,places[there],0,0,0,0]
+    reg[96:]=bytes(modes[2]+modes[3])
     return [0,0,0,len(code),len(takes),len(gives)]
 def built(kind,p,B):
     """Kinds 10 and 11: the six numbers."""
     a,b,s,n=p;steps=kind-9+5*n
     meets=lambda f:abs(s-f)<n and s!=f
     no=30 if not 1<=n<=64 else 31 if max(a,b,s)+n>256 else 32 if meets(a) or meets(b) else 33 if len(B[2])<8*steps else 0
-    bad=no or (1 if len(B[0])!=8192 else 2 if len(B[1])!=96 else 4 if len(B[3])%32 or len(B[3])>32768 else 0)
+    bad=no or lent(B,built=1)
     return [bad,0,0,0,0,0] if bad else [0,0,0,steps,0,0]
 def numbers(kind,p,B):
     """The numbers of the answer of kinds 0 to 3, 10 and 11; of the others how many there are."""
     if kind<2: return run(kind,B)
-    if kind<4: return [(fault([0,1,0,0,0,0,p[1],0]) or [0])[0],0,0,0,0]
+    if kind<4: return [(fault([0,1,0,0,0,0,p[1],0],()) or [0])[0],0,0,0,0]
     return built(kind,p,B) if kind>9 else 5*[None]
 def search(kind,p,B):
     """Kinds 12 to 14 from the page's part on searches: all words of the answer."""
@@ -113,7 +129,7 @@ def search(kind,p,B):
     no=30 if not 1<=n<=64 else 31 if start+n>256 else 34 if kind<14 and number>=2**n else 33 if len(lst)<8*steps or len(itm)<32*taken else 0
     if no: return [no]+8*[0]+[digest(b) for b in B]
     for k in range(taken):itm[32*k:32*k+32]=bytes([255*(number>>k&1)])*32
-    bad=1 if len(mem)!=8192 else 2 if len(reg)!=96 else 4 if len(itm)%32 or len(itm)>32768 else 0
+    bad=lent(B,built=1)
     if not bad:
         v=[sum((mem[32*(b^w)+b//8]>>b%8&1)<<b-start for b in range(start,start+n)) for w in range(256)]
         was=[w for w in range(256) if reg[64+w//8]>>w%8&1]
@@ -128,7 +144,7 @@ def closing(kind,p,B):
     common=max(a,s)<min(a,s)+n
     no=35 if len(marks)!=32 else 30 if not 1<=n<=32 else 31 if max(a,s)+n>256 else 32 if common else 33 if len(lst)<8*steps or len(itm)<32*taken else 0
     if no: return [no]+8*[0]+[digest(b) for b in B]
-    bad=1 if len(mem)!=8192 else 2 if len(reg)!=96 else 4 if len(itm)%32 or len(itm)>32768 else 0
+    bad=lent(B,built=1)
     if not bad:
         # slice by slice, as numbers of 256 bits: bit w is that of word w
         get=lambda b:sum((mem[32*(b^w)+b//8]>>b%8&1)<<w for w in range(256))
@@ -146,7 +162,7 @@ def closing(kind,p,B):
                     k+=1
             if kind==15: put(s+b,new)
             else: put(a+b,old&~number|new)
-    left=[mem,reg if bad else b'',lst[8*steps:],itm[32*taken:],B[4],marks]
+    left=[mem,reg if bad else reg[96:],lst[8*steps:],itm[32*taken:],B[4],marks]
     return [0,8*steps,32*taken]+([bad,0,0,0,0,0] if bad else [0,0,0,steps,taken,0])+[digest(b) for b in left]
 kept={0:[2,3,5],1:[2,3,5],2:[0,1,2,3,5],3:[0,1,2,3,5],4:[0,1,3,4,5],5:[0,1,3,4,5],6:[0,1,3,4,5],7:[2,3,4,5],8:[0,1,2,3,4],9:[0,1,2,3,4],10:[3,5],11:[3,5]}
 lines=open(sys.argv[1]).read().split('\n');ans=open(sys.argv[2]).read().split('\n')
@@ -160,6 +176,10 @@ for k in range(0,len(lines)-1):
     expected=numbers(kind,p,B);assert len(w)==len(expected)+len(B),k
     if expected[0] is not None: assert w[:len(expected)]==expected,(k,expected)
     keep=kept[kind] if w[0]==0 else range(len(B))
+    if kind<2 and w[0]==0:
+        kinds=set(B[2][::8])
+        # what no instruction of the list can change, but for the mode registers
+        keep=keep+[0]*(not kinds&{2,3})+[1]*(not kinds&{0,1})+[4]*(not kinds&{4,5})
     for b in keep:
         if kind in (2,3) and b==4: continue
         if kind in (10,11) and w[0]<30 and b==2: continue

@@ -1,6 +1,6 @@
 -- `judge::decode`: eight reads, one after the other. Assumes nothing.
 use mathlib.Core.Path.{refl}
-use Rattle.judge.specs.Judge.{instructionAt}
+use Rattle.judge.specs.Instructions.{instructionAt}
 use borrow.Author.Needs.{needs}
 use Rattle.judge.proofs.decode.Statement.{statement}
 use Rattle.judge.proofs.decode.Tie as tie

@@ -12,13 +12,13 @@ use Rattle.judge.proofs.judge_step.Tie as tie
 judge-by-requires : tie.Need-judge-by-requires
 judge-by-requires c κs =
     let a = c .before .before .args in
-    λ z. step-fit (a .l) (now (a .instruction)) (number-none (stepRows (a .l) (now (a .instruction))) refl (sym (c .step-fault .ensures) ∙ z))
+    λ z. step-fit (a .l) (a .m) (now (a .instruction)) (number-none (stepRows (a .l) (a .m) (now (a .instruction))) refl (sym (c .step-fault .ensures) ∙ z))
 
 returns : tie.Need-returns
 unfolding judgedBy
 returns c =
     let a = c .before .before .before .args in
-    c .judge-by .ensures ∙ ap (λ (n : ℕ). orElse (refusal n 0 0) (judgedList (a .l) (now (a .instruction)))) (c .before .step-fault .ensures)
+    c .judge-by .ensures ∙ ap (λ (n : ℕ). orElse (refusal n 0 0) (judgedList (a .l) (a .m) (now (a .instruction)))) (c .before .step-fault .ensures)
 
 pub judge-step-spec : {M : Type 1} → statement M
 judge-step-spec = tie.close (tie.spec (λ c κs. search needs) judge-by-requires returns)

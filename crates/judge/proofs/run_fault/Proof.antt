@@ -11,15 +11,19 @@ returns c =
     let r2 = c .before .before in
     let r3 = r2 .before .before in
     let r4 = r3 .before .before in
-    let a = r4 .before .before .before .args in
-    placed 1 (wrongMemory (a .l .memory)) (c .number-or4 .ensures)
-    (placed 2 (wrongRegisters (a .l .registers)) (r2 .number-or3 .ensures)
-    (chosen 3 (r3 .number-or2 .ensures) (r3 .before .unfit2 .ensures) (chosen 4 (r4 .number-or .ensures) (r4 .before .unfit .ensures) refl)))
+    let r15 = r4 .before .before in
+    let a = r15 .before .before .before .args in
+    placed 1 (wrongMemory (a .l .memory)) (c .number-or5 .ensures)
+    (placed 2 (wrongRegisters (a .l .registers)) (r2 .number-or4 .ensures)
+    (chosen 3 (r3 .number-or3 .ensures) (r3 .before .unfit2 .ensures) (chosen 4 (r4 .number-or2 .ensures) (r4 .before .unfit .ensures)
+    (chosen 15 (r15 .number-or .ensures) (r15 .before .wrong-modes .ensures) refl))))
 
 pub run-fault-spec : {M : Type 1} → statement M
 run-fault-spec =
     tie.close
     (tie.spec
+    (λ c κs. search needs)
+    (λ c κs. search needs)
     (λ c κs. search needs)
     (λ c κs. search needs)
     (λ c κs. search needs)

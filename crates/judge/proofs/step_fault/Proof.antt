@@ -14,12 +14,21 @@ returns : tie.Need-returns
 returns c =
     let r3 = c .before .before in
     let r4 = r3 .before in
-    let a = r4 .before .before .before .args in
-    placed 1 (wrongMemory (a .l .memory)) (c .number-or3 .ensures)
-    (placed 3 (not (eqb (length (now (a .instruction))) 8)) (r3 .number-or2 .ensures)
-    (chosen 4 (r4 .number-or .ensures) (r4 .before .unfit .ensures) refl))
+    let r15 = r4 .before .before in
+    let a = r15 .before .before .before .args in
+    placed 1 (wrongMemory (a .l .memory)) (c .number-or4 .ensures)
+    (placed 3 (not (eqb (length (now (a .instruction))) 8)) (r3 .number-or3 .ensures)
+    (chosen 4 (r4 .number-or2 .ensures) (r4 .before .unfit .ensures)
+    (chosen 15 (r15 .number-or .ensures) (r15 .before .wrong-modes .ensures) refl)))
 
 pub step-fault-spec : {M : Type 1} → statement M
 step-fault-spec =
     tie.close
-    (tie.spec (λ c κs. search needs) (λ c κs. search needs) (λ c κs. search needs) (λ c κs. search needs) returns)
+    (tie.spec
+    (λ c κs. search needs)
+    (λ c κs. search needs)
+    (λ c κs. search needs)
+    (λ c κs. search needs)
+    (λ c κs. search needs)
+    (λ c κs. search needs)
+    returns)

@@ -10,7 +10,7 @@ use Rattle.module.proofs.advance.Tie as tie
 -- what is lent, at the judge's answer
 abbrev lent : tie.After-judge-step → Lent Registers
 lent c =
-    let a = c .before .before .before .before .before .args in
+    let a = c .before .before .before .before .before .before .args in
     record { memory = now (a .mem); registers = a .r; list = now (a .instruction); items = now (a .items); out = now (a .out) }
 
 run-list-requires : tie.Need-run-list-requires

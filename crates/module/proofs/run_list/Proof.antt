@@ -6,10 +6,14 @@ use denote.Ref.{now}
 use lib.ListN.{length}
 use Rattle.bits.specs.Search.{count}
 use Rattle.registers.specs.declared.Registers.{Registers}
-use Rattle.judge.specs.Judge.{takes, gives}
-use Rattle.module.specs.Act.{State}
+use Rattle.registers.specs.Rows.{withModes}
+use Rattle.judge.specs.Instructions.{takes, gives}
+use Rattle.judge.specs.declared.modes.Settled.{Settled}
+use Rattle.judge.specs.Steps.{settledBy}
+use Rattle.module.specs.Act.{State, acted}
 use Rattle.module.specs.Run.{Lent, begun, ranBy}
-use Rattle.module.proofs.RunLaws.{usedBy, ready-at, more-run, more-taken, more-given}
+use Rattle.module.proofs.ActLaws.{stateOf}
+use Rattle.module.proofs.RunLaws.{usedBy, modes-ran, ready-at, more-run, more-taken, more-given}
 use borrow.Author.Needs.{needs}
 use native.Mathlib.Omega.{arith}
 use Rattle.module.proofs.run_list.Statement.{statement}
@@ -37,14 +41,23 @@ decode-requires c κs = omega arith
 
 act-requires : tie.Need-act-requires Inv-loop μ-loop
 act-requires c κs =
-    let l = c .before .before .before .before .loop in
-    let s = c .before .before .before .before .before .before .before .before .before in
+    let d = c .before .before .before .before .before .before in
+    let l = d .before .before .loop in
+    let s = d .before .before .before .before .before .before .before in
     let a = s .args in
-    ready-at (lent (now (a .mem)) (a .r) (now (a .list)) (now (a .items)) (now (a .out))) (l .mem) (l .out) (l .k) (c .before .decode .result) (l .taken) (l .given)
-    (s .pre) (omega arith) (c .before .decode .ensures) (l .inv .1) (l .inv .2) (l .inv .3) (l .inv .4)
+    ready-at (lent (now (a .mem)) (a .r) (now (a .list)) (now (a .items)) (now (a .out))) (l .mem) (l .out) (l .k) (l .s .modes) (d .decode .result) (l .taken) (l .given)
+    (s .pre) (omega arith) (d .decode .ensures) (l .inv .1) (l .inv .2) (l .inv .3) (l .inv .4)
+    (ap (λ (x : State). x .regs .modes) (l .inv .5) ∙ modes-ran (now (a .list)) (now (a .items)) (begun (lent (now (a .mem)) (a .r) (now (a .list)) (now (a .items)) (now (a .out))) (a .r)) (l .k))
+
+-- what the instruction was given is what the mode registers before it make
+settled : (c : tie.After-with-modes Inv-loop μ-loop) → let t = c .before .before in
+    _≡_ {A = Settled} (record { mode = t .settle .result .mode; modes = c .with-modes .result .modes }) (settledBy (t .before .before .decode .result) (t .before .before .before .before .loop .s .modes))
+settled c =
+    let t = c .before .before in
+    (λ j. record { mode = t .settle .result .mode; modes = c .with-modes .ensures j .modes }) ∙ t .settle .ensures
 
 add-k : tie.Need-add-k Inv-loop μ-loop
-add-k c = omega arith
+add-k c = let g = c .before .before .before .before .before .before .before .before .before .before .before .before .before in omega (arith, g .loop-test .taken, g .before .before .before .before .before .before .pre .size)
 
 loop-less : tie.Need-loop-less Inv-loop μ-loop
 loop-less c = omega arith
@@ -52,16 +65,20 @@ loop-less c = omega arith
 loop-again : tie.Need-loop-again Inv-loop μ-loop
 loop-again c =
     let d = c .before .before .before .before .before in
-    let l = d .before .before .before .before .before .loop in
-    let a = d .before .before .before .before .before .before .before .before .before .before .args in
-    let e = d .before .before .decode .ensures in
-    let old : State = record { mem = l .mem; out = l .out; regs = l .s; taken = l .taken; given = l .given } in (
+    let w = d .before .before .before in
+    let e = w .before .before .before .before in
+    let l = e .before .before .loop in
+    let a = e .before .before .before .before .before .before .before .args in
+    let i = e .decode .result in
+    let old : State = stateOf (l .mem) (l .out) (l .s) (l .taken) (l .given) in
+    let acts = d .act .ensures (l .s .modes) (settled w)
+    ∙ ap (λ (x : Registers). acted i (now (a .items)) (stateOf (l .mem) (l .out) (withModes x (l .s .modes)) (l .taken) (l .given))) (w .with-modes .ensures) in (
       omega arith,
       omega arith,
       omega arith,
-      more-taken (now (a .list)) (now (a .items)) (l .k) _ e old _ (d .act .ensures) (l .inv .3),
-      more-given (now (a .list)) (now (a .items)) (l .k) _ e old _ (d .act .ensures) (l .inv .4),
-      more-run (now (a .list)) (now (a .items)) (l .k) _ e old _ (d .act .ensures) (begun (lent (now (a .mem)) (a .r) (now (a .list)) (now (a .items)) (now (a .out))) (a .r)) (l .inv .5),
+      more-taken (now (a .list)) (now (a .items)) (l .k) i (e .decode .ensures) old _ acts (l .inv .3),
+      more-given (now (a .list)) (now (a .items)) (l .k) i (e .decode .ensures) old _ acts (l .inv .4),
+      more-run (now (a .list)) (now (a .items)) (l .k) i (e .decode .ensures) old _ acts (begun (lent (now (a .mem)) (a .r) (now (a .list)) (now (a .items)) (now (a .out))) (a .r)) (l .inv .5),
     )
 
 returns : tie.Need-returns Inv-loop μ-loop
@@ -79,6 +96,8 @@ run-list-spec =
     μ-loop
     loop-holds
     decode-requires
+    (λ c κs. search needs)
+    (λ c κs. search needs)
     act-requires
     add-k
     loop-less

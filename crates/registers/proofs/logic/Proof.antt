@@ -15,13 +15,13 @@ use Rattle.registers.proofs.logic.Statement.{statement}
 use Rattle.registers.proofs.logic.Tie as tie
 
 abbrev Inv-loop : tie.InvT-loop
-Inv-loop item byte7 m x y nx₀ ny₀ i₀ nx ny i =
+Inv-loop item byte7 m x y modes nx₀ ny₀ i₀ nx ny i =
     (i ≤ 32) × (length nx ≡ 32) × (length ny ≡ 32)
     × (take i nx ≡ pack (λ k. newX byte7 (bitOf x k) (bitOf y k) (bitOf item k)) i)
     × (take i ny ≡ pack (λ k. newY byte7 (bitOf y k) (bitOf item k)) i)
 
 abbrev μ-loop : tie.MeasureT-loop
-μ-loop item byte7 m x y nx₀ ny₀ i₀ nx ny i = 32 - i
+μ-loop item byte7 m x y modes nx₀ ny₀ i₀ nx ny i = 32 - i
 
 loop-holds : tie.Need-loop-holds Inv-loop μ-loop
 unfolding listed
@@ -37,7 +37,7 @@ loop-again : tie.Need-loop-again Inv-loop μ-loop
 loop-again c =
     let q = c .before .before in
     let p = q .before .before .before in
-    let a = p .before .before .before .before .args in
+    let a = p .before .before .before .before .before .args in
     let l = p .loop in (
       omega arith,
       simp length-set (l .inv .1),
@@ -52,8 +52,8 @@ returns : tie.Need-returns Inv-loop μ-loop
 unfolding logicOf
 returns c =
     let l = c .before .loop in
-    let m = c .before .before .before .before .before .args .r .m in
-    ap₂ {A = List ℕ} {B = List ℕ} {C = Registers} (λ (p q : List ℕ). record { m = m; x = p; y = q })
+    let r = c .before .before .before .before .before .before .args .r in
+    ap₂ {A = List ℕ} {B = List ℕ} {C = Registers} (λ (p q : List ℕ). record { m = r .m; x = p; y = q; modes = r .modes })
     (fill-done _ (l .nx) 32 (l .i) (l .inv .1) (omega arith) (l .inv .3))
     (fill-done _ (l .ny) 32 (l .i) (l .inv .2) (omega arith) (l .inv .4))
 

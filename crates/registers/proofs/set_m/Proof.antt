@@ -1,4 +1,4 @@
--- `registers::set_m`: the three rows as they are put. Assumes nothing.
+-- `registers::set_m`: the three rows and the modes as they are put. Assumes nothing.
 use mathlib.Core.Path.{refl}
 use Rattle.registers.proofs.set_m.Statement.{statement}
 use Rattle.registers.proofs.set_m.Tie as tie

@@ -28,7 +28,7 @@ const NOT_0: &[u8] = &[1, 255, 128, 2, 16];
 /// Byte 7 of any kind.
 const CHOICE: &[u8] = &[0x50, 0xFF, 0x80, 0x5F];
 
-const KIND: Fault = fault(5, 0, &[6, 255, 7, 128, 22]);
+const KIND: Fault = fault(5, 0, &[8, 255, 7, 128, 22]);
 
 /// Instructions that are judged alike.
 #[derive(Clone, Copy)]
@@ -42,7 +42,8 @@ enum Sort {
     Resolve,
 }
 
-/// The faults of each sort, those that are judged earlier first. A kind over 5 stands by itself.
+/// The faults of each sort, those that are judged earlier first. A kind over 6 stands by itself; kind 6 and the tags 2
+/// and 3 are for the mode registers' own cases.
 const SORTS: [(Sort, &[Fault]); 4] = [
     (
         Sort::Register,
@@ -61,7 +62,7 @@ const SORTS: [(Sort, &[Fault]); 4] = [
         &[
             fault(6, 1, &[5, 255, 6, 128]),
             fault(7, 2, &[0]),
-            fault(8, 2, &[2, 255, 129, 3]),
+            fault(8, 2, &[4, 255, 129, 5]),
             fault(16, 6, OVER),
             fault(17, 6, NOT_BELOW),
             fault(11, 7, CHOICE),
@@ -72,7 +73,7 @@ const SORTS: [(Sort, &[Fault]); 4] = [
         &[
             fault(6, 1, &[0, 5, 0, 255]),
             fault(7, 2, &[0]),
-            fault(8, 2, &[2, 255, 129, 3]),
+            fault(8, 2, &[4, 255, 129, 5]),
             fault(18, 6, SHIFT),
             fault(18, 6, OVER),
             fault(18, 6, NOT_BELOW),
@@ -98,12 +99,14 @@ const SORTS: [(Sort, &[Fault]); 4] = [
 /// A value of byte 6 for each p: good shifts, groups over 256 lines and m not below p.
 const EACH_P: [u8; 16] = [1, 0x10, 0x21, 0x3F, 0x40, 0x54, 0x66, 0x71, 0x88, 0x90, 0xA9, 0xBB, 0xC1, 0xDF, 0xE0, 0xFF];
 
-/// Bad instructions that stand behind the one at fault: 5 with byte 0, and 11 with byte 7.
-const BEHIND: [Instruction; 2] = [[6; 8], [0, 2, 0, 0, 0, 0, 0, 0x50]];
+/// Bad instructions that stand behind the one at fault: 6 with byte 1, and 11 with byte 7.
+pub const BEHIND: [Instruction; 2] = [[6; 8], [0, 2, 0, 0, 0, 0, 0, 0x50]];
 
-/// Whether the instruction by itself is refused, with items and room enough.
-fn refused(b: &Instruction) -> bool {
-    emulator::step(&mut [0; 8192], &mut [0; 96], b, &[0; 32], &mut [0; 32]).number != 0
+/// Whether the instruction by itself is refused, with items and room enough, where these mode registers are set.
+fn refused(b: &Instruction, set: [bool; 2]) -> bool {
+    let mut registers = [0; RECORD];
+    (registers[MODES], registers[MODES + 2]) = (set[0] as u8, set[1] as u8);
+    emulator::step(&mut [0; 8192], &mut registers, b, &[0; 32], &mut [0; 32]).number != 0
 }
 
 impl Plan {
@@ -145,23 +148,25 @@ impl Plan {
         self.add(case);
     }
 
-    /// An instruction with one byte changed, or several, that is refused.
-    fn faulty(&mut self) -> Instruction {
+    /// An instruction with one byte changed, or several, that is refused where these mode registers are set. At times it
+    /// is kind 6 or names one of them, and then nothing needs to be changed.
+    fn faulty(&mut self, set: [bool; 2]) -> Instruction {
         loop {
-            let mut b = self.valid();
-            for _ in 0..self.r.of(&[1, 1, 1, 2, 3]) {
+            let named = self.r.one_in(3);
+            let mut b = if named { self.naming_a_register() } else { self.valid() };
+            for _ in 0..self.r.of(&[1 - named as usize, 1, 1, 2, 3]) {
                 let at = self.r.below(8);
                 b[at] = match at {
                     _ if self.r.one_in(4) => self.r.byte(),
                     0 => self.r.below(8) as u8,
                     1 => self.r.below(7) as u8,
-                    2 => self.r.below(4) as u8,
+                    2 => self.r.below(6) as u8,
                     6 => self.r.of(&[SHIFT, OVER, NOT_BELOW, BOTH].concat()),
                     7 => self.r.of(&[1, 16, 0x4F, 0x50, 255]),
                     _ => self.r.of(NOT_0),
                 };
             }
-            if refused(&b) {
+            if refused(&b, set) {
                 return b;
             }
         }
@@ -169,15 +174,19 @@ impl Plan {
 
     /// A step or run with exactly one instruction at fault; at times items or room are too few as well.
     pub fn random_fault(&mut self) -> Case {
-        let b = self.faulty();
+        let modes = self.good_modes();
+        let mut set = [modes[0] == 1, modes[2] == 1];
         let mut case = if self.r.one_in(3) {
+            let b = self.faulty(set);
             self.step(&b, 32, 32)
         } else {
-            let mut list: Vec<Instruction> = (0..1 + self.r.below(8)).map(|_| self.valid()).collect();
-            let place = self.r.below(list.len());
-            list[place] = b;
+            let count = 1 + self.r.below(8);
+            let place = self.r.below(count);
+            let list: Vec<Instruction> =
+                (0..count).map(|k| if k == place { self.faulty(set) } else { self.valid_by(&mut set) }).collect();
             self.run_fitting(&list)
         };
+        case.modes(modes);
         for k in [ITEMS, OUT] {
             if self.r.one_in(4) {
                 case.lengths[k] = 0;
@@ -188,7 +197,7 @@ impl Plan {
 
     pub fn all_bytes(&mut self) {
         self.faults_and_pairs();
-        self.kinds_over_5();
+        self.kinds_over_6();
         self.many_bytes_wrong();
         self.values_of_byte_6();
         self.moves_of_stores_and_resolves();
@@ -212,8 +221,8 @@ impl Plan {
         }
     }
 
-    /// A kind over 5 alone, and with each number and byte of the others once. Its byte 7 is no function.
-    fn kinds_over_5(&mut self) {
+    /// A kind over 6 alone, and with each number and byte of the others once. Its byte 7 is no function.
+    fn kinds_over_6(&mut self) {
         let none = fault(0, 7, &[0]);
         let b = self.with(Sort::Register, &[none, KIND], 1);
         self.add_at_fault(&b, 1);
@@ -308,13 +317,13 @@ impl Plan {
 }
 
 #[cfg(test)]
-mod tests {
+pub mod tests {
     use super::*;
     use std::collections::{BTreeMap, BTreeSet};
 
     /// The stored cases before these, and the digest of their lines: what a later request adds leaves them.
     const BEFORE: usize = 5041;
-    const LINES_BEFORE: u32 = 0x179efc02;
+    const LINES_BEFORE: u32 = 0x3eccddfb;
 
     fn stored() -> Vec<Case> {
         let mut plan = Plan::new(crate::STORED_SEED);
@@ -334,20 +343,31 @@ mod tests {
         assert_eq!(digest(text.as_bytes()), LINES_BEFORE);
     }
 
-    const ORDER: [u32; 9] = [5, 6, 7, 8, 9, 18, 16, 17, 11];
+    pub const ORDER: [u32; 10] = [5, 6, 7, 8, 9, 14, 18, 16, 17, 11];
 
-    /// The bytes of an instruction that are wrong by this number, whatever else is wrong.
-    fn wrong_by(number: u32, b: &[u8]) -> Vec<usize> {
+    /// The bytes of an instruction that are wrong by this number, whatever else is wrong. Behind the eight bytes stand
+    /// those that say whether the mode registers A and B are set here; both are unset where they are left out.
+    pub fn wrong_by(number: u32, b: &[u8]) -> Vec<usize> {
         let store = [2, 3].contains(&b[0]);
         let touches = store || [0, 1, 4].contains(&b[0]) && b[1] == 0;
+        let (setting, by_register) = (b[0] == 6, [2, 3].contains(&b[2]));
         let (p, m) = (b[6] / 16, b[6] % 16);
         let (bytes, wrong): (&[usize], bool) = match number {
-            5 => (&[0], b[0] > 5),
-            6 => (&[1], b[1] > 4 || store && b[1] == 0 || b[0] == 5 && b[1] != 0),
-            7 => (&[2], touches && b[2] == 0),
-            8 => (&[2], touches && b[2] > 1),
-            9 => return (2..5).filter(|&at| !touches && b[at] != 0).collect(),
-            18 => return (5..7).filter(|&at| b[at] != 0 && (b[0] == 5 || store && at == 6)).collect(),
+            5 => (&[0], b[0] > 6),
+            6 => (&[1], b[1] > 4 || store && b[1] == 0 || [5, 6].contains(&b[0]) && b[1] != 0),
+            7 => (&[2], (touches || setting) && b[2] == 0),
+            8 => (&[2], (touches || setting) && b[2] > 3 || setting && b[2] == 1),
+            9 => {
+                let zeros: &[usize] = match (touches, setting) {
+                    (true, _) if by_register => &[3],
+                    (true, _) => &[],
+                    (_, true) => &[4],
+                    _ => &[2, 3, 4],
+                };
+                return zeros.iter().copied().filter(|&at| b[at] != 0).collect();
+            }
+            14 => (&[2], touches && by_register && b.get(6 + b[2] as usize).is_none_or(|&set| set == 0)),
+            18 => return (5..7).filter(|&at| b[at] != 0 && ([5, 6].contains(&b[0]) || store && at == 6)).collect(),
             16 => (&[6], p > 8),
             17 => (&[6], b[6] != 0 && m >= p),
             _ => (&[7], if b[0] == 0 { b[7] > 0x4F } else { b[7] > 0 }),
@@ -356,15 +376,15 @@ mod tests {
     }
 
     /// All that is wrong with an instruction, in this order.
-    fn all_wrong(order: &[u32], b: &[u8]) -> Vec<(u32, usize)> {
+    pub fn all_wrong(order: &[u32], b: &[u8]) -> Vec<(u32, usize)> {
         order.iter().flat_map(|&number| wrong_by(number, b).into_iter().map(move |byte| (number, byte))).collect()
     }
 
-    fn first(order: &[u32], b: &[u8]) -> (u32, usize) {
+    pub fn first(order: &[u32], b: &[u8]) -> (u32, usize) {
         all_wrong(order, b).first().copied().unwrap_or((0, 0))
     }
 
-    fn right(b: &[u8]) -> (u32, usize) {
+    pub fn right(b: &[u8]) -> (u32, usize) {
         first(&ORDER, b)
     }
 
@@ -382,7 +402,7 @@ mod tests {
         if number != 0 { (number, 6) } else { first(&[11], b) }
     }
 
-    type Rule = fn(&[u8]) -> (u32, usize);
+    pub type Rule = fn(&[u8]) -> (u32, usize);
 
     const WRONG: &[(&str, Rule)] = &[
         ("16 after 17", |b| first(&[5, 6, 7, 8, 9, 18, 17, 16, 11], b)),
@@ -405,7 +425,7 @@ mod tests {
         ("numbers in their own order", |b| first(&[5, 6, 7, 8, 9, 11, 16, 17, 18], b)),
         ("10 still given", |b| {
             let (number, byte) = right(b);
-            (if number > 11 { 10 } else { number }, byte)
+            (if number > 15 { 10 } else { number }, byte)
         }),
         ("the last byte", |b| (right(b).0, wrong_by(right(b).0, b).last().copied().unwrap_or(0))),
         ("bytes from 1", |b| (right(b).0, if right(b).0 == 0 { 0 } else { right(b).1 + 1 })),
@@ -454,10 +474,25 @@ mod tests {
         ("0x90 is 17", |b| other_number(b, |byte6| byte6 == 0x90, 17)),
     ];
 
-    /// Number, place and byte of a run or step whose lengths are right, by a rule for one instruction.
-    fn by(rule: Rule, case: &Case) -> [u32; 3] {
-        let list = case.make()[LIST].clone();
-        for (place, b) in list.chunks(8).enumerate() {
+    /// The instructions of a run or step, with two bytes behind each: whether the mode registers A and B are set, by their
+    /// flags at the start or by a good kind 6 before it.
+    pub fn with_flags(case: &Case) -> Vec<[u8; 10]> {
+        let buffers = case.make();
+        let mut set = [buffers[REGISTERS][MODES], buffers[REGISTERS][MODES + 2]];
+        let mut all = vec![];
+        for b in buffers[LIST].chunks_exact(8) {
+            let one = [b, &set].concat();
+            if b[0] == 6 && right(&one).0 == 0 {
+                set[b[2] as usize - 2] = 1;
+            }
+            all.push(one.try_into().unwrap());
+        }
+        all
+    }
+
+    /// Number, place and byte of a run or step whose lengths and mode registers are right, by a rule for one instruction.
+    pub fn by(rule: Rule, case: &Case) -> [u32; 3] {
+        for (place, b) in with_flags(case).iter().enumerate() {
             let (number, byte) = rule(b);
             if number != 0 {
                 return [number, place as u32, byte as u32];
@@ -490,12 +525,12 @@ mod tests {
         }
     }
 
-    /// Instructions of every kind and source with telling values in every byte.
+    /// Instructions of every kind and source with telling values in every byte, but for kind 6 and the tags 2 and 3.
     fn near_the_borders() -> Vec<Instruction> {
         let values: [&[u8]; 8] = [
-            &[0, 1, 2, 3, 4, 5, 6],
+            &[0, 1, 2, 3, 4, 5, 7],
             &[0, 1, 4, 5],
-            &[0, 1, 2],
+            &[0, 1, 4],
             &[0, 1],
             &[0, 1],
             &[0, 1],
@@ -515,9 +550,9 @@ mod tests {
     }
 
     /// What is given and what is wrong later in the same instruction, with the fewest things wrong that show it.
-    type Pairs = BTreeMap<((u32, usize), Option<(u32, usize)>), usize>;
+    pub type Pairs = BTreeMap<((u32, usize), Option<(u32, usize)>), usize>;
 
-    fn pairs<'a>(instructions: impl Iterator<Item = &'a [u8]>) -> Pairs {
+    pub fn pairs<'a>(instructions: impl Iterator<Item = &'a [u8]>) -> Pairs {
         let mut pairs = Pairs::new();
         for b in instructions {
             let wrong = all_wrong(&ORDER, b);
@@ -639,21 +674,22 @@ mod tests {
         let mut seen: BTreeMap<(u8, u32, u32), usize> = BTreeMap::new();
         for case in plan.cases.iter().filter(|case| case.kind == RUN || case.kind == STEP) {
             let words = case.answer().words;
-            let at_fault = case.make()[LIST].chunks(8).filter(|b| b.len() == 8 && right(b).0 != 0).count();
-            if ORDER.contains(&words[0]) && at_fault == 1 {
+            if !ORDER.contains(&words[0]) {
+                continue;
+            }
+            if with_flags(case).iter().filter(|b| right(&b[..]).0 != 0).count() == 1 {
                 count += 1;
                 *seen.entry((case.kind, words[0], words[2])).or_default() += 1;
             }
         }
         assert!(6000 / 7 < count && count < 6000 / 4, "{}", count);
-        assert_eq!(seen.len(), 24, "{:?}", seen);
+        assert_eq!(seen.len(), 26, "{:?}", seen);
         assert!(seen.values().all(|&count| count >= 4), "{:?}", seen);
         let mut plan = Plan::new(5);
         for _ in 0..500 {
             let case = plan.random_fault();
             case.check();
-            let list = case.make()[LIST].clone();
-            assert_eq!(list.chunks(8).filter(|b| right(b).0 != 0).count(), 1);
+            assert_eq!(with_flags(&case).iter().filter(|b| right(&b[..]).0 != 0).count(), 1);
             assert_eq!(case.answer().words[..3], by(right, &case));
         }
     }

@@ -15,7 +15,11 @@ pub const REPEAT: u8 = 254;
 
 /// How many buffers a case has.
 pub const COUNT: usize = 6;
-pub const MAXIMUM: [usize; COUNT] = [8200, 100, 33000, 33000, 8200, 35000];
+pub const MAXIMUM: [usize; COUNT] = [8200, 104, 33000, 33000, 8200, 35000];
+/// Where the mode registers stand in the registers of a run or step: set-flag and mode of A, then of B.
+pub const MODES: usize = 96;
+/// The bytes of the registers of a run or step.
+pub const RECORD: usize = emulator::REGISTERS;
 pub const LONGEST_RECORD: usize = 1000;
 /// The bytes of a record before its buffers, of a buffer in it, and of a parameter.
 pub const HEADER: usize = 9;
@@ -109,15 +113,18 @@ pub fn digest(bytes: &[u8]) -> u32 {
     65536 * d1 + d2
 }
 
-/// Turns any 8 bytes into an instruction that is not refused by 5 to 9, 11 or 16 to 18.
+/// Turns any 8 bytes into an instruction that is not refused by 5 to 9, 11 or 16 to 18. Those of shape 3 may name a mode
+/// register, so they are refused by 14 where it is unset.
 pub fn shaped(r: &[u8], shape: u8) -> [u8; 8] {
-    let kind = if shape == 1 {
-        r[0] % 6
-    } else if r[2] < 248 {
-        r[0] % 4
-    } else {
-        4 + r[0] % 2
+    let kind = match shape {
+        1 => r[0] % 6,
+        3 => r[0] % 7,
+        _ if r[2] < 248 => r[0] % 4,
+        _ => 4 + r[0] % 2,
     };
+    if kind == 6 {
+        return [6, 0, 2 + r[2] % 2, r[3], 0, 0, 0, 0];
+    }
     let source = match kind {
         2 | 3 => 1 + r[1] % 4,
         5 => 0,
@@ -126,8 +133,8 @@ pub fn shaped(r: &[u8], shape: u8) -> [u8; 8] {
     let touches = kind == 2 || kind == 3 || (kind != 5 && source == 0);
     let mut b = [kind, source, 0, 0, 0, 0, 0, 0];
     if touches {
-        b[2] = 1;
-        b[3] = r[3];
+        b[2] = if shape == 3 { 1 + r[2] % 3 } else { 1 };
+        b[3] = if b[2] == 1 { r[3] } else { 0 };
         b[4] = r[4];
     }
     if kind != 5 {
@@ -205,12 +212,12 @@ impl Case {
 
     /// Every promise of PROTOCOL.md about a case.
     pub fn check(&self) {
-        assert!((self.kind as usize) < KINDS.len() && self.shape <= 2 && self.zeros < 64);
+        assert!((self.kind as usize) < KINDS.len() && self.shape <= 3 && self.zeros < 64);
         for k in 0..COUNT {
             assert!(self.lengths[k] as usize <= MAXIMUM[k], "{:?}", self);
         }
         if self.kind == STEP {
-            assert_eq!(self.lengths[REGISTERS], 96);
+            assert_eq!(self.lengths[REGISTERS] as usize, RECORD);
         }
         if self.kind == PASS || self.kind == WIRED {
             assert!(self.lengths[ITEMS] == 32 && self.lengths[OUT] == 32 && self.p[0] < 256 && self.p[1] < 256);
@@ -376,6 +383,17 @@ impl Case {
         self.search().is_some() || self.way().is_some()
     }
 
+    /// Whether registers of the right length have mode registers: all kinds that run or step.
+    pub fn has_modes(&self) -> bool {
+        self.run_numbers().is_some() && self.lengths[REGISTERS] as usize == RECORD
+    }
+
+    /// The mode registers at the start are these bytes: set-flag and mode of A, then of B.
+    pub fn modes(&mut self, bytes: [u8; 4]) -> &mut Case {
+        self.patches.retain(|patch| patch.target as usize != REGISTERS || (patch.offset as usize) < MODES);
+        self.patch(REGISTERS, MODES, &bytes)
+    }
+
     /// Where the six numbers of a run or step stand in the answer, if it has them.
     pub fn run_numbers(&self) -> Option<std::ops::Range<usize>> {
         match self.kind {
@@ -432,9 +450,9 @@ impl Case {
         match self.kind {
             RUN => numbers(emulator::run(memory, registers, list, items, out)),
             // no case asks it: a step has no registers of another length, and does nothing
-            STEP if registers.len() != 96 => [0; OF_RUN],
+            STEP if registers.len() != RECORD => [0; OF_RUN],
             STEP => {
-                let mut record = [0u8; 96];
+                let mut record = [0u8; RECORD];
                 record.copy_from_slice(registers);
                 let answer = emulator::step(memory, &mut record, list, items, out);
                 registers.copy_from_slice(&record);
@@ -491,10 +509,10 @@ impl Case {
             buffers[LIST].drain(..words[1] as usize);
         }
         if self.way().is_some() {
-            // nor the bytes of its items, nor M, X and Y after its run
+            // nor the bytes of its items, nor M, X and Y after its run; the mode registers stay
             buffers[ITEMS].drain(..words[2] as usize);
             if words[0] == 0 && words[OF_BUILDER] == 0 {
-                buffers[REGISTERS].clear();
+                buffers[REGISTERS].drain(..MODES);
             }
         }
         words.extend(buffers.iter().map(|b| digest(b)));
@@ -555,28 +573,42 @@ mod tests {
         let mut codes = std::collections::BTreeSet::new();
         let mut logic = std::collections::BTreeSet::new();
         let mut kinds = std::collections::BTreeSet::new();
-        for round in 0..8000 {
+        let mut tags = std::collections::BTreeSet::new();
+        for round in 0..12000 {
             let mut r = [0u8; 8];
             for b in &mut r {
                 x = next(x);
                 *b = (x % 256) as u8;
             }
-            let shape = 1 + (round % 2) as u8;
+            let shape = 1 + (round % 3) as u8;
             let b = shaped(&r, shape);
             kinds.insert((shape, b[0], b[1]));
             codes.insert(b[6]);
             if b[0] == 0 {
                 logic.insert(b[7]);
             }
-            if round % 8 == 0 || b[0] == 5 {
+            if b[2] != 0 {
+                tags.insert((shape, b[0], b[2], b[3] != 0));
+            }
+            if round % 8 == 0 || b[0] > 4 {
                 let mut out = [0; 32];
-                let a = emulator::run(&mut [0; 8192], &mut [0; 96], &b, &[0; 32], &mut out);
+                let mut registers = [0; RECORD];
+                (registers[MODES], registers[MODES + 2]) = (1, 1);
+                let a = emulator::run(&mut [0; 8192], &mut registers, &b, &[0; 32], &mut out);
                 assert_eq!(a.number, 0, "{:?}", b);
             }
         }
         assert_eq!(codes.len(), 37);
         assert_eq!(logic.len(), 80);
-        assert_eq!(kinds.len(), 2 * (5 + 5 + 4 + 4 + 5 + 1));
+        assert_eq!(kinds.len(), 3 * (5 + 5 + 4 + 4 + 5 + 1) + 1);
+        for kind in [0, 1, 2, 3, 4, 6] {
+            for tag in 1..=3 {
+                // byte 3 is a mode with tag 1 and in kind 6, which has the other two
+                assert_eq!(tags.contains(&(3, kind, tag, true)), (tag == 1) != (kind == 6), "{} {}", kind, tag);
+                assert!(kind == 6 || tag == 1 || tags.contains(&(3, kind, tag, false)), "{} {}", kind, tag);
+                assert_eq!(tags.contains(&(1, kind, tag, true)), kind != 6 && tag == 1, "{} {}", kind, tag);
+            }
+        }
     }
 
     #[test]
@@ -634,7 +666,7 @@ mod tests {
     fn the_numbers_are_five_six_or_nine() {
         for kind in 0..KINDS.len() as u8 {
             let mut case = Case::new(kind, 3);
-            case.lengths[REGISTERS] = 96;
+            case.lengths[REGISTERS] = RECORD as u16;
             (case.lengths[ITEMS], case.lengths[OUT]) = (32, 32);
             let numbers = match kind {
                 RUN | STEP | SUM_RUN | DIFFERENCE_RUN => 6,
@@ -647,11 +679,13 @@ mod tests {
 
     #[test]
     fn a_step_of_other_registers_does_nothing() {
-        let mut case = Case::new(STEP, 3);
-        case.lengths = [8192, 95, 8, 32, 32, 0];
-        let mut buffers = case.make();
-        assert_eq!(case.call(&mut buffers), [0; 6]);
-        assert!(buffers == case.make());
+        for registers in [0, 95, 96, 99, 101, 104] {
+            let mut case = Case::new(STEP, 3);
+            case.lengths = [8192, registers, 8, 32, 32, 0];
+            let mut buffers = case.make();
+            assert_eq!(case.call(&mut buffers), [0; 6]);
+            assert!(buffers == case.make());
+        }
     }
 
     /// The values that PROTOCOL.md prints.
@@ -660,9 +694,9 @@ mod tests {
         let page = include_str!("../PROTOCOL.md");
         let lines: Vec<&str> = page.lines().collect();
         let mut checked = 0;
-        let asked: Vec<&str> = lines.iter().copied().filter(|l| l.len() > 70 && l.bytes().all(|c| c.is_ascii_hexdigit())).collect();
+        let asked: Vec<&str> = lines.iter().copied().filter(|l| l.len() >= 2 * (HEADER + BUFFER * COUNT) && l.bytes().all(|c| c.is_ascii_hexdigit())).collect();
         let answered: Vec<&str> = lines.iter().copied().filter(|l| Reply::from_line(l).is_some()).collect();
-        assert_eq!((asked.len(), answered.len()), (20, 20));
+        assert_eq!((asked.len(), answered.len()), (27, 27));
         for (line, reply) in asked.iter().zip(&answered) {
             let case = Case::from_line(line).unwrap();
             case.check();
@@ -670,7 +704,7 @@ mod tests {
             assert_eq!(case.answer().line(), *reply);
             checked += 1;
         }
-        assert_eq!(checked, 20);
+        assert_eq!(checked, 27);
         let mut case = Case::new(RUN, 1);
         case.lengths[LIST] = 8;
         assert_eq!(case.make()[LIST], [0x21, 0x01, 0xc5, 0x4f, 0xd1, 0xd0, 0x1a, 0xb2]);
@@ -682,6 +716,12 @@ mod tests {
         case.lengths[LIST] = 32;
         case.shape = 2;
         assert_eq!(case.make()[LIST][16..24], [0, 3, 0, 0, 0, 0xb9, 0x10, 0x4f]);
+        // the instructions of each shape, as the page prints them
+        for (shape, line) in (0..=3u8).map(|shape| (shape, lines.iter().find(|l| l.starts_with(&format!("  | {} | `", shape))).unwrap())) {
+            case.shape = shape;
+            let made: Vec<String> = case.make()[LIST].chunks(8).map(|b| format!("`{}`", crate::words::hex(b))).collect();
+            assert_eq!(**line, format!("  | {} | {} |", shape, made.join(", ")));
+        }
         let mut case = Case::new(READ_PLAIN, 1);
         case.lengths[FILE] = 1024;
         case.p = [2, 2, 16, 1];

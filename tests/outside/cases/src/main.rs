@@ -7,6 +7,7 @@ mod against;
 mod bytes;
 mod closings;
 mod masks;
+mod modes;
 mod resolves;
 mod searches;
 mod words;

@@ -4,7 +4,7 @@
 use crate::case::*;
 use crate::plan::{demand, Instruction, Plan};
 
-const MODES: [u8; 4] = [0, 7, 90, 255];
+const FEW: [u8; 4] = [0, 7, 90, 255];
 /// Flips of several digits.
 const FLIPS: [u8; 8] = [255, 254, 127, 90, 165, 3, 192, 24];
 
@@ -29,9 +29,9 @@ fn digit_is(digit: u32, value: usize) -> [u8; 32] {
 }
 
 impl Plan {
-    fn some_mode(&mut self) -> u8 {
+    pub fn some_mode(&mut self) -> u8 {
         if self.r.one_in(2) {
-            self.r.of(&MODES)
+            self.r.of(&FEW)
         } else {
             self.r.byte()
         }
@@ -142,7 +142,7 @@ impl Plan {
             for source in 1..=4u8 {
                 let mode = match (digit + source as u32) % 5 {
                     4 => self.r.byte(),
-                    k => MODES[k as usize],
+                    k => FEW[k as usize],
                 };
                 let case = self.masked_step(source, mode, 1 << digit, &digit_is(digit, source as usize % 2));
                 self.add(case);
@@ -175,7 +175,7 @@ impl Plan {
         for (k, flip) in [255u8, 1, 90, 128, 36].into_iter().enumerate() {
             let from = self.r.below(256);
             let any = self.r.byte();
-            let mode = [MODES[0], MODES[1], MODES[2], MODES[3], any][k];
+            let mode = [FEW[0], FEW[1], FEW[2], FEW[3], any][k];
             for in_mask in [from ^ flip as usize, from] {
                 let mut case = self.masked_step(3, mode, flip, &lines(|line| line == in_mask));
                 case.zeros |= (1 << MEMORY) | (1 << REGISTERS);
@@ -299,7 +299,7 @@ mod tests {
         assert_eq!(untold, 2); // the refused ones
         assert!((0..8).all(|digit| (1..=4).all(|source| flips.contains(&(1 << digit, source)))));
         assert!(FLIPS.iter().all(|&flip| (1..=4).all(|source| flips.contains(&(flip, source)))));
-        assert!(MODES.iter().all(|mode| modes.contains(mode)) && modes.len() > 20);
+        assert!(FEW.iter().all(|mode| modes.contains(mode)) && modes.len() > 20);
     }
 
     #[test]

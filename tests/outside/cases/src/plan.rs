@@ -43,8 +43,8 @@ fn codes() -> Vec<u8> {
     emulator::network::codes()
 }
 
-fn touches(kind: u8, source: u8) -> bool {
-    kind == 2 || kind == 3 || (kind != 5 && source == 0)
+pub fn touches(kind: u8, source: u8) -> bool {
+    kind == 2 || kind == 3 || ([0, 1, 4].contains(&kind) && source == 0)
 }
 
 /// How many of these instructions take an item, and how many give one.
@@ -56,17 +56,23 @@ pub fn demand(list: &[u8]) -> (usize, usize) {
 
 pub struct Plan {
     pub r: Random,
+    /// Draws the mode registers that a case is given when it is added, so that `r` draws what it drew before there were
+    /// any.
+    pub m: Random,
     pub cases: Vec<Case>,
+    /// Whether a few of the mode registers so drawn are bad ones (15).
+    pub some_bad_modes: bool,
     /// Also ask for kind 1 in plain reads and writes, on which document 01 is silent.
     pub open_points: bool,
 }
 
 impl Plan {
     pub fn new(seed: u64) -> Plan {
-        Plan { r: Random::new(seed), cases: vec![], open_points: false }
+        Plan { r: Random::new(seed), m: Random::new(!seed), cases: vec![], some_bad_modes: false, open_points: false }
     }
 
-    pub fn add(&mut self, case: Case) {
+    pub fn add(&mut self, mut case: Case) {
+        self.settle(&mut case);
         case.check();
         self.cases.push(case);
     }
@@ -74,6 +80,45 @@ impl Plan {
     pub fn case(&mut self, kind: u8) -> Case {
         let seed = (self.r.next() >> 20) as u32 | 1;
         Case::new(kind, seed)
+    }
+
+    // ---- the mode registers
+
+    /// Four bytes that 15 does not refuse: both registers unset, A set, B set, both set, with any modes.
+    pub fn good_modes(&mut self) -> [u8; 4] {
+        let mut bytes = [0u8; 4];
+        let set = self.m.below(4);
+        for which in 0..2 {
+            if set >> which & 1 == 1 {
+                let mode = if self.m.one_in(3) { self.m.of(&[0, 255, 7, 15, 240, 1, 128]) } else { self.m.byte() };
+                bytes[2 * which..2 * which + 2].copy_from_slice(&[1, mode]);
+            }
+        }
+        bytes
+    }
+
+    /// Four bytes that 15 refuses.
+    pub fn bad_modes(&mut self) -> [u8; 4] {
+        let mut bytes = self.good_modes();
+        let (at, mode) = (2 * self.m.below(2), 1 + self.m.below(255) as u8);
+        let flag = if self.m.one_in(2) { self.m.of(&[2u8, 3, 128, 129, 254, 255]) } else { 2 + self.m.below(254) as u8 };
+        let pair = [[flag, mode], [flag, 0], [0, mode]][self.m.below(3)];
+        bytes[at..at + 2].copy_from_slice(&pair);
+        bytes
+    }
+
+    /// Gives the registers of a run or step good mode registers where the case says nothing of them: what the seed puts
+    /// there is refused with 15.
+    pub fn settle(&mut self, case: &mut Case) {
+        let says = |patch: &Patch| patch.target as usize == REGISTERS && patch.offset as usize + patch.bytes.len() > MODES;
+        if !case.has_modes() || case.patches.iter().any(says) {
+            return;
+        }
+        let bad = self.some_bad_modes && self.m.one_in(40);
+        let bytes = if bad { self.bad_modes() } else { self.good_modes() };
+        if case.make()[REGISTERS][MODES..] != bytes {
+            case.modes(bytes);
+        }
     }
 
     // ---- instructions
@@ -149,7 +194,11 @@ impl Plan {
             _ => self.valid(),
         };
         match number {
-            5 => b[0] = if self.r.one_in(2) { self.r.of(&[6u8, 7, 8, 16, 127, 128, 255]) } else { 6 + self.r.below(250) as u8 },
+            5 => {
+                let kind = if self.r.one_in(2) { self.r.of(&[6u8, 7, 8, 16, 127, 128, 255]) } else { 6 + self.r.below(250) as u8 };
+                // 6 is a kind since document 02's Seven
+                b[0] = kind.max(7);
+            }
             6 => {
                 b[1] = match (b[0], self.r.below(2)) {
                     (2, 0) | (3, 0) => 0,
@@ -158,7 +207,7 @@ impl Plan {
                 }
             }
             7 => b[2] = 0,
-            8 => b[2] = self.r.of(&[2u8, 3, 16, 128, 129, 255]),
+            8 => b[2] = self.r.of(&[4u8, 5, 16, 128, 129, 255]),
             9 => {
                 let at = 2 + self.r.below(3);
                 b[at] = self.wild();
@@ -178,13 +227,13 @@ impl Plan {
             11 => b[7] = if b[0] == 0 { 80 + self.r.below(176) as u8 } else { self.wild() },
             _ => panic!("5 to 9, MOVE and 11"),
         }
-        let answer = emulator::run(&mut [0; 8192], &mut [0; 96], &b, &[0; 32], &mut [0; 32]);
+        let answer = emulator::run(&mut [0; 8192], &mut [0; RECORD], &b, &[0; 32], &mut [0; 32]);
         let given = if (16..=18).contains(&answer.number) { MOVE } else { answer.number };
         assert_eq!(given, number, "{:?}", b);
         b
     }
 
-    /// An instruction with several things wrong at once.
+    /// An instruction with several things wrong at once, mostly.
     fn doubly_damaged(&mut self) -> Instruction {
         let number = 5 + self.r.below(7) as u32;
         let mut b = self.damaged(number);
@@ -206,7 +255,7 @@ impl Plan {
     fn run(&mut self, list: &[Instruction], items: usize, out: usize) -> Case {
         let bytes = list.concat();
         let mut case = self.case(RUN);
-        case.lengths = [8192, 96, bytes.len() as u16, items as u16, out as u16, 0];
+        case.lengths = [8192, RECORD as u16, bytes.len() as u16, items as u16, out as u16, 0];
         case.zeros = 1 << LIST;
         case.patch(LIST, 0, &bytes);
         case
@@ -220,7 +269,7 @@ impl Plan {
 
     pub fn step(&mut self, instruction: &[u8], items: usize, out: usize) -> Case {
         let mut case = self.case(STEP);
-        case.lengths = [8192, 96, instruction.len() as u16, items as u16, out as u16, 0];
+        case.lengths = [8192, RECORD as u16, instruction.len() as u16, items as u16, out as u16, 0];
         case.zeros = 1 << LIST;
         case.patch(LIST, 0, instruction);
         case
@@ -228,10 +277,10 @@ impl Plan {
 
     /// A run of `count` shaped instructions with `items` and `out` bytes more (or fewer) than it
     /// wants.
-    fn run_shaped(&mut self, shape: u8, count: usize, items: isize, out: isize) -> Case {
+    pub fn run_shaped(&mut self, shape: u8, count: usize, items: isize, out: isize) -> Case {
         let mut case = self.case(RUN);
         case.shape = shape;
-        case.lengths = [8192, 96, 8 * count as u16, 0, 0, 0];
+        case.lengths = [8192, RECORD as u16, 8 * count as u16, 0, 0, 0];
         let (taken, given) = demand(&case.make()[LIST]);
         let clamp = |value: isize, most: usize| value.clamp(0, most as isize) as u16;
         case.lengths[ITEMS] = clamp(32 * taken as isize + items, 32768);
@@ -243,7 +292,7 @@ impl Plan {
         for _ in 0..1 + self.r.below(3) {
             match self.r.below(5) {
                 0 => case.lengths[MEMORY] = self.r.of(&[0u16, 1, 32, 96, 4096, 8160, 8184, 8191, 8193, 8200]),
-                1 if case.kind != STEP => case.lengths[REGISTERS] = self.r.of(&[0u16, 1, 32, 64, 95, 97, 98, 100]),
+                1 if case.kind != STEP => case.lengths[REGISTERS] = self.r.of(&[0u16, 1, 32, 96, 99, 101, 98, 104]),
                 2 => {
                     let cut = if self.r.one_in(3) { self.r.of(&[32767, 32769, 32772, 32776, 33000]) } else { self.r.below(120) as u16 };
                     case.lengths[LIST] = cut;
@@ -376,18 +425,18 @@ impl Plan {
 
     // ---- builders
 
-    fn build(&mut self, kind: u8, a: u32, b: u32, s: u32, n: u32, length: usize) -> Case {
+    pub fn build(&mut self, kind: u8, a: u32, b: u32, s: u32, n: u32, length: usize) -> Case {
         let mut case = self.case(kind);
         case.lengths[LIST] = length as u16;
         case.p = [a, b, s, n];
         if kind == SUM_RUN || kind == DIFFERENCE_RUN {
             case.lengths[MEMORY] = 8192;
-            case.lengths[REGISTERS] = 96;
+            case.lengths[REGISTERS] = RECORD as u16;
         }
         case
     }
 
-    fn need(kind: u8, n: u32) -> usize {
+    pub fn need(kind: u8, n: u32) -> usize {
         let first = if kind == SUM || kind == SUM_RUN { 1 } else { 2 };
         8 * (first + 5 * n as usize)
     }
@@ -580,7 +629,8 @@ impl Plan {
     }
 
     /// One random case of any family; one in eight is a search, one in eight a closing or spreading, one in eight a run
-    /// or step with one instruction at fault, one in sixteen a list of masked stores, one in sixteen a list of resolves.
+    /// or step with one instruction at fault, one in eight a list by the mode registers, one in sixteen a list of masked
+    /// stores, one in sixteen a list of resolves.
     fn random_case(&mut self) -> Case {
         match self.r.below(16) {
             0 | 1 => self.random_search(),
@@ -588,6 +638,7 @@ impl Plan {
             3 => self.random_resolves(),
             4 | 5 => self.random_closing(),
             6 | 7 => self.random_fault(),
+            8 | 9 => self.random_modes(),
             _ => {
                 let mut case = self.random_base();
                 self.vary_responders(&mut case);
@@ -619,6 +670,7 @@ impl Plan {
     }
 
     pub fn random_cases(&mut self, count: usize) {
+        self.some_bad_modes = true;
         for k in 0..count {
             let case = if self.open_points && k % 50 == 7 { self.open_point() } else { self.random_case() };
             self.add(case);
@@ -643,8 +695,8 @@ impl Plan {
     // ---- the planned cases
 
     /// The stored cases: those of document 01, planned and this many random ones, then the searches, then the
-    /// masked stores, then the resolves, then closing and spreading, then the offending byte. What a later document
-    /// adds stands behind, so that the cases before it stay.
+    /// masked stores, then the resolves, then closing and spreading, then the offending byte, then the mode registers.
+    /// What a later document adds stands behind, so that the cases before it stay.
     pub fn stored(&mut self, random: usize) {
         self.planned();
         for _ in 0..random {
@@ -656,6 +708,7 @@ impl Plan {
         self.all_resolves();
         self.all_closings();
         self.all_bytes();
+        self.all_modes();
     }
 
     fn planned(&mut self) {
@@ -793,7 +846,7 @@ impl Plan {
             for source in [0u8, 1, 2, 3, 4, 5] {
                 for tag in [0u8, 1, 2] {
                     let mut b = [kind, source, tag, 0, 0, 0, 0, 0];
-                    if touches(kind, source) || self.r.one_in(3) {
+                    if touches(kind, source) || kind > 5 && source == 0 || self.r.one_in(3) {
                         b[3] = self.r.byte();
                         b[4] = self.r.byte();
                     }
@@ -1040,7 +1093,7 @@ impl Plan {
         }
         // lengths
         let good: Vec<Instruction> = vec![NOTHING, take, give];
-        for (k, lengths) in [(MEMORY, vec![0u16, 1, 32, 4096, 8160, 8191, 8193, 8200]), (REGISTERS, vec![0, 1, 32, 64, 95, 97, 100]), (ITEMS, vec![1, 31, 33, 48, 63, 65, 32767, 32768, 32769, 32800, 33000]), (OUT, vec![0, 1, 31, 33, 8192, 8200])] {
+        for (k, lengths) in [(MEMORY, vec![0u16, 1, 32, 4096, 8160, 8191, 8193, 8200]), (REGISTERS, vec![0, 1, 32, 96, 99, 101, 104]), (ITEMS, vec![1, 31, 33, 48, 63, 65, 32767, 32768, 32769, 32800, 33000]), (OUT, vec![0, 1, 31, 33, 8192, 8200])] {
             for length in lengths {
                 let mut case = self.run_fitting(&good);
                 case.lengths[k] = length;
@@ -1055,7 +1108,7 @@ impl Plan {
             self.add(case);
         }
         for length in [32776u16, 32784, 33000] {
-            for (registers, items) in [(96u16, 0u16), (96, 33), (95, 0)] {
+            for (registers, items) in [(100u16, 0u16), (100, 33), (96, 0)] {
                 let mut case = self.run(&[], 0, 8200);
                 case.zeros = 0;
                 case.shape = 2;
@@ -1083,7 +1136,7 @@ impl Plan {
             self.add(case);
         }
         // the empty list, with good and bad buffers
-        for (memory, registers, items, out) in [(8192u16, 96u16, 0u16, 0u16), (8192, 96, 64, 33), (8191, 96, 0, 0), (8192, 97, 0, 0), (8192, 96, 1, 0), (8192, 96, 32768, 8200), (8192, 96, 32800, 0)] {
+        for (memory, registers, items, out) in [(8192u16, 100u16, 0u16, 0u16), (8192, 100, 64, 33), (8191, 100, 0, 0), (8192, 96, 0, 0), (8192, 100, 1, 0), (8192, 100, 32768, 8200), (8192, 100, 32800, 0)] {
             let mut case = self.run(&[], 0, 0);
             case.lengths = [memory, registers, 0, items, out, 0];
             self.add(case);
@@ -1160,7 +1213,7 @@ impl Plan {
             }
         }
         // then run with bad buffers, and with a refused builder
-        for (memory, registers, items) in [(8191u16, 96u16, 0u16), (8192, 95, 0), (8192, 96, 7), (8192, 96, 64)] {
+        for (memory, registers, items) in [(8191u16, 100u16, 0u16), (8192, 96, 0), (8192, 100, 7), (8192, 100, 64)] {
             let mut case = self.build(SUM_RUN, 0, 8, 16, 8, 400);
             case.lengths[MEMORY] = memory;
             case.lengths[REGISTERS] = registers;

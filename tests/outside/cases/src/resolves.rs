@@ -76,7 +76,7 @@ impl Plan {
     /// half of all.
     pub fn vary_responders(&mut self, case: &mut Case) {
         let resolves = (case.kind == RUN || case.kind == STEP)
-            && case.lengths[REGISTERS] == 96
+            && case.lengths[REGISTERS] as usize == RECORD
             && case.make()[LIST].chunks(8).any(|b| b == RESOLVE);
         if resolves && self.r.one_in(2) {
             let y = self.some_responders();
@@ -522,7 +522,7 @@ mod tests {
             }
         }
         assert!((0..32).all(|byte| single.contains(&(8 * byte)) && single.contains(&(8 * byte + 7))));
-        assert!([(STEP, 0), (STEP, 13), (RUN, 0), (RUN, 5), (RUN, 12), (RUN, 13)].iter().all(|n| numbers.contains(n)));
+        assert!([(STEP, 0), (STEP, 13), (RUN, 0), (RUN, 6), (RUN, 12), (RUN, 13)].iter().all(|n| numbers.contains(n)));
         assert!(several >= 20 && behind >= 20, "{} {}", several, behind);
     }
 
@@ -537,7 +537,7 @@ mod tests {
     }
 
     #[test]
-    fn about_one_random_case_in_seven_has_a_resolve() {
+    fn about_one_random_case_in_five_has_a_resolve() {
         let mut plan = Plan::new(3);
         plan.random_cases(6000);
         let mut count = 0;
@@ -559,9 +559,9 @@ mod tests {
                 *seen.entry((case.kind, size)).or_insert(0) += 1;
             }
         }
-        assert!(6000 / 8 < count && count < 6000 / 6, "{}", count);
+        assert!(6000 / 6 < count && count < 6000 / 4, "{}", count);
         for size in ["none", "few", "some", "nearly all", "all"] {
-            assert!(seen[&(STEP, size)] >= 5 && seen[&(RUN, size)] >= 25, "{}: {:?}", size, seen);
+            assert!(seen[&(STEP, size)] >= 3 && seen[&(RUN, size)] >= 25, "{}: {:?}", size, seen);
         }
     }
 }

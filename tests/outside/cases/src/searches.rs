@@ -64,10 +64,10 @@ fn mark(case: &mut Case, marked: impl Fn(usize) -> bool) {
 
 impl Plan {
     /// A search with just the room that it wants, where the width is good, and all from the seed.
-    fn search(&mut self, kind: u8, start: u32, n: u32, number: u64) -> Case {
+    pub fn search_of(&mut self, kind: u8, start: u32, n: u32, number: u64) -> Case {
         let mut case = self.case(kind);
         let (list, items) = room(kind, n.min(64));
-        case.lengths = [8192, 96, list, items, 0, 0];
+        case.lengths = [8192, RECORD as u16, list, items, 0, 0];
         case.p = [start, n, 0, 0];
         aim(&mut case, number);
         case
@@ -119,7 +119,7 @@ impl Plan {
         let any = self.r.below(257 - n as usize) as u32;
         let start = self.r.of(&[0, 256 - n, any, any]);
         let number = self.number(n);
-        let mut case = self.search(kind, start, n, number);
+        let mut case = self.search_of(kind, start, n, number);
         match self.r.below(6) {
             0 => {}
             1 => case.zeros |= 1 << MEMORY,
@@ -169,7 +169,7 @@ impl Plan {
                     // patches into memory and registers no longer fit
                     case.patches.clear();
                     case.lengths[MEMORY] = self.r.of(&[8191u16, 8192, 8193, 0]);
-                    case.lengths[REGISTERS] = self.r.of(&[95u16, 96, 97, 0]);
+                    case.lengths[REGISTERS] = self.r.of(&[96u16, 100, 101, 0]);
                 }
             }
         }
@@ -192,7 +192,7 @@ impl Plan {
         for n in 1..=64u32 {
             let kind = SEARCHES[n as usize % 3];
             let (start, number) = (self.r.below(257 - n as usize) as u32, self.number(n));
-            let mut case = self.search(kind, start, n, number);
+            let mut case = self.search_of(kind, start, n, number);
             self.near(&mut case, number);
             self.add(case);
         }
@@ -200,7 +200,7 @@ impl Plan {
         for n in WIDTHS {
             for start in [0, 256 - n] {
                 for kind in SEARCHES {
-                    let mut case = self.search(kind, start, n, 0);
+                    let mut case = self.search_of(kind, start, n, 0);
                     case.repeat(256);
                     let (word, k) = (self.r.below(256), self.r.below(n as usize));
                     turn(&mut case, word, k);
@@ -210,7 +210,7 @@ impl Plan {
                     aim(&mut case, one);
                     self.some_marks(&mut case);
                     self.add(case);
-                    let mut case = self.search(kind, start, n, 0);
+                    let mut case = self.search_of(kind, start, n, 0);
                     let one = values(&case)[self.r.below(256)];
                     aim(&mut case, one);
                     self.add(case);
@@ -226,20 +226,20 @@ impl Plan {
                 let over = if n < 64 { vec![1 << n, u64::MAX] } else { vec![] };
                 for number in [vec![0, 1, full(n)], over].concat() {
                     let start = self.r.of(&[0, 256 - n]);
-                    let mut case = self.search(kind, start, n, number);
+                    let mut case = self.search_of(kind, start, n, number);
                     in_turn(&mut case, &[0, 1, full(n), full(n) - 1]);
                     self.add(case);
                 }
             }
             // 2^n in a number of which only the low or the high half counts
             for (n, number) in [(1u32, 1u64 << 32), (31, 1 << 32), (32, (1 << 32) + 5), (32, 1 << 63), (33, (1 << 33) + 1), (63, (1 << 63) + 1)] {
-                let case = self.search(kind, 7, n, number);
+                let case = self.search_of(kind, 7, n, number);
                 self.add(case);
             }
             // zeros: none is less than 0, all are less than 1
             for number in [0u64, 1] {
                 for marks in [false, true] {
-                    let mut case = self.search(kind, 100, 16, number);
+                    let mut case = self.search_of(kind, 100, 16, number);
                     case.zeros |= 1 << MEMORY;
                     mark(&mut case, |_| marks);
                     self.add(case);
@@ -254,7 +254,7 @@ impl Plan {
             let some = self.number(n) & !1;
             // none, one, all marked; the words of one value each; none of those that hold the greatest
             for marks in 0..8usize {
-                let mut case = self.search(GREATEST_RUN, start, n, 0);
+                let mut case = self.search_of(GREATEST_RUN, start, n, 0);
                 in_turn(&mut case, &[some, some | 1, some | 1, some & (full(n) >> 1)]);
                 let one = self.r.below(256);
                 mark(&mut case, |word| match marks {
@@ -271,7 +271,7 @@ impl Plan {
             }
             // all words equal, and one of them greater or smaller by one bit, marked or not
             for (bits, marked) in [(0usize, true), (1, true), (1, false), (2, true)] {
-                let mut case = self.search(GREATEST_RUN, start, n, 0);
+                let mut case = self.search_of(GREATEST_RUN, start, n, 0);
                 case.repeat(32);
                 let word = self.r.below(256);
                 for k in [n as usize - 1, 0].into_iter().take(bits) {
@@ -283,7 +283,7 @@ impl Plan {
         }
         // each bit of a wide field decides
         for k in (0..64).step_by(7) {
-            let mut case = self.search(GREATEST_RUN, 128, 64, 0);
+            let mut case = self.search_of(GREATEST_RUN, 128, 64, 0);
             case.repeat(32);
             turn(&mut case, 10 + k, k);
             turn(&mut case, 200, k);
@@ -292,7 +292,7 @@ impl Plan {
         }
         // zeros: all that are marked stay
         for marks in 0..3usize {
-            let mut case = self.search(GREATEST_RUN, 192, 64, 0);
+            let mut case = self.search_of(GREATEST_RUN, 192, 64, 0);
             case.zeros |= 1 << MEMORY;
             mark(&mut case, |word| marks == 0 || marks == 1 && word == 255);
             self.add(case);
@@ -303,7 +303,7 @@ impl Plan {
     fn searches_refused(&mut self) {
         for kind in SEARCHES {
             for (k, n) in [0u32, 65, 66, 128, 256, (1 << 16) + 8, 1 << 31, u32::MAX].into_iter().enumerate() {
-                let mut case = self.search(kind, [0, u32::MAX][k % 2], n, [0, u64::MAX][k / 2 % 2]);
+                let mut case = self.search_of(kind, [0, u32::MAX][k % 2], n, [0, u64::MAX][k / 2 % 2]);
                 if k / 4 == 1 {
                     case.lengths = [0; COUNT];
                 }
@@ -311,7 +311,7 @@ impl Plan {
             }
             for n in [1u32, 2, 32, 64] {
                 for (k, start) in [257 - n, 256, 1 << 16, 1 << 31, u32::MAX, 0u32.wrapping_sub(n)].into_iter().enumerate() {
-                    let mut case = self.search(kind, start, n, [0, u64::MAX][k % 2]);
+                    let mut case = self.search_of(kind, start, n, [0, u64::MAX][k % 2]);
                     if k % 3 == 1 {
                         case.lengths = [0; COUNT];
                     }
@@ -326,7 +326,7 @@ impl Plan {
                         continue;
                     }
                     let number = if over { 1 << n } else { full(n) };
-                    let mut case = self.search(kind, 256 - n, n, number);
+                    let mut case = self.search_of(kind, 256 - n, n, number);
                     case.lengths[LIST] -= less_list;
                     case.lengths[ITEMS] -= less_items;
                     if n % 2 == 0 {
@@ -343,15 +343,15 @@ impl Plan {
     fn searches_of_other_lengths(&mut self) {
         for kind in SEARCHES {
             for (list, items, out) in [(1u16, 0u16, 0u16), (7, 32, 31), (8, 64, 32), (100, 320, 100), (0, 1, 0), (3, 31, 64), (0, 33, 0)] {
-                let mut case = self.search(kind, 40, 9, 300);
+                let mut case = self.search_of(kind, 40, 9, 300);
                 case.repeat(128);
                 case.lengths[LIST] += list;
                 case.lengths[ITEMS] += items;
                 case.lengths[OUT] = out;
                 self.add(case);
             }
-            for (memory, registers, items) in [(8191u16, 96u16, 288u16), (8193, 95, 288), (8192, 95, 288), (8192, 97, 289), (0, 0, 289), (8192, 96, 32767), (8192, 96, 32768), (8192, 96, 32769), (8192, 96, 32800), (0, 96, 288)] {
-                let mut case = self.search(kind, 247, 9, 511);
+            for (memory, registers, items) in [(8191u16, 100u16, 288u16), (8193, 99, 288), (8192, 96, 288), (8192, 101, 289), (0, 0, 289), (8192, 100, 32767), (8192, 100, 32768), (8192, 100, 32769), (8192, 100, 32800), (0, 100, 288)] {
+                let mut case = self.search_of(kind, 247, 9, 511);
                 case.lengths[MEMORY] = memory;
                 case.lengths[REGISTERS] = registers;
                 case.lengths[ITEMS] = items;
@@ -422,9 +422,9 @@ mod tests {
             aims.insert((case.kind, 0, n, aim == full(n)));
             if case.kind == GREATEST_RUN {
                 let mut buffers = case.make();
-                let before: u32 = buffers[REGISTERS][64..].iter().map(|b| b.count_ones()).sum();
+                let before: u32 = buffers[REGISTERS][64..96].iter().map(|b| b.count_ones()).sum();
                 case.call(&mut buffers);
-                let after: u32 = buffers[REGISTERS][64..].iter().map(|b| b.count_ones()).sum();
+                let after: u32 = buffers[REGISTERS][64..96].iter().map(|b| b.count_ones()).sum();
                 let size = |count| match count { 0 | 1 => count, 256 => 3, _ => 2 };
                 marks.insert((size(before), size(after)));
             }

@@ -6,7 +6,7 @@ use crate::searches::{room, values};
 use std::collections::BTreeMap;
 use std::fmt::Write;
 
-const DID: [&str; 6] = ["logic", "set M", "store", "masked store", "deliver", "resolve"];
+const DID: [&str; 7] = ["logic", "set M", "store", "masked store", "deliver", "resolve", "set mode register"];
 const FROM: [&str; 5] = ["memory", "M", "X", "Y", "outside"];
 
 pub fn hex(bytes: &[u8]) -> String {
@@ -16,9 +16,17 @@ pub fn hex(bytes: &[u8]) -> String {
 pub fn instruction(b: &[u8]) -> String {
     let kind = DID.get(b[0] as usize).copied().unwrap_or("?");
     let source = FROM.get(b[1] as usize).copied().unwrap_or("?");
-    let mut text = format!("{} from {}", kind, source);
+    let mut text = match (b[0], b[1]) {
+        (5 | 6, 0) => kind.to_string(),
+        _ => format!("{} from {}", kind, source),
+    };
     if b[2] != 0 || b[3] != 0 || b[4] != 0 {
-        write!(text, ", tag {} mode {} address {}", b[2], b[3], b[4]).unwrap();
+        let which = match b[2] {
+            2 => " (A)",
+            3 => " (B)",
+            _ => "",
+        };
+        write!(text, ", tag {}{} mode {} address {}", b[2], which, b[3], b[4]).unwrap();
     }
     if b[5] != 0 {
         write!(text, ", flip {}", b[5]).unwrap();
@@ -68,6 +76,15 @@ pub fn describe(case: &Case) -> String {
         }
     }
     let buffers = case.make();
+    if case.has_modes() {
+        let said = |pair: &[u8]| match pair {
+            [0, 0] => "unset".to_string(),
+            [1, mode] => format!("mode {}", mode),
+            _ => format!("bad (flag {}, mode {})", pair[0], pair[1]),
+        };
+        let bytes = &buffers[REGISTERS][MODES..];
+        writeln!(t, "mode registers: A {}, B {}", said(&bytes[..2]), said(&bytes[2..])).unwrap();
+    }
     if case.kind == RUN || case.kind == STEP {
         if case.shape != 0 {
             writeln!(t, "the list is shaped ({})", case.shape).unwrap();
@@ -118,10 +135,10 @@ fn describe_search(t: &mut String, case: &Case) {
     }
     let (list, items) = room(case.kind, p[1]);
     writeln!(t, "the list wants {} bytes, the items {}", list, items).unwrap();
-    if p[0] > 256 - p[1] || case.lengths[MEMORY] != 8192 || case.lengths[REGISTERS] != 96 {
+    if p[0] > 256 - p[1] || case.lengths[MEMORY] != 8192 || case.lengths[REGISTERS] as usize != RECORD {
         return;
     }
-    let marked = emulator::bits::unpack(&case.make()[REGISTERS][64..]);
+    let marked = emulator::bits::unpack(&case.make()[REGISTERS][64..96]);
     let mut words: BTreeMap<u64, (usize, usize)> = BTreeMap::new();
     for (word, value) in values(case).into_iter().enumerate() {
         let count = words.entry(value).or_default();
@@ -187,17 +204,19 @@ fn describe_closing(t: &mut String, case: &Case) {
 fn meaning(number: u32) -> &'static str {
     match number {
         1 => "memory not 8,192 bytes",
-        2 => "registers not 96 bytes",
+        2 => "registers not 100 bytes",
         3 => "list of no right length",
         4 => "items of no right length",
-        5 => "kind over 5",
+        5 => "kind over 6",
         6 => "source that this kind has not",
-        7 => "memory touched and tag 0",
-        8 => "memory touched and tag over 1",
-        9 => "memory not touched and not 0",
+        7 => "memory touched or mode register set, and tag 0",
+        8 => "memory touched and tag over 3, or mode register set and tag 1 or over 3",
+        9 => "not 0 where memory is not touched, behind tag 2 or 3, or in byte 4 of kind 6",
         11 => "choice over 4, or not 0 without logic",
         12 => "items too few",
         13 => "out too short",
+        14 => "mode from a register that is unset",
+        15 => "set-flag over 1, or a mode that is not 0 with flag 0",
         16 => "group over 256 lines",
         17 => "m not below p",
         18 => "a move that this kind may not make",
@@ -216,7 +235,7 @@ pub fn answered(case: &Case, reply: &Reply) -> String {
     let why = meaning(number);
     match number {
         0 => format!("done: steps {}, taken {}, given {}\n", run[3], run[4], run[5]),
-        5..=11 | 16..=18 => {
+        5..=11 | 14 | 16..=18 => {
             let value = case.make()[LIST][8 * place + byte];
             format!("refused with {} at instruction {}, byte {} (it is {}): {}\n", number, place, byte, value, why)
         }

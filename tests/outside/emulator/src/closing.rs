@@ -98,8 +98,8 @@ pub fn moved(way: Way, fields: Fields, marks: &[u8], before: &Table) -> Table {
     after
 }
 
-/// A run of the built list on these items, which begin with those built. Out stays as it was. M, X and Y are free
-/// afterwards (reading H3); here they stay.
+/// A run of the built list on these items, which begin with those built. Out and the mode registers stay as they were.
+/// M, X and Y are free afterwards (reading H3); here they stay.
 pub fn run_prepared(way: Way, fields: Fields, marks: &[u8], memory: &mut [u8], registers: &mut [u8], items: &[u8]) -> Answer {
     // the list itself stands and finds its items, so what is refused is what the empty list is refused for
     let judged = run(memory, registers, &[], items, &mut []);

@@ -1,9 +1,9 @@
-//! An emulator of the array module of document 01 with document 02's One and Three to Six, written from documents
-//! 01, 02, 001, 003 and 004 alone. It keeps everything unpacked: the memory is a table of words and bits, a register
-//! is 256 bools, an item on the lines is 256 bools. Lent bytes are unpacked at the start of a call and
-//! packed again at its end, and only if the call is done.
+//! An emulator of the array module of document 01 with document 02's One and Three to Seven, written from
+//! documents 01, 02, 001, 003 and 004 alone. It keeps everything unpacked: the memory is a table of words and bits, M, X
+//! and Y are 256 bools each, a mode register holds a mode or none, an item on the lines is 256 bools. Lent bytes are
+//! unpacked at the start of a call and packed again at its end, and only if the call is done.
 //!
-//! Points that the documents leave open follow the readings A to I; the comments name them.
+//! Points that the documents leave open follow the readings A to J; the comments name them.
 
 pub mod bits;
 pub mod blocks;
@@ -18,6 +18,6 @@ pub mod searches;
 pub use blocks::{read_picture, read_plain, write_picture, write_plain, Put};
 pub use closing::{Fields, Way};
 pub use lists::{difference_list, sum_list, Built};
-pub use machine::{run, step, Answer};
+pub use machine::{run, step, Answer, REGISTERS};
 pub use network::{pass, wired_pass};
 pub use searches::{prepare, run_prepared, Prepared, Search};

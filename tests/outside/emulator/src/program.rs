@@ -1,7 +1,7 @@
 //! The program: three files in, one line and the given items out, a picture if done.
 
 use crate::blocks::{read_picture, read_plain, write_picture, Put, ITEMS, LIST};
-use crate::machine::{run, Answer};
+use crate::machine::{run, Answer, REGISTERS};
 
 /// A line: the letter, number, place, byte, steps, taken and given (document 02, Six: the byte after the place).
 fn line(letter: char, a: Answer) -> String {
@@ -25,6 +25,9 @@ pub fn program(before: Option<&[u8]>, list: Option<&[u8]>, items: Option<&[u8]>)
     if put.number != 0 {
         return refusal('p', put);
     }
+    // A kind 1 picture has no mode registers: both are unset at the start, and what a run sets is not written
+    // (reading J8).
+    registers.extend([0u8; REGISTERS - 96]);
 
     let mut contents: Vec<Vec<u8>> = Vec::new();
     for (letter, kind, file) in [('l', LIST, list), ('i', ITEMS, items)] {
@@ -54,7 +57,7 @@ pub fn program(before: Option<&[u8]>, list: Option<&[u8]>, items: Option<&[u8]>)
         text.push('\n');
     }
     let mut file = vec![0u8; 17 * 512];
-    let put = write_picture(&memory, &registers, &mut file);
+    let put = write_picture(&memory, &registers[..96], &mut file);
     assert_eq!(put, Put { number: 0, place: 0, bytes: 8704 });
     (text, Some(file))
 }

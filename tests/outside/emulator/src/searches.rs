@@ -95,7 +95,7 @@ pub fn found(search: Search, values: &[u64], marked: &Row) -> Row {
 }
 
 /// A run of the built list on these items, which begin with those built. Memory, M and out stay as they
-/// were; Y has the words found; X is as Y after equal and less, 0 after greatest.
+/// were, and so do the mode registers; Y has the words found; X is as Y after equal and less, 0 after greatest.
 pub fn run_prepared(search: Search, start: u32, width: u32, memory: &mut [u8], registers: &mut [u8], items: &[u8]) -> Answer {
     // the list itself stands and finds its items, so what is refused is what the empty list is refused for
     let judged = run(memory, registers, &[], items, &mut []);

@@ -367,7 +367,7 @@ fn the_program() {
     let mut bad = pic.clone();
     bad[512 * 7 + 40] ^= 128;
     assert_eq!(program(Some(&bad), Some(&[]), Some(&[])), none("p 21 7 0 0 0 0\n"));
-    let wrong = written(LIST, &[[0, 2, 0, 0, 0, 0, 0, 0], [6; 8]].concat());
+    let wrong = written(LIST, &[[0, 2, 0, 0, 0, 0, 0, 0], [7; 8]].concat());
     assert_eq!(program(Some(&pic), Some(&wrong), Some(&[])), none("i 20 0 0 0 0 0\n"));
     assert_eq!(program(Some(&pic), Some(&wrong), None), none("r 5 1 0 0 0 0\n"));
     // the byte of an instruction, also behind others; 0 again for 12
@@ -384,6 +384,18 @@ fn the_program() {
     assert_eq!(refused([0, 1, 0, 0, 0, 0, 136, 0]), none("r 17 2 6 0 0 0\n"));
     assert_eq!(refused([1, 1, 0, 0, 0, 0, 0, 1]), none("r 11 2 7 0 0 0\n"));
     assert_eq!(refused([1, 4, 0, 0, 0, 0, 0, 0]), none("r 12 2 0 0 0 0\n"));
+    // both mode registers are unset at the start; what is set is not written; a picture of kind 4 is 22 (reading J8)
+    assert_eq!(refused([2, 1, 2, 0, 0, 0, 0, 0]), none("r 14 2 2 0 0 0\n"));
+    assert_eq!(refused([4, 0, 3, 0, 0, 0, 0, 0]), none("r 14 2 2 0 0 0\n"));
+    let setting = written(LIST, &[[6, 0, 2, 255, 0, 0, 0, 0], [6, 0, 3, 7, 0, 0, 0, 0]].concat());
+    assert_eq!(program(Some(&pic), Some(&setting), None), ("r 0 0 0 2 0 0\n".to_string(), Some(pic.clone())));
+    let by_a = |tag: u8, mode: u8| {
+        let list = [[6, 0, 2, 170, 0, 0, 0, 0], [6, 0, 3, 85, 0, 0, 0, 0], [2, 2, tag, mode, 9, 0, 0, 0], [4, 0, tag, mode, 9, 3, 0, 0]];
+        program(Some(&pic), Some(&written(LIST, &list.concat())), None)
+    };
+    assert!(by_a(2, 0) == by_a(1, 170) && by_a(3, 0) == by_a(1, 85) && by_a(2, 0) != by_a(3, 0));
+    assert_eq!(program(Some(&made(4, 17, 352)), None, None), none("p 22 0 0 0 0 0\n"));
+    assert_eq!(program(Some(&made(4, 17, 356)), None, None), none("p 22 0 0 0 0 0\n"));
     // 256 items fit the out buffer, 257 do not
     let fits = written(LIST, &[5, 0, 0, 0, 0, 0, 0, 0].repeat(256));
     assert_eq!(program(Some(&pic), Some(&fits), None).0.lines().count(), 257);

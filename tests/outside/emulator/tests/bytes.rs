@@ -12,11 +12,11 @@ const NOTHING: [u8; 8] = [0, 2, 0, 0, 0, 0, 0, 0x0C];
 /// What a step and a run of the one instruction answer, with an item and room for one; both must agree. Run behind
 /// good instructions, and before a bad one, only the place differs.
 fn judged(b: &[u8; 8]) -> Answer {
-    let (mut memory, mut record, mut out) = (vec![0; 8192], [0; 96], [0; 32]);
+    let (mut memory, mut record, mut out) = (vec![0; 8192], [0; REGISTERS], [0; 32]);
     let alone = step(&mut memory, &mut record, b, &[0; 32], &mut out);
     assert_eq!(run(&mut memory, &mut record, b, &[0; 32], &mut out), alone);
     if alone.number != 0 {
-        let behind = [NOTHING, NOTHING, *b, [6; 8]].concat();
+        let behind = [NOTHING, NOTHING, *b, [7; 8]].concat();
         let answer = run(&mut memory, &mut record, &behind, &[0; 32], &mut out);
         assert_eq!(answer, Answer { place: 2, ..alone });
         assert!(memory.iter().chain(&record).chain(&out).all(|&byte| byte == 0));
@@ -31,7 +31,7 @@ fn refused(b: [u8; 8], number: u32, byte: u32) {
 /// Each number alone, with each byte that it can name.
 #[test]
 fn each_number_and_its_bytes() {
-    for kind in [6u8, 7, 128, 255] {
+    for kind in [7u8, 8, 128, 255] {
         refused([kind, 1, 0, 0, 0, 0, 0, 0], 5, 0);
     }
     for (kind, source) in [(0u8, 5u8), (1, 5), (4, 255), (2, 0), (3, 0), (2, 5), (3, 128), (5, 1), (5, 4), (5, 5)] {
@@ -41,7 +41,7 @@ fn each_number_and_its_bytes() {
     for (kind, source) in [(0u8, 0u8), (1, 0), (4, 0), (2, 1), (2, 4), (3, 3)] {
         refused([kind, source, 0, 0, 0, 0, 0, 0], 7, 2);
         refused([kind, source, 0, 255, 9, 0, 0, 0], 7, 2);
-        for tag in [2u8, 3, 128, 129, 255] {
+        for tag in [4u8, 5, 128, 129, 255] {
             refused([kind, source, tag, 0, 0, 0, 0, 0], 8, 2);
         }
     }
@@ -91,15 +91,16 @@ fn the_examples() {
     assert_eq!(judged(&[3, 4, 1, 0, 0, 255, 0, 0]), ok(1, 1, 0));
 }
 
-/// Two numbers in one instruction: the earlier in 5, 6, 7, 8, 9, 18, 16, 17, 11 is given, with its own byte.
+/// Two numbers in one instruction: the earlier in 5, 6, 7, 8, 9, 18, 16, 17, 11 is given, with its own byte. (14 is for
+/// the tests of the mode registers.)
 #[test]
 fn the_earlier_number_and_its_byte() {
     // 5 before all
-    refused([6, 5, 2, 2, 2, 2, 0x9F, 0xFF], 5, 0);
-    refused([6, 0, 0, 0, 0, 0, 0, 1], 5, 0);
+    refused([7, 5, 2, 2, 2, 2, 0x9F, 0xFF], 5, 0);
+    refused([7, 0, 0, 0, 0, 0, 0, 1], 5, 0);
     // 6 before 7, 8, 9, 18, 16, 17, 11
     refused([2, 0, 0, 0, 0, 0, 0, 0], 6, 1);
-    refused([2, 0, 2, 0, 0, 0, 0, 0], 6, 1);
+    refused([2, 0, 4, 0, 0, 0, 0, 0], 6, 1);
     refused([0, 5, 1, 0, 0, 0, 0, 0], 6, 1);
     refused([2, 0, 1, 0, 0, 0, 16, 0], 6, 1);
     refused([5, 1, 0, 0, 0, 1, 0, 0], 6, 1);
@@ -107,7 +108,7 @@ fn the_earlier_number_and_its_byte() {
     refused([0, 5, 0, 0, 0, 0, 1, 0], 6, 1);
     refused([0, 5, 0, 0, 0, 0, 0, 0x50], 6, 1);
     // 7 and 8 before 18, 16, 17, 11
-    for (tag, number) in [(0u8, 7u32), (2, 8)] {
+    for (tag, number) in [(0u8, 7u32), (4, 8)] {
         refused([2, 1, tag, 0, 0, 0, 16, 0], number, 2);
         refused([3, 1, tag, 0, 0, 0, 0x90, 0], number, 2);
         refused([0, 0, tag, 0, 0, 0, 0x90, 0], number, 2);
@@ -191,9 +192,10 @@ fn every_value_of_byte_6() {
 /// longer given; each number names the bytes that the readings list and no others.
 #[test]
 fn near_the_borders_against_the_tables() {
-    let (mut memory, mut record, mut out) = (vec![0; 8192], [0; 96], [0; 32]);
+    let (mut memory, mut record, mut out) = (vec![0; 8192], [0; REGISTERS], [0; 32]);
+    record[98] = 1;
     let mut seen: BTreeMap<(u32, u32), usize> = BTreeMap::new();
-    let numbers = 8 * 6 * 3 * 2 * 2 * 3 * 14 * 4;
+    let numbers = 8 * 6 * 5 * 2 * 2 * 3 * 14 * 4;
     for n in 0..numbers {
         let mut rest = n;
         let mut next = |values: &[u8]| {
@@ -202,23 +204,24 @@ fn near_the_borders_against_the_tables() {
             value
         };
         let b = [
-            next(&[0, 1, 2, 3, 4, 5, 6, 255]),
+            next(&[0, 1, 2, 3, 4, 5, 6, 7]),
             next(&[0, 1, 2, 3, 4, 5]),
-            next(&[0, 1, 2]),
+            next(&[0, 1, 2, 3, 4]),
             next(&[0, 255]),
             next(&[0, 1]),
             next(&[0, 1, 255]),
             next(&[0, 1, 15, 16, 17, 0x21, 0x7F, 0x80, 0x87, 0x88, 0x8F, 0x90, 0x9F, 0xFF]),
             next(&[0, 1, 0x4F, 0x50]),
         ];
-        let (number, byte) = by_the_tables(&b);
+        // A is unset, B is set
+        let (number, byte) = by_the_tables(&b, [false, true]);
         *seen.entry((number, byte)).or_default() += 1;
         if number != 0 {
             let answer = run(&mut memory, &mut record, &b, &[0; 32], &mut out);
             assert_eq!(answer, no(number, 0, byte), "{:?}", b);
         }
     }
-    let named = [(0, 0), (5, 0), (6, 1), (7, 2), (8, 2), (9, 2), (9, 3), (9, 4), (11, 7), (16, 6), (17, 6), (18, 5), (18, 6)];
+    let named = [(0, 0), (5, 0), (6, 1), (7, 2), (8, 2), (9, 2), (9, 3), (9, 4), (11, 7), (14, 2), (16, 6), (17, 6), (18, 5), (18, 6)];
     assert_eq!(seen.keys().copied().collect::<Vec<_>>(), named);
 }
 
@@ -226,10 +229,11 @@ fn near_the_borders_against_the_tables() {
 #[test]
 fn the_byte_of_the_first_refused_instruction() {
     let faults = [
-        ([6, 0, 0, 0, 0, 0, 0, 0], 5, 0),
+        ([7, 0, 0, 0, 0, 0, 0, 0], 5, 0),
         ([0, 5, 0, 0, 0, 0, 0, 0], 6, 1),
         ([2, 1, 0, 0, 0, 0, 0, 0], 7, 2),
-        ([2, 1, 2, 0, 0, 0, 0, 0], 8, 2),
+        ([2, 1, 4, 0, 0, 0, 0, 0], 8, 2),
+        ([2, 1, 2, 0, 0, 0, 0, 0], 14, 2),
         ([0, 1, 0, 0, 1, 0, 0, 0], 9, 4),
         ([5, 0, 0, 0, 0, 1, 0, 0], 18, 5),
         ([0, 1, 0, 0, 0, 0, 0x90, 0], 16, 6),
@@ -255,13 +259,14 @@ fn no_byte_where_no_instruction_is_at_fault() {
         run(&mut vec![0; memory], &mut vec![0; registers], list, &vec![0; items], &mut [0; 31])
     };
     // 1 to 4, before an instruction whose byte is 6
-    assert_eq!(lent(8191, 96, &bad, 32), no(1, 0, 0));
-    assert_eq!(lent(8192, 97, &bad, 32), no(2, 0, 0));
-    assert_eq!(lent(8192, 96, &bad[..7], 32), no(3, 0, 0));
-    assert_eq!(lent(8192, 96, &bad, 33), no(4, 0, 0));
-    assert_eq!(lent(8192, 96, &bad, 32), no(18, 0, 6));
+    assert_eq!(lent(8191, 100, &bad, 32), no(1, 0, 0));
+    assert_eq!(lent(8192, 101, &bad, 32), no(2, 0, 0));
+    assert_eq!(lent(8192, 96, &bad, 32), no(2, 0, 0));
+    assert_eq!(lent(8192, 100, &bad[..7], 32), no(3, 0, 0));
+    assert_eq!(lent(8192, 100, &bad, 33), no(4, 0, 0));
+    assert_eq!(lent(8192, 100, &bad, 32), no(18, 0, 6));
     let stepped = |memory: usize, instruction: &[u8], items: usize| {
-        step(&mut vec![0; memory], &mut [0; 96], instruction, &vec![0; items], &mut [0; 31])
+        step(&mut vec![0; memory], &mut [0; REGISTERS], instruction, &vec![0; items], &mut [0; 31])
     };
     assert_eq!(stepped(8191, &bad, 32), no(1, 0, 0));
     assert_eq!(stepped(8192, &[], 32), no(3, 0, 0));
@@ -269,13 +274,13 @@ fn no_byte_where_no_instruction_is_at_fault() {
     assert_eq!(stepped(8192, &bad, 32), no(18, 0, 6));
     // 12 and 13, which name a place and no byte, though byte 1 asks for the item and byte 0 for the room
     let (take, give, resolve) = ([1u8, 4, 0, 0, 0, 0, 0, 0], [4u8, 1, 0, 0, 0, 0, 0, 0], [5u8, 0, 0, 0, 0, 0, 0, 0]);
-    assert_eq!(lent(8192, 96, &[NOTHING, take, take].concat(), 32), no(12, 2, 0));
-    assert_eq!(lent(8192, 96, &[NOTHING, give].concat(), 32), no(13, 1, 0));
-    assert_eq!(lent(8192, 96, &[take, NOTHING, resolve].concat(), 32), no(13, 2, 0));
+    assert_eq!(lent(8192, 100, &[NOTHING, take, take].concat(), 32), no(12, 2, 0));
+    assert_eq!(lent(8192, 100, &[NOTHING, give].concat(), 32), no(13, 1, 0));
+    assert_eq!(lent(8192, 100, &[take, NOTHING, resolve].concat(), 32), no(13, 2, 0));
     assert_eq!(stepped(8192, &take, 0), no(12, 0, 0));
     assert_eq!(stepped(8192, &give, 0), no(13, 0, 0));
     // done
-    assert_eq!(lent(8192, 96, &[], 32), ok(0, 0, 0));
-    assert_eq!(lent(8192, 96, &[take, NOTHING].concat(), 32), ok(2, 1, 0));
+    assert_eq!(lent(8192, 100, &[], 32), ok(0, 0, 0));
+    assert_eq!(lent(8192, 100, &[take, NOTHING].concat(), 32), ok(2, 1, 0));
     assert_eq!(stepped(8192, &NOTHING, 0), ok(1, 0, 0));
 }

@@ -115,7 +115,7 @@ fn gone(way: Way, a: u32, s: u32, n: u32, marks: &[u8; 32], bench: &mut Bench) -
     let before = bench.clone();
     let (steps, taken) = if way == Way::Close { (10 + 19 * n, 9) } else { (1 + 18 * n, 1 + 8 * n) };
     assert_eq!(run_prepared(way, f, marks, &mut bench.memory, &mut bench.registers, &bench.items), ok(steps, taken, 0));
-    assert!(bench.items == before.items && bench.out == before.out);
+    assert!(bench.items == before.items && bench.out == before.out && bench.registers[96..] == before.registers[96..]);
     (before.table(), bench.table())
 }
 
@@ -336,17 +336,23 @@ fn runs_that_are_refused() {
         let f = fields(3, 200, 1);
         let wanted = prepare(way, f, &[255; 32], ROOM.0, ROOM.1).items as usize;
         let lengths = [
-            (8191usize, 95usize, wanted + 1, 1u32),
-            (8192, 95, wanted + 1, 2),
-            (8192, 97, wanted, 2),
-            (8192, 100, wanted, 2),
-            (8192, 96, wanted + 1, 4),
-            (8192, 96, 32800, 4),
-            (8192, 96, 32768, 0),
-            (8192, 96, wanted + 32, 0),
+            (8191usize, 99usize, wanted + 1, 1u32),
+            (8192, 99, wanted + 1, 2),
+            (8192, 96, wanted, 2),
+            (8192, 101, wanted, 2),
+            (8192, 100, wanted + 1, 4),
+            (8192, 100, 32800, 4),
+            (8192, 100, 32768, 15),
+            (8192, 100, wanted + 32, 15),
+            (8192, 100, 32768, 0),
+            (8192, 100, wanted + 32, 0),
         ];
         for (memory, registers, items, number) in lengths {
             let (mut m, mut r, i) = (vec![7; memory], vec![7; registers], vec![7; items]);
+            if number == 0 {
+                // both mode registers are unset; else they are bad ones, but for other lengths
+                r[96..].fill(0);
+            }
             let answer = run_prepared(way, f, &[255; 32], &mut m, &mut r, &i);
             assert_eq!((answer.number, answer.place), (number, 0));
             if number != 0 {

@@ -53,7 +53,7 @@ fn refusals_1_to_4_and_their_order() {
         bench.items = vec![0; 5];
         bench.refused(&[9; 3], 1, 0);
     }
-    for length in [0, 95, 97, 32, 64] {
+    for length in [0, 95, 96, 97, 99, 101, 104, 32, 64] {
         let mut bench = good.clone();
         bench.registers = vec![1; length];
         bench.items = vec![0; 5];
@@ -84,9 +84,9 @@ fn refusals_of_an_instruction_against_the_tables() {
     for _ in 0..20000 {
         let pick = |random: &mut Random, small: u64| if random.below(8) == 0 { random.byte() } else { random.below(small) as u8 };
         let mut b = [0u8; 8];
-        b[0] = pick(&mut random, 7);
+        b[0] = pick(&mut random, 8);
         b[1] = pick(&mut random, 6);
-        b[2] = pick(&mut random, 3);
+        b[2] = pick(&mut random, 5);
         if random.below(2) == 0 {
             b[3] = pick(&mut random, 2);
             b[4] = pick(&mut random, 2);
@@ -94,7 +94,8 @@ fn refusals_of_an_instruction_against_the_tables() {
         b[5] = pick(&mut random, 2);
         b[6] = if random.below(2) == 0 { 0 } else { random.byte() };
         b[7] = if random.below(2) == 0 { 0 } else { random.byte() };
-        let (number, byte) = by_the_tables(&b);
+        let modes = good_modes(&mut random);
+        let (number, byte) = by_the_tables(&b, [modes[0] == 1, modes[2] == 1]);
         seen[number as usize] += 1;
         if number == 0 {
             continue; // the run of these is for other tests
@@ -103,12 +104,14 @@ fn refusals_of_an_instruction_against_the_tables() {
         let mut instructions = vec![NOTHING; place];
         instructions.push(b);
         instructions.push([9; 8]);
+        bench.registers[96..].copy_from_slice(&modes);
         bench.refused_at(&list(&instructions), number, place as u32, byte);
-        let mut registers = [0u8; 96];
+        let mut registers = [0u8; REGISTERS];
+        registers[96..].copy_from_slice(&modes);
         let answer = step(&mut bench.memory, &mut registers, &b, &bench.items, &mut bench.out);
         assert_eq!(answer, no(number, 0, byte));
     }
-    for number in [0, 5, 6, 7, 8, 9, 18, 16, 17, 11] {
+    for number in [0, 5, 6, 7, 8, 9, 14, 18, 16, 17, 11] {
         assert!(seen[number] > 20, "{:?}", seen);
     }
 }
@@ -116,7 +119,7 @@ fn refusals_of_an_instruction_against_the_tables() {
 #[test]
 fn named_refusals() {
     let cases: [([u8; 8], u32, u32); 30] = [
-        ([6, 0, 0, 0, 0, 0, 0, 0], 5, 0),
+        ([7, 0, 0, 0, 0, 0, 0, 0], 5, 0),
         ([255, 9, 9, 9, 9, 9, 9, 9], 5, 0),
         ([0, 5, 0, 0, 0, 0, 0, 0], 6, 1),
         ([2, 0, 0, 0, 0, 0, 0, 0], 6, 1), // reading B7
@@ -127,7 +130,7 @@ fn named_refusals() {
         ([0, 0, 0, 0, 0, 0, 0, 0], 7, 2),
         ([1, 0, 0, 7, 7, 0, 0, 0], 7, 2),
         ([4, 0, 0, 7, 7, 0, 0, 0], 7, 2),
-        ([3, 4, 2, 7, 7, 0, 0, 0], 8, 2),
+        ([3, 4, 4, 7, 7, 0, 0, 0], 8, 2),
         ([0, 0, 255, 7, 7, 0, 0, 0], 8, 2),
         ([0, 1, 1, 0, 0, 0, 0, 0], 9, 2),
         ([1, 2, 0, 1, 0, 0, 0, 0], 9, 3),
@@ -161,9 +164,9 @@ fn named_refusals() {
 fn order_across_instructions() {
     let mut bench = Bench::zero();
     // an 11 at 0 comes before a 5 at 1
-    bench.refused_at(&list(&[[1, 1, 0, 0, 0, 0, 0, 1], [6; 8]]), 11, 0, 7);
+    bench.refused_at(&list(&[[1, 1, 0, 0, 0, 0, 0, 1], [7; 8]]), 11, 0, 7);
     // 12 and 13 only after what every instruction is refused for
-    bench.refused(&list(&[[4, 4, 0, 0, 0, 0, 0, 0], [6; 8]]), 5, 1);
+    bench.refused(&list(&[[4, 4, 0, 0, 0, 0, 0, 0], [7; 8]]), 5, 1);
     // a 13 at instruction 0 yields to a 12 at instruction 2
     bench.refused(&list(&[[5, 0, 0, 0, 0, 0, 0, 0], NOTHING, [1, 4, 0, 0, 0, 0, 0, 0]]), 12, 2);
     // deliver from outside lacks both: 12
@@ -228,7 +231,7 @@ fn step_answers_as_a_run_of_one() {
         let mut one = Bench::random(&mut random, items, out);
         let mut two = one.clone();
         let run_answer = one.run(&b);
-        let mut record = [0u8; 96];
+        let mut record = [0u8; REGISTERS];
         record.copy_from_slice(&two.registers);
         let step_answer = step(&mut two.memory, &mut record, &b, &two.items, &mut two.out);
         two.registers = record.to_vec();
@@ -243,7 +246,7 @@ fn step_lengths() {
     for length in [0usize, 1, 7, 9, 16, 64] {
         let mut bench = Bench::random(&mut random, 32, 32);
         let before = bench.clone();
-        let mut record = [5u8; 96];
+        let mut record = [5u8; REGISTERS];
         let instruction = vec![0u8; length];
         let answer = step(&mut bench.memory, &mut record, &instruction, &bench.items, &mut bench.out);
         assert_eq!(answer, no(3, 0, 0));
@@ -251,10 +254,10 @@ fn step_lengths() {
         assert_eq!(answer.number, 3);
         let answer = step(&mut bench.memory[..8191], &mut record, &instruction, &[0; 31], &mut bench.out);
         assert_eq!(answer.number, 1);
-        assert!(bench == before && record == [5u8; 96]);
+        assert!(bench == before && record == [5u8; REGISTERS]);
     }
     let mut bench = Bench::zero();
-    let answer = step(&mut bench.memory, &mut [0; 96], &NOTHING, &[0; 31], &mut []);
+    let answer = step(&mut bench.memory, &mut [0; REGISTERS], &NOTHING, &[0; 31], &mut []);
     assert_eq!(answer.number, 4);
 }
 
@@ -377,7 +380,7 @@ fn masked_store_with_flip_does_not_use_the_line_before_the_flip() {
         for mask in masks {
             for source in 1..=4u8 {
                 let mut bench = Bench::zero();
-                bench.registers = [mask, [255; 32], [255; 32]].concat();
+                bench.registers[..96].copy_from_slice(&[mask, [255; 32], [255; 32]].concat());
                 bench.items = vec![255; 32];
                 let before = bench.clone();
                 let (mode, address) = ([0, 7, 90, 255][random.below(4) as usize], random.byte());
@@ -459,7 +462,7 @@ const RESOLVE: [u8; 8] = [5, 0, 0, 0, 0, 0, 0, 0];
 fn resolved(random: &mut Random, y: &[u8; 32]) -> [u8; 32] {
     let behind = random.below(70) as usize;
     let mut bench = Bench::random(random, 0, 32 + behind);
-    bench.registers[64..].copy_from_slice(y);
+    bench.registers[64..96].copy_from_slice(y);
     let before = bench.clone();
     assert_eq!(bench.run(&RESOLVE), ok(1, 0, 1));
     let mut item = [0; 32];
@@ -468,7 +471,7 @@ fn resolved(random: &mut Random, y: &[u8; 32]) -> [u8; 32] {
     assert!(bench.memory == before.memory && bench.registers == before.registers);
 
     let mut other = before.clone();
-    let mut record = [0u8; 96];
+    let mut record = [0u8; REGISTERS];
     record.copy_from_slice(&other.registers);
     assert_eq!(step(&mut other.memory, &mut record, &RESOLVE, &[], &mut other.out), ok(1, 0, 1));
     assert!(other.out == bench.out && other.memory == before.memory && record[..] == before.registers[..]);
@@ -555,7 +558,7 @@ fn resolve_counts_the_responders() {
 fn resolves_in_a_run_take_the_y_of_that_moment() {
     let mut bench = Bench::zero();
     bench.items = lines(|line| line == 7 || line == 70 || line == 255).to_vec();
-    bench.registers = [[0x11; 32], [0x22; 32], [0; 32]].concat();
+    bench.registers[..96].copy_from_slice(&[[0x11; 32], [0x22; 32], [0; 32]].concat());
     bench.out = vec![0xEE; 32 * 7 + 9];
     let answer = bench.run(&list(&[
         RESOLVE,                      // none
@@ -583,7 +586,8 @@ fn resolves_in_a_run_take_the_y_of_that_moment() {
     ];
     assert_eq!(bench.out[..32 * 7], expected.concat());
     assert_eq!(bench.out[32 * 7..], [0xEE; 9]);
-    assert_eq!(bench.registers, [[0x11; 32], [0x22; 32], [0; 32]].concat());
+    assert_eq!(bench.registers[..96], [[0x11; 32], [0x22; 32], [0; 32]].concat());
+    assert_eq!(bench.registers[96..], [0; 4]);
 }
 
 #[test]

@@ -106,6 +106,7 @@ fn searched(search: Search, start: u32, n: u32, bench: &mut Bench) -> Row {
     let (steps, taken) = if search == Search::Greatest { (1 + 11 * n, 0) } else { (2 + 3 * n, n) };
     assert_eq!(answer, ok(steps, taken, 0));
     assert!(bench.memory == before.memory && bench.out == before.out && bench.registers[..32] == before.registers[..32]);
+    assert_eq!(bench.registers[96..], before.registers[96..]);
     let (x, y) = (bench.row(1), bench.row(2));
     assert!(if search == Search::Greatest { x == [false; 256] } else { x == y });
     y
@@ -184,7 +185,7 @@ fn random_fields_by_bits() {
         let aim: Vec<bool> = (0..n).rev().map(|k| (number >> k) % 2 == 1).collect();
         let equal = searched(Search::Equal(number), start as u32, n as u32, &mut bench.clone());
         let less = searched(Search::Less(number), start as u32, n as u32, &mut bench.clone());
-        let marked = unpack(&bench.registers[64..]);
+        let marked = unpack(&bench.registers[64..96]);
         let greatest = searched(Search::Greatest, start as u32, n as u32, &mut bench.clone());
         for word in 0..256 {
             assert_eq!(equal[word], bits(word) == aim);
@@ -197,9 +198,13 @@ fn random_fields_by_bits() {
 
 #[test]
 fn runs_that_are_refused() {
-    let lengths = [(8191usize, 95usize, 33usize, 1u32), (8192, 95, 33, 2), (8192, 96, 33, 4), (8192, 96, 32800, 4), (8192, 96, 32768, 0), (8192, 96, 64, 0)];
+    let lengths = [(8191usize, 99usize, 33usize, 1u32), (8192, 96, 33, 2), (8192, 100, 33, 4), (8192, 100, 32800, 4), (8192, 100, 32768, 15), (8192, 100, 64, 15), (8192, 100, 32768, 0), (8192, 100, 64, 0)];
     for (memory, registers, items, number) in lengths {
         let (mut m, mut r, mut i) = (vec![7; memory], vec![7; registers], vec![7; items]);
+        if number == 0 {
+            // both mode registers are unset; else they are bad ones, but for other lengths
+            r[96..].fill(0);
+        }
         assert_eq!(prepare(Search::Less(1), 0, 1, 40, &mut i).number, 0);
         let answer = run_prepared(Search::Less(1), 0, 1, &mut m, &mut r, &i);
         assert_eq!((answer.number, answer.place), (number, 0));

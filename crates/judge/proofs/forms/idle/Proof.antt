@@ -1,6 +1,6 @@
 -- `judge::forms::idle`: three reads. Assumes nothing.
 use mathlib.Core.Path.{refl}
-use Rattle.judge.specs.Judge.{instructionAt}
+use Rattle.judge.specs.Instructions.{instructionAt}
 use borrow.Author.Needs.{needs}
 use Rattle.judge.proofs.forms.idle.Statement.{statement}
 use Rattle.judge.proofs.forms.idle.Tie as tie

@@ -5,7 +5,8 @@ use denote.Ref.{now}
 use lib.ListN.{length}
 use Rattle.bits.specs.Search.{count}
 use Rattle.bits.proofs.Search.{NoneBelow, none-more, found, found-none}
-use Rattle.judge.specs.Judge.{instructionAt, lacks, uses}
+use Rattle.judge.specs.Instructions.{instructionAt}
+use Rattle.judge.specs.Judge.{lacks, uses}
 use Rattle.judge.proofs.Shortage.{lacks-is, counted}
 use borrow.Author.Needs.{needs}
 use native.Mathlib.Omega.{arith}

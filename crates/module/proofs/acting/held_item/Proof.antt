@@ -1,11 +1,6 @@
 -- `acting::held_item`: by its source. Assumes nothing.
-use mathlib.Core.Path.{refl, ap, _∙_}
-use Prim.Native.Nat.{ℕ}
+use mathlib.Core.Path.{refl}
 use denote.Ref.{now}
-use Rattle.bits.specs.Bits.{item}
-use Rattle.memory.specs.Access.{readBit}
-use Rattle.memory.specs.Memory.{cell}
-use Rattle.module.specs.Act.{heldItem}
 use native.Mathlib.Omega.{arith}
 use Rattle.module.proofs.ActLaws.{held-y}
 use borrow.Author.Needs.{needs}
@@ -13,25 +8,18 @@ use Rattle.module.proofs.acting.held_item.Statement.{statement}
 use Rattle.module.proofs.acting.held_item.Tie as tie
 
 returns : tie.Need-returns
-unfolding heldItem
-returns c =
-    let a = c .before .before .before .before .before .args in
-    rw (c .before .before .if1 .taken)
-    (c .load .ensures ∙ ap (λ (mode : ℕ). item (readBit (cell (now (a .mem))) mode (a .i .addr))) (c .before .mode-of .ensures))
+returns c = rw (c .before .if1 .taken) (c .load .ensures)
 
 returns-2 : tie.Need-returns-2
-unfolding heldItem
 returns-2 c = rw (c .before .if2 .taken) refl
 
 returns-3 : tie.Need-returns-3
-unfolding heldItem
 returns-3 c = rw (c .before .if3 .taken) refl
 
 returns-4 : tie.Need-returns-4
-unfolding heldItem
 returns-4 c =
     let a = c .before .before .before .before .before .before .before .before .args in
-    held-y (a .i .source) (a .i .mode) (a .i .addr) (now (a .mem)) (a .r) (omega arith)
+    held-y (a .i .source) (a .mode) (a .i .addr) (now (a .mem)) (a .r) (omega arith)
 
 pub held-item-spec : {M : Type 1} → statement M
-held-item-spec = tie.close (tie.spec (λ c κs. search needs) (λ c κs. search needs) returns returns-2 returns-3 returns-4)
+held-item-spec = tie.close (tie.spec (λ c κs. search needs) returns returns-2 returns-3 returns-4)

@@ -1,4 +1,4 @@
--- `staran_step_4` meets its contract: a walk of its MIR, by hand. Nothing is opened: the buffers and the record go to `module::step` for good, and the answer's array goes to `put_six`. Assumes nothing.
+-- `staran_step_5` meets its contract: a walk of its MIR, by hand. Nothing is opened: the buffers and the record go to `module::step` for good, and the answer's array goes to `put_six`. Assumes nothing.
 use mathlib.Core.Path.{_≡_, refl, sym, ap, subst}
 use Prim.Native.Nat.{ℕ}
 use mathlib.Core.List.{[], _∷_, List}
@@ -53,10 +53,10 @@ use Rattle.library.proofs.answers.put_six as put
 use Rattle.library.proofs.answers.put_six.Symbol as put-def
 use Rattle.library.proofs.answers.put_six.Symbol.{name as #library·answers·put-six}
 use Rattle.library.proofs.answers.put_six.Met as put-thm
-use Rattle.library.proofs.staran_step_4.Key.{name as #library·staran-step-4}
-use Rattle.library.proofs.staran_step_4 as step
-use Rattle.library.proofs.staran_step_4.Statement as stated
-use Rattle.library.proofs.staran_step_4.Code as code
+use Rattle.library.proofs.staran_step_5.Key.{name as #library·staran-step-5}
+use Rattle.library.proofs.staran_step_5 as step
+use Rattle.library.proofs.staran_step_5.Statement as stated
+use Rattle.library.proofs.staran_step_5.Code as code
 
 abbrev R : RattleType
 R = T.the-row
@@ -235,11 +235,11 @@ step-meets : {M : Type 1} (𝓤 : URA M) (H : Heap 𝓤) (A : Atoms 𝓤) → Gi
     → Meets 𝓤 H A step.signature (WpFn 𝓤 H (𝓣 .C) (𝓣 .Λ) code.function) (step.spec 𝓤 H A at-mem run)
 step-meets 𝓤 H A W at-mem run 𝓣 known known′ = walk-meets 𝓤 H A step.ended stayed W (goes 𝓤 H A W at-mem run) (step.clauses 𝓤 H A at-mem run) (WpFn 𝓤 H (𝓣 .C) (𝓣 .Λ) code.function) (WpFn-mono 𝓤 H (W .laws) 𝓣 code.function) (step-walks 𝓤 H A W at-mem run (𝓣 .C) (𝓣 .Λ) (fmOf 𝓤 H (W .laws) 𝓣) known known′)
 
-pub staran-step-4-spec : {M : Type 1} → stated.statement M
+pub staran-step-5-spec : {M : Type 1} → stated.statement M
 unfolding code.routine tablesOf
-staran-step-4-spec 𝓤 H 𝓜 𝓖 𝓡 =
+staran-step-5-spec 𝓤 H 𝓜 𝓖 𝓡 =
     entered 𝓤 H (tripleOf 𝓤 H (𝓖 .A) step.signature (step.spec 𝓤 H (𝓖 .A) (𝓜 .mem) (𝓡 .run)))
-    (tables 𝓤 H 𝓜 𝓡 code.env .C) (tables 𝓤 H 𝓜 𝓡 code.env .Λ) #library·staran-step-4 code.function (code.unfolded 𝓤 H 𝓜 𝓡)
+    (tables 𝓤 H 𝓜 𝓡 code.env .C) (tables 𝓤 H 𝓜 𝓡 code.env .Λ) #library·staran-step-5 code.function (code.unfolded 𝓤 H 𝓜 𝓡)
     (step-meets 𝓤 H (𝓖 .A) (givenOf 𝓤 H 𝓜 𝓖) (𝓜 .mem) (𝓡 .run) (tablesOf 𝓤 H 𝓜 (tables 𝓤 H 𝓜 𝓡 code.env))
     (cited 𝓤 H (Inner 𝓤 H (𝓖 .A) (𝓜 .mem) (𝓡 .run)) 𝓜 𝓡 code.env #module·step inner-def.routine code.calls-module·step (inner-thm.met 𝓤 H 𝓜 𝓖 𝓡))
     (cited 𝓤 H (Put 𝓤 H (𝓖 .A) (𝓜 .mem) (𝓡 .run)) 𝓜 𝓡 code.env #library·answers·put-six put-def.routine code.calls-library·answers·put-six (put-thm.met 𝓤 H 𝓜 𝓖 𝓡)))
