@@ -5,7 +5,7 @@ MADE := target/staticlib
 MAJOR := $(shell sed -n 's/^.define STARAN_VERSION_MAJOR //p' include/staran.h)
 MINOR := $(shell sed -n 's/^.define STARAN_VERSION_MINOR //p' include/staran.h)
 VERSION := $(MAJOR).$(MINOR)
-# The name under which a program asks for the shared object has the minor number too: a minor version adds functions and numbers. A longer answer or record
+# The name under which a program asks for the shared object has the minor number too: a minor version adds functions, numbers and kinds of content. A longer answer or record
 # is a major version, under another function name.
 # The shared object is bound when it is loaded (-z now): else the loader would look for memcpy on the stack of the first call that needs it.
 SHARED := libstaran.so.$(VERSION)

@@ -85,10 +85,11 @@ extern "C" {
 
 /* The version of this header, and the linked library's: see staran_version. */
 #define STARAN_VERSION_MAJOR 5
-#define STARAN_VERSION_MINOR 0
+#define STARAN_VERSION_MINOR 1
 #define STARAN_VERSION (STARAN_VERSION_MAJOR * UINT32_C(65536) + STARAN_VERSION_MINOR)
 
-/* Lengths in bytes. A picture's registers are M, X and Y, the first 96 bytes of a run's: it has no mode registers. */
+/* Lengths in bytes. The registers of a picture of kind 1 are M, X and Y, the first 96 bytes of a run's; of one of kind 4 they are all 100,
+ * STARAN_REGISTERS_BYTES. Either is 17 blocks. */
 #define STARAN_MEMORY_BYTES 8192
 #define STARAN_REGISTERS_BYTES 100
 #define STARAN_ITEM_BYTES 32
@@ -136,8 +137,9 @@ enum {
     STARAN_ANSWER_GIVEN = 5
 };
 
-/* Kinds of content on disk. */
-enum { STARAN_CONTENT_PICTURE = 1, STARAN_CONTENT_LIST = 2, STARAN_CONTENT_ITEMS = 3 };
+/* Kinds of content on disk. There are two of pictures: kind 1 has the words, M, X and Y, as the builds before 5.1 read and write it; kind 4
+ * has the mode registers too. staran_picture_to_new and staran_picture_to_old make one of the other. */
+enum { STARAN_CONTENT_PICTURE = 1, STARAN_CONTENT_LIST = 2, STARAN_CONTENT_ITEMS = 3, STARAN_CONTENT_PICTURE_WITH_MODES = 4 };
 
 /* Byte 0 of an instruction. */
 enum {
@@ -460,9 +462,9 @@ void staran_spreading_list(uint32_t a, uint32_t s, uint32_t n, const uint8_t *ma
  * target   at least as long as the content
  * answer   number, place, bytes put out
  *
- * Judged: 22 at place 0 (kind is not 1 to 3); 20; then for each block in turn 21, 22, 23, 24; then 25; then 26 (target_length is under
- * the content's size). The place of 21 to 24 is the number of the block, counted from 0; else it is 0. Kind 1 is judged in the same
- * way, as a picture, and if the file stands the answer is 26: a picture has two targets, see staran_read_picture.
+ * Judged: 22 at place 0 (kind is not 1 to 4); 20; then for each block in turn 21, 22, 23, 24; then 25; then 26 (target_length is under
+ * the content's size). The place of 21 to 24 is the number of the block, counted from 0; else it is 0. Kinds 1 and 4 are judged in the
+ * same way, as pictures, and if the file stands the answer is 26: a picture has two targets, see staran_read_picture.
  * Done: place 0; the first bytes of target are the content, the third number is its size, and the bytes past it stay.
  * Refused: 0 bytes, and target is as it was.
  * Stack: at most 192 bytes. */
@@ -476,48 +478,83 @@ void staran_read_content(size_t kind, const uint8_t *bytes, size_t bytes_length,
  * out       at least 512 bytes for each 496 of the content or part of it, and 512 for none: STARAN_FILE_BYTES
  * answer    number, place, bytes put out
  *
- * Judged, all at place 0: 22 (kind is not 1 to 3); 26 (content_length is unfit for the kind; kind 1 always); 27 (out_length is under
- * the length of the blocks).
+ * Judged, all at place 0: 22 (kind is not 1 to 4); 26 (content_length is unfit for the kind; kinds 1 and 4 always); 27 (out_length is
+ * under the length of the blocks).
  * Done: the first bytes of out are the blocks, the third number is their length, and the bytes past them stay.
  * Refused: 0 bytes, and out is as it was.
  * Stack: at most 192 bytes. */
 void staran_write_content(size_t kind, const uint8_t *content, size_t content_length, uint8_t *out, size_t out_length,
                           uint32_t answer[STARAN_DISK_NUMBERS]);
 
-/* Reads the blocks of a picture: the 256 words in plain order, and the registers M, X and Y. A picture has no mode registers: of a run's
- * registers lend the first STARAN_PICTURE_REGISTERS_BYTES, and the mode registers behind them stay; to start with neither set, put four
- * zeros there.
+/* Reads the blocks of a picture: the 256 words in plain order, the registers M, X and Y and, of kind 4, the two mode registers. A picture
+ * of kind 1 has no mode registers: of a run's registers lend the first STARAN_PICTURE_REGISTERS_BYTES, and the mode registers behind them
+ * stay; to start with neither set, put four zeros there. Of a file that may be either, its first two bytes say which, the low byte first.
  *
- * kind        the kind asked for: 1 picture
+ * kind        the kind asked for: 1 picture, 4 picture with mode registers
  * bytes       the file; a picture that stands is 17 blocks, 8,704 bytes
  * memory      exactly 8,192 bytes
- * registers   exactly 96 bytes
+ * registers   exactly 96 bytes for kind 1, exactly 100 for kind 4
  * answer      number, place, bytes put out
  *
- * Judged: as staran_read_content judges, 22, 20, 21 to 24, 25; then 26 (memory_length is not 8,192 or registers_length is not 96).
- * Kinds 2 and 3 are judged in the same way, as a list or items, and if the file stands the answer is 26.
- * Done: place 0; memory has the words, scrambled as above, registers has M, X and Y, and the third number is 8,288.
+ * Judged: as staran_read_content judges, 22, 20, 21 to 24, 25; then 26 (memory_length is not 8,192, or registers_length is not the kind's);
+ * then 15 at place 0 (of kind 4: in the file a flag is over 1, or a mode is not 0 behind flag 0). Kinds 2 and 3 are judged in the same
+ * way, as a list or items, and if the file stands the answer is 26.
+ * Done: place 0; memory has the words, scrambled as above, registers has M, X and Y and, of kind 4, the mode registers, fit for a run; the
+ * third number is 8,288 for kind 1, 8,292 for kind 4.
  * Refused: 0 bytes, and memory and registers are as they were.
  * Stack: at most 1,024 bytes. */
 void staran_read_picture(size_t kind, const uint8_t *bytes, size_t bytes_length, uint8_t *memory, size_t memory_length,
                          uint8_t *registers, size_t registers_length, uint32_t answer[STARAN_DISK_NUMBERS]);
 
-/* Writes a picture as blocks: the words, M, X and Y. The mode registers are not in it: of a run's registers lend the first
- * STARAN_PICTURE_REGISTERS_BYTES.
+/* Writes a picture as blocks: the words, M, X and Y and, of kind 4, the two mode registers. A picture of kind 1 has no mode registers: of a
+ * run's registers lend the first STARAN_PICTURE_REGISTERS_BYTES; whether one behind them is set is not looked at.
  *
- * kind        1 picture
+ * kind        1 picture, 4 picture with mode registers
  * memory      exactly 8,192 bytes
- * registers   exactly 96 bytes
+ * registers   exactly 96 bytes for kind 1, exactly 100 for kind 4: of each mode register the flag is 1, or it is 0 and the mode too
  * out         at least 8,704 bytes
  * answer      number, place, bytes put out
  *
- * Judged, all at place 0: 22 (kind is not 1 to 3); 26 (memory_length is not 8,192 or registers_length is not 96; kinds 2 and 3
- * always); 27 (out_length is under 8,704).
+ * Judged, all at place 0: 22 (kind is not 1 to 4); 26 (memory_length is not 8,192, or registers_length is not the kind's; kinds 2 and 3
+ * always); 15 (of kind 4: a flag is over 1, or a mode is not 0 behind flag 0); 27 (out_length is under 8,704).
  * Done: the first 8,704 bytes of out are the 17 blocks, the third number is 8,704, and the bytes past them stay.
  * Refused: 0 bytes, and out is as it was.
  * Stack: at most 1,280 bytes. */
 void staran_write_picture(size_t kind, const uint8_t *memory, size_t memory_length, const uint8_t *registers, size_t registers_length,
                           uint8_t *out, size_t out_length, uint32_t answer[STARAN_DISK_NUMBERS]);
+
+/* Makes a picture of kind 1 one of kind 4, from blocks to blocks: the words, M, X and Y are the same, and neither mode register is set. No
+ * memory and no registers are lent.
+ *
+ * bytes    the file, a picture of kind 1
+ * out      at least 8,704 bytes, and none of them one of the file's
+ * answer   number, place, bytes put out
+ *
+ * Judged: as staran_read_picture judges kind 1, 20, 21 to 24, 25; then 27 at place 0 (out_length is under 8,704). A picture of kind 4 is
+ * refused with 22, at place 0.
+ * Done: place 0; the first 8,704 bytes of out are the 17 blocks, the third number is 8,704, and the bytes past them stay. They are what
+ * staran_write_picture writes of that memory, M, X and Y, and four zeros; and staran_picture_to_old makes the file's own bytes of them.
+ * Refused: 0 bytes, and out is as it was.
+ * Stack: at most 192 bytes. */
+void staran_picture_to_new(const uint8_t *bytes, size_t bytes_length, uint8_t *out, size_t out_length,
+                           uint32_t answer[STARAN_DISK_NUMBERS]);
+
+/* Makes a picture of kind 4 one of kind 1, for a build that reads no other: the words, M, X and Y are the same. A mode register that is set
+ * would be lost, and is refused with 28.
+ *
+ * bytes    the file, a picture of kind 4
+ * out      at least 8,704 bytes, and none of them one of the file's
+ * answer   number, place, bytes put out
+ *
+ * Judged: as staran_read_picture judges kind 4, 20, 21 to 24, 25; then, all at place 0, 15 (in the file a flag is over 1, or a mode is not 0
+ * behind flag 0); 28 (a flag is 1: a mode register is set); 27 (out_length is under 8,704). A picture of kind 1 is refused with 22, at
+ * place 0.
+ * Done: place 0; the first 8,704 bytes of out are the 17 blocks, the third number is 8,704, and the bytes past them stay. They are what
+ * staran_write_picture writes of that memory, M, X and Y; and staran_picture_to_new makes the file's own bytes of them.
+ * Refused: 0 bytes, and out is as it was.
+ * Stack: at most 192 bytes. */
+void staran_picture_to_old(const uint8_t *bytes, size_t bytes_length, uint8_t *out, size_t out_length,
+                           uint32_t answer[STARAN_DISK_NUMBERS]);
 
 #ifdef __cplusplus
 }

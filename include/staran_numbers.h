@@ -39,7 +39,8 @@ enum {
     /* run, step: memory is touched with tag 2, register A, or tag 3, register B, and that register is not set: its
        flag is 0 at the start, and no earlier kind 6 set it */
     STARAN_REFUSED_MODE_UNSET = 14,
-    /* run, step: the mode registers as they are lent: a flag is over 1, or a mode is not 0 though its flag is 0 */
+    /* run, step, reading, writing, converting: the mode registers, as they are lent or as a picture of kind 4 has
+       them: a flag is over 1, or a mode is not 0 though its flag is 0 */
     STARAN_REFUSED_MODE_REGISTERS = 15,
     /* run, step, pass: byte 6, 16p + m: p is over 8, a group of more than 256 lines */
     STARAN_REFUSED_GROUP_TOO_WIDE = 16,
@@ -48,26 +49,29 @@ enum {
     /* run, step: a move that this kind may not make: byte 6, the shift, is not 0 on a store; byte 5, the flip, or
        byte 6 is not 0 on a resolve or on kind 6 */
     STARAN_REFUSED_MOVE_BARRED = 18,
-    /* reading: the file has no bytes, is not a multiple of 512, or is over 34,304; in the program also: before.pic
-       is absent, a file cannot be read (standard error says why), before.pic is over 17 blocks, run.lst or in.itm
-       over 16 */
+    /* reading, converting: the file has no bytes, is not a multiple of 512, or is over 34,304; in the program also:
+       before.pic is absent, a file cannot be read (standard error says why), before.pic is over 17 blocks, run.lst
+       or in.itm over 16 */
     STARAN_REFUSED_FILE_LENGTH = 20,
-    /* reading: the block's sums are not those of its bytes */
+    /* reading, converting: the block's sums are not those of its bytes */
     STARAN_REFUSED_BLOCK_SUMS = 21,
-    /* reading, writing: the block is of another kind than the one asked for; or the kind asked for is not 1 to 3 */
+    /* reading, writing, converting: the block is of another kind than the one asked for; or the kind asked for is
+       not 1 to 4 */
     STARAN_REFUSED_BLOCK_KIND = 22,
-    /* reading: the block's number is not its place, or its count is not that of the blocks there */
+    /* reading, converting: the block's number is not its place, or its count is not that of the blocks there */
     STARAN_REFUSED_BLOCK_NUMBER = 23,
-    /* reading: the block's count of used payload is wrong, or a byte is not 0 that must be */
+    /* reading, converting: the block's count of used payload is wrong, or a byte is not 0 that must be */
     STARAN_REFUSED_BLOCK_FORM = 24,
-    /* reading: the content's size does not fit its kind: a picture 8,288; a list a multiple of 8, items a multiple
-       of 32, at most 32,768 */
+    /* reading, converting: the content's size does not fit its kind: a picture 8,288 (kind 1) or 8,292 (kind 4); a
+       list a multiple of 8, items a multiple of 32, at most 32,768 */
     STARAN_REFUSED_CONTENT_SIZE = 25,
-    /* reading, writing: reading: the target is too short, or for a picture not exactly 8,192 and 96 bytes; writing:
-       the content is of a wrong size */
+    /* reading, writing: reading: the target is too short, or for a picture not exactly 8,192 and 96 bytes (kind 1)
+       or 8,192 and 100 (kind 4); writing: the content is of a wrong size */
     STARAN_REFUSED_LENT_LENGTH = 26,
-    /* writing: the output is shorter than the blocks */
+    /* writing, converting: the output is shorter than the blocks */
     STARAN_REFUSED_OUTPUT_TOO_SHORT = 27,
+    /* converting new to old: a mode register is set in a picture of kind 4, and one of kind 1 has no place for it */
+    STARAN_REFUSED_MODE_SET = 28,
     /* builders of lists: the width n is not 1 to 64; for closing or spreading, not 1 to 32 */
     STARAN_REFUSED_WIDTH = 30,
     /* builders of lists: a start plus the width is over 256 */
@@ -123,7 +127,8 @@ static inline const char *staran_meaning(uint32_t number)
         return "memory is touched with tag 2, register A, or tag 3, register B, and that register is not set: its "
                "flag is 0 at the start, and no earlier kind 6 set it";
     case STARAN_REFUSED_MODE_REGISTERS:
-        return "the mode registers as they are lent: a flag is over 1, or a mode is not 0 though its flag is 0";
+        return "the mode registers, as they are lent or as a picture of kind 4 has them: a flag is over 1, or a mode"
+               " is not 0 though its flag is 0";
     case STARAN_REFUSED_GROUP_TOO_WIDE:
         return "byte 6, 16p + m: p is over 8, a group of more than 256 lines";
     case STARAN_REFUSED_SHIFT_NOT_BELOW:
@@ -138,19 +143,21 @@ static inline const char *staran_meaning(uint32_t number)
     case STARAN_REFUSED_BLOCK_SUMS:
         return "the block's sums are not those of its bytes";
     case STARAN_REFUSED_BLOCK_KIND:
-        return "the block is of another kind than the one asked for; or the kind asked for is not 1 to 3";
+        return "the block is of another kind than the one asked for; or the kind asked for is not 1 to 4";
     case STARAN_REFUSED_BLOCK_NUMBER:
         return "the block's number is not its place, or its count is not that of the blocks there";
     case STARAN_REFUSED_BLOCK_FORM:
         return "the block's count of used payload is wrong, or a byte is not 0 that must be";
     case STARAN_REFUSED_CONTENT_SIZE:
-        return "the content's size does not fit its kind: a picture 8,288; a list a multiple of 8, items a multiple "
-               "of 32, at most 32,768";
+        return "the content's size does not fit its kind: a picture 8,288 (kind 1) or 8,292 (kind 4); a list a "
+               "multiple of 8, items a multiple of 32, at most 32,768";
     case STARAN_REFUSED_LENT_LENGTH:
-        return "reading: the target is too short, or for a picture not exactly 8,192 and 96 bytes; writing: the "
-               "content is of a wrong size";
+        return "reading: the target is too short, or for a picture not exactly 8,192 and 96 bytes (kind 1) or 8,192 "
+               "and 100 (kind 4); writing: the content is of a wrong size";
     case STARAN_REFUSED_OUTPUT_TOO_SHORT:
         return "the output is shorter than the blocks";
+    case STARAN_REFUSED_MODE_SET:
+        return "a mode register is set in a picture of kind 4, and one of kind 1 has no place for it";
     case STARAN_REFUSED_WIDTH:
         return "the width n is not 1 to 64; for closing or spreading, not 1 to 32";
     case STARAN_REFUSED_FIELD_BEYOND:

@@ -1,6 +1,6 @@
 #!/bin/bash
-# The command ./staran from outside: exit statuses, names of folders, links, several folders, why and numbers; and building, by a stand-in for `rt` in a
-# copy of the command: a stale program, a failed and an interrupted build, a checkout that cannot be written, no python3. Also tests/make_blocks.py.
+# The command ./staran from outside: exit statuses, names of folders, links, several folders, why, convert and numbers; and building, by a stand-in for `rt`
+# in a copy of the command: a stale program, a failed and an interrupted build, a checkout that cannot be written, no python3. Also tests/make_blocks.py.
 # Prints a line for each case, and at last 'N passed, 0 failed'.
 #   tests/command_cases.sh
 set -u
@@ -70,8 +70,9 @@ ln -s good linked; gives "a link to a folder" 0 "$done_line" "$staran" linked
 # shellcheck disable=SC2016
 gives "the folder one stands in" 0 "$done_line" sh -c 'cd good && exec "$0" .' "$staran"
 gives "a path from the root" 0 "$done_line" "$staran" "$work/good"
-folder why; folder numbers; gives "a folder named as a task, after --" 0 "$done_line" "$staran" -- why
+folder why; folder numbers; folder convert; gives "a folder named as a task, after --" 0 "$done_line" "$staran" -- why
 gives "and by its path" 0 "$done_line" "$staran" ./numbers
+gives "and so one named convert" 0 "$done_line" "$staran" -- convert
 
 # ---- the command called through links
 mkdir -p bin/deep; ln -s "$staran" bin/staran; ln -s ../staran bin/deep/again
@@ -146,7 +147,7 @@ folder each "$(yes 000200000000000A | head -n 57) 040300FF0D000000"; call "$star
 # which mode registers are set before the instruction, where it names one: by the last kind 6 before it, or not at all, or only after it
 folder each '0600020700000000 060002FF00000000 020302000D000000 020303000D000000 0600030000000000'; call "$staran" why each
 [ $status -eq 1 ] && [ "$(head -n 1 "$work/out")" = 'r 14 3 2 0 0 0' ] && grep -qx '  byte 3  00  mode: that of register B: nobody gave one' "$work/out" &&
-    [ "$(tail -n 2 "$work/out")" = "$(printf '%s\n' 'Mode register A is set before it, to 255 by instruction 1.' 'Mode register B is not set before it; instruction 4 sets it, and comes after.')" ]
+    [ "$(tail -n 2 "$work/out")" = "$(printf '%s\n' 'Mode register A is set before it, to 255 by instruction 1.' 'Mode register B is not set before it: before.pic, of kind 1, has none; instruction 4 sets it, and comes after.')" ]
 judge "why: 14, and which mode registers are set before it" $?
 folder each '060003FF00000000 020403000D000000'; call "$staran" why each
 [ $status -eq 1 ] && [ "$(head -n 1 "$work/out")" = 'r 12 1 0 0 0 0' ] && grep -qx '  byte 2  03  mode tag: the mode of register B, which is set' "$work/out" && grep -qx '  byte 3  00  mode: that of register B, 255: one word' "$work/out" &&
@@ -154,8 +155,47 @@ folder each '060003FF00000000 020403000D000000'; call "$staran" why each
 folder each 0500000000000001; call "$staran" why each; grep -qx '  byte 1  00  source: none' "$work/out"; judge "why: a resolve has no source" $?
 folder each 060002FF00000001; call "$staran" why each; grep -qx '  byte 0  06  kind: set a mode register' "$work/out" && grep -qx '  byte 1  00  source: none' "$work/out" && grep -qx '  byte 2  02  mode tag: register A' "$work/out" &&
     grep -qx '  byte 3  ff  mode: one word' "$work/out" && ! grep -q '^Mode register' "$work/out"; judge "why: kind 6" $?
-folder each; python3 -B -c 'import sys; sys.path.insert(0, sys.argv[1]); import make_blocks as files; files.write("each/before.pic", files.blocks(4, bytes(8292)))' "$here/tests"
-call "$staran" why each; [ $status -eq 1 ] && [ "$(head -n 1 "$work/out")" = 'p 22 0 0 0 0 0' ] && grep -qx '  kind         4  it must be 1, picture   <-- here' "$work/out"; judge "why: a kind 4 file as before.pic" $?
+# pictures with mode registers (document 02, Eight): a register that the picture has set, or has unset; and what is wrong with the picture itself
+four() { "$blocks" --replace --unfit picture each/before.pic "$1"; } # FOUR BYTES: before.pic of kind 4 with these mode registers
+folder each '020302000D000000 020303000D000000'; four 01070000; call "$staran" why each
+[ $status -eq 1 ] && [ "$(head -n 1 "$work/out")" = 'r 14 1 2 0 0 0' ] &&
+    [ "$(tail -n 2 "$work/out")" = "$(printf '%s\n' 'Mode register A is set before it, to 7 by before.pic.' 'Mode register B is not set before it: before.pic, of kind 4, has it unset.')" ]
+judge "why: 14, and a register that the picture has set" $?
+folder each '020302000D000000 060002FF00000000 020303000D000000 0600030000000000'; four 01070000; call "$staran" why each
+[ $status -eq 1 ] && [ "$(head -n 1 "$work/out")" = 'r 14 2 2 0 0 0' ] && [ "$(tail -n 2 "$work/out")" = "$(printf '%s\n' 'Mode register A is set before it, to 255 by instruction 1.' 'Mode register B is not set before it: before.pic, of kind 4, has it unset; instruction 3 sets it, and comes after.')" ]
+judge "why: and one that is set again before it" $?
+folder each 020403000D000000; four 000001FF; call "$staran" why each
+[ $status -eq 1 ] && [ "$(head -n 1 "$work/out")" = 'r 12 0 0 0 0 0' ] && grep -qx '  byte 2  03  mode tag: the mode of register B, which is set' "$work/out" && grep -qx '  byte 3  00  mode: that of register B, 255: one word' "$work/out" &&
+    grep -qx 'Mode register B is set before it, to 255 by before.pic.' "$work/out"; judge "why: the mode that the picture brings" $?
+while IFS=: read -r modes rows <&3; do
+    folder each; four "$modes"; call "$staran" why each
+    [ $status -eq 1 ] && [ "$(head -n 1 "$work/out")" = 'p 15 0 0 0 0 0' ] && grep -qx 'Refused: before.pic.' "$work/out" && grep -q '^ 15  ' "$work/out" && tr '|' '\n' <<<"$rows" >want &&
+        [ "$(tail -n 5 "$work/out" | head -n 1)" = "The mode registers of before.pic, bytes 364 to 367 of block 16, its last: $(sed 's/../& /g; s/ $//' <<<"$modes")" ] && tail -n 4 "$work/out" | cmp -s - want
+    judge "why: 15, and the mode registers $modes" $?
+done 3<<'ROWS'
+02070000:  flag of A  02  it must be 0, or 1 for set   <-- here|  mode of A  07  not looked at with such a flag|  flag of B  00  not set|  mode of B  00  none
+00ff0107:  flag of A  00  not set|  mode of A  ff  it must be 0: the flag says that there is none   <-- here|  flag of B  01  set|  mode of B  07  a shape between slice and word
+01ff0001:  flag of A  01  set|  mode of A  ff  one word|  flag of B  00  not set|  mode of B  01  it must be 0: the flag says that there is none   <-- here
+0001ff00:  flag of A  00  not set|  mode of A  01  it must be 0: the flag says that there is none   <-- here|  flag of B  ff  it must be 0, or 1 for set   <-- here|  mode of B  00  not looked at with such a flag
+ROWS
+python() { # PYTHON, with `files` for tests/make_blocks.py
+    python3 -B - "$here/tests" <<PYTHON
+import sys
+sys.path.insert(0, sys.argv[1])
+import make_blocks as files
+$1
+PYTHON
+}
+python 'files.write("each/before.pic", files.blocks(260, bytes(8292)))'
+call "$staran" why each; [ $status -eq 1 ] && [ "$(head -n 1 "$work/out")" = 'p 22 0 0 0 0 0' ] && grep -qx '  kind       260  it must be 1, picture, or 4, picture with mode registers   <-- here' "$work/out"; judge "why: a picture of neither kind" $?
+python 'files.write("each/before.pic", files.blocks(4, bytes(8292))[:512] + files.blocks(1, bytes(8288))[512:])'
+call "$staran" why each; [ $status -eq 1 ] && [ "$(head -n 1 "$work/out")" = 'p 22 1 0 0 0 0' ] && grep -qx '  kind         1  it must be 4, picture with mode registers   <-- here' "$work/out"; judge "why: blocks of kind 1 in a picture of kind 4" $?
+python 'files.write("each/before.pic", files.blocks(1, bytes(8288))[:512] + files.blocks(4, bytes(8292))[512:])'
+call "$staran" why each; [ $status -eq 1 ] && [ "$(head -n 1 "$work/out")" = 'p 22 1 0 0 0 0' ] && grep -qx '  kind         4  it must be 1, picture   <-- here' "$work/out"; judge "why: and of kind 4 in one of kind 1" $?
+python 'files.write("each/before.pic", files.blocks(4, bytes(8288)))'
+call "$staran" why each; [ $status -eq 1 ] && [ "$(head -n 1 "$work/out")" = 'p 25 0 0 0 0 0' ] && grep -qx 'Every block is good, but a picture of kind 4 has 8292 bytes, and not 8288.' "$work/out"; judge "why: a picture of kind 4 that is too short" $?
+folder each; python 'files.write("each/run.lst", files.blocks(2, bytes(9)))'
+call "$staran" why each; [ $status -eq 1 ] && [ "$(head -n 1 "$work/out")" = 'l 25 0 0 0 0 0' ] && grep -qx 'Every block is good, but lists are whole instructions of 8 bytes, and 9 bytes are not.' "$work/out"; judge "why: a list of nine bytes" $?
 # with 12 and 13 no byte is wrong, and none is marked
 folder each 0404000000000000; call "$staran" why each
 [ $status -eq 1 ] && [ "$(head -n 1 "$work/out")" = 'r 12 0 0 0 0 0' ] && ! grep -q 'here$' "$work/out" && grep -qx 'No byte of it is wrong. The list takes 1 item.' "$work/out"; judge "why: 12, and no byte is marked" $?
@@ -167,6 +207,102 @@ rm each/in.itm; folder each "$(yes 0500000000000000 | head -n 257)"
 # what the program said is shown, and nothing judged again: another byte is marked if another is named; and no instruction where none is spoken of
 call "$here/tools/why.py" each r 9 0 4; [ $status -eq 0 ] && [ "$(grep 'here$' "$work/out")" = '  byte 4  00  address: of no use, for memory is not touched   <-- here' ]; judge "why: the byte that is named" $?
 call "$here/tools/why.py" each r 15 0 0; [ $status -eq 0 ] && [ "$(cat "$work/out")" = 'No instruction is wrong: it is of what the run is lent.' ]; judge "why: 15 is of no instruction" $?
+
+# ---- convert: a picture of one kind made one of the other
+mkdir pictures
+python 'import random
+draw = random.Random(8)
+words, registers = [draw.randbytes(32) for _ in range(256)], draw.randbytes(96)
+for name, modes in ("one", None), ("four", [0] * 4), ("set", [1, 255, 1, 0]), ("flags", [2, 7, 0, 5]):
+    files.write("pictures/" + name, files.picture(words, registers, modes))
+for name, kind, size in ("short", 1, 8292), ("cut", 4, 8288), ("list", 2, 16):
+    files.write("pictures/" + name, files.blocks(kind, bytes(size)))'
+cp pictures/one pictures/damaged; printf '\001\002' | dd of=pictures/damaged bs=1 seek=1600 conv=notrunc status=none
+: >pictures/empty; printf x >pictures/byte; head -c 40960 /dev/zero >pictures/long
+gives "convert new" 0 'new.pic: a picture of kind 4; the words, M, X and Y of pictures/one, and neither mode register set. A build before version 5.1 does not read it.' "$staran" convert new pictures/one new.pic
+cmp -s new.pic pictures/four && [ ! -s "$work/err" ] && [ "$(wc -l <"$work/out")" -eq 1 ]; judge "it is kind 4, and nothing else is said" $?
+gives "convert old" 0 'old.pic: a picture of kind 1; the words, M, X and Y of new.pic, which has neither mode register set. Every build reads it.' "$staran" convert old new.pic old.pic
+cmp -s old.pic pictures/one; judge "and back gives the same bytes" $?
+call "$staran" convert old pictures/four back.1; call "$staran" convert new back.1 back.2; [ $status -eq 0 ] && cmp -s back.2 pictures/four && ! cmp -s back.1 back.2; judge "and the other way round" $?
+folder each; mv new.pic each/before.pic; rm each/run.lst; gives "what is made, the program takes" 0 'r 0 0 0 0 0 0' "$staran" each
+# WAY|FILE|NUMBER|WHAT|LINE: WHAT is refused, the number and that nothing was made are said, and the line is there
+while IFS='|' read -r way file number about line <&3; do
+    call "$staran" convert "$way" "pictures/$file" x.pic
+    [ $status -eq 1 ] && [ ! -e x.pic ] && [ ! -s "$work/err" ] && [ "$(head -n 1 "$work/out")" = "Refused: pictures/$about." ] && grep -q "^ $number  " "$work/out" && grep -q '^     do: ' "$work/out" &&
+        grep -qx 'x.pic was not made.' "$work/out" && grep -qxF -- "$line" "$work/out"
+    judge "convert $way: $number of $file" $?
+done 3<<'ROWS'
+old|flags|15|flags|  flag of A  02  it must be 0, or 1 for set   <-- here
+old|flags|15|flags|  mode of B  05  it must be 0: the flag says that there is none   <-- here
+old|set|28|set|The mode registers of set, bytes 364 to 367 of block 16, its last: 01 ff 01 00
+old|set|28|set|  flag of B  01  set   <-- here
+new|empty|20|empty|empty has 0 bytes, 0 blocks.
+old|byte|20|byte|byte has 1 byte, which is no multiple of 512.
+new|long|20|long|long has 40960 bytes, 80 blocks.
+new|damaged|21|damaged, block 3|Block 3, counted from 0, at byte 1536 of damaged, which has 17 blocks:
+old|damaged|22|damaged, block 0|  kind         1  it must be 4, picture with mode registers   <-- here
+new|four|22|four, block 0|It is a good picture of kind 4 as it stands: there is nothing to convert.
+new|set|22|set, block 0|It is a good picture of kind 4 as it stands: there is nothing to convert.
+old|one|22|one, block 0|It is a good picture of kind 1 as it stands: there is nothing to convert.
+new|list|22|list, block 0|  kind         2  it must be 1, picture   <-- here
+new|short|25|short|Every block is good, but a picture of kind 1 has 8288 bytes, and not 8292.
+old|cut|25|cut|Every block is good, but a picture of kind 4 has 8292 bytes, and not 8288.
+ROWS
+call "$staran" convert new pictures/list x.pic; [ $status -eq 1 ] && ! grep -q 'nothing to convert' "$work/out"; judge "of a list that is not said" $?
+cp old.pic there.pic
+complains "convert: a file that is there is not written over" 2 'staran: there.pic: it is there, and is not written over: name a file that is not there' "$staran" convert new pictures/one there.pic
+cmp -s there.pic old.pic; judge "and is as it was" $?
+complains "convert: not in place" 2 'there.pic: the same file as there.pic, and nothing is converted in place' "$staran" convert new there.pic there.pic
+ln -s there.pic link.pic; complains "convert: nor by a link" 2 'link.pic: the same file as there.pic' "$staran" convert new there.pic link.pic
+complains "convert: nor by another path" 2 'the same file as there.pic' "$staran" convert new there.pic "$work/good/../there.pic"
+cmp -s there.pic old.pic; judge "all of which leave it as it was" $?
+ln -s nothing dangling.pic; complains "convert: a link that leads nowhere is there too" 2 'dangling.pic: it is there' "$staran" convert new there.pic dangling.pic
+[ ! -e nothing ]; judge "and nothing is made where it leads" $?
+complains "convert: a folder for the file to be made" 2 'staran: good: a folder; name the file that is to be made in it' "$staran" convert new there.pic good
+complains "convert: no file" 2 'staran: missing: no such file' "$staran" convert new missing x.pic
+complains "convert: a folder" 2 'staran: good: a folder; the picture in it is before.pic or after.pic' "$staran" convert old good x.pic
+complains "convert: an empty name" 2 'an empty name is no file' "$staran" convert new '' x.pic
+complains "convert: another" 2 'an empty name is no file' "$staran" convert new there.pic ''
+complains "convert: no words" 2 'new or old, and two files: ./staran convert new FROM TO' "$staran" convert
+complains "convert: neither new nor old" 2 'new or old, and two files' "$staran" convert there.pic x.pic
+complains "convert: one file" 2 'two files: ./staran convert old FROM TO' "$staran" convert old there.pic
+complains "convert: three files" 2 'two files: ./staran convert new FROM TO' "$staran" convert new there.pic x.pic y.pic
+complains "convert: a file that cannot be made, with the reason" 2 'no/x.pic: No such file or directory' "$staran" convert new there.pic no/x.pic
+grep -qx 'staran: nothing was converted: the reason stands above' "$work/err"; judge "and that nothing was converted" $?
+if [ "$(id -u)" -ne 0 ]; then
+    cp there.pic barred.pic; chmod 000 barred.pic; complains "convert: a file that may not be read" 2 'barred.pic: Permission denied' "$staran" convert new barred.pic x.pic
+    mkdir shut; chmod 555 shut; complains "convert: a folder that may not be written" 2 'shut/x.pic: Permission denied' "$staran" convert new there.pic shut/x.pic
+fi
+[ ! -e x.pic ]; judge "none of which made anything" $?
+# names of any kind
+converted() { # NAME FROM TO WORD..: the words convert FROM, which is then made, to TO
+    name=$1 from=$2 to=$3
+    shift 3
+    cp pictures/one "./$from"
+    call "$staran" convert "$@"
+    [ $status -eq 0 ] && cmp -s "./$to" pictures/four; judge "convert: $name" $?
+    rm -f "./$from" "./$to"
+}
+converted "blanks" 'a picture  of words' 'another  one' new 'a picture  of words' 'another  one'
+converted "dashes in front" -from --to new -from --to
+converted "and after --" -from --to new -- -from --to
+converted "names that are dashes alone" --- -- new -- --- --
+converted "names of tasks" new old new new old
+converted "quotes, a dollar and a star" "a'q\"\$d*" '*' new "a'q\"\$d*" '*'
+converted "a backslash" 'from\nhere' 'to\tthere' new 'from\nhere' 'to\tthere'
+complains "convert: and it is said as it is" 2 'staran: from\nhere: no such file' "$staran" convert new 'from\nhere' x.pic
+converted "paths from the root" from to new "$work/from" "$work/to"
+converted "a path from the root and one from here" from to new "$work/from" to
+converted "into a folder" from good/to new from good/to
+cp pictures/one good/from; mkdir -p good/deep
+# shellcheck disable=SC2016
+call sh -c 'cd good/deep && CDPATH=/ exec "$0" convert new ../from to' "$staran"; [ $status -eq 0 ] && cmp -s good/deep/to pictures/four; judge "convert: from the folder one stands in" $?
+call bin/deep/again convert old good/deep/to through; [ $status -eq 0 ] && cmp -s through pictures/one; judge "convert: called through links" $?
+ln -s ../pictures/one good/linked; call "$staran" convert new good/linked by; [ $status -eq 0 ] && cmp -s by pictures/four && [ ! -L by ]; judge "convert: a link to a picture" $?
+timeout 60 "$staran" convert new pictures/one full.pic >/dev/full 2>err; status=$?; : >out
+[ $status -eq 2 ] && grep -qx 'staran: standard output: No space left on device' err && cmp -s full.pic pictures/four; judge "convert: 2 for an output that takes nothing, and the file is made" $?
+timeout 60 "$staran" convert old pictures/set full.2 >/dev/full 2>err; status=$?
+[ $status -eq 2 ] && grep -qx 'staran: standard output: No space left on device' err && [ ! -e full.2 ]; judge "convert: and for a refusal" $?
 
 # ---- several folders
 call "$staran" good bad 'two words  and more'
@@ -246,6 +382,8 @@ rm "$copy/target"; copied good >/dev/null 2>&1
 if [ "$(id -u)" -ne 0 ]; then
     chmod -R a-w "$copy"; built "a checkout that cannot be written, with its program built: it is run" 2 0; chmod -R u+w "$copy"
 fi
+echo '// convert' >>"$copy/crates/bits/src/lib.rt"; copied convert new pictures/one built.pic >"$work/out" 2>"$work/err"; status=$?
+[ $status -eq 0 ] && [ "$(calls)" -eq 3 ] && grep -q 'building the program' "$work/err" && cmp -s built.pic pictures/four; judge "convert builds too" $?
 mkdir few
 for tool in sh dirname readlink cat awk sed find sort sha256sum uname mktemp cp rm mv mkdir paste seq getconf wc head flock chmod sleep; do
     at=$(command -v $tool) && ln -s "$at" few/$tool
@@ -258,6 +396,8 @@ bare() { RATTLE_HOME=$kit_home PATH=$work/few "$copy/staran" "$@" >"$work/out" 2
 bare good; [ $status -eq 0 ] && [ ! -s "$work/err" ]; judge "no python3: a folder is run" $?
 bare; [ $status -eq 0 ] && grep -qx 'r 0 0 0 519 1 3' "$work/out" && grep -q 'python3 is not on PATH' "$work/err"; judge "no python3: the demonstration says so" $?
 bare why bad; [ $status -eq 1 ] && grep -q 'no mode was given' "$work/out" && grep -q 'python3 is not on PATH' "$work/err"; judge "no python3: why says what it can, and so" $?
+bare convert new pictures/one bare.pic; [ $status -eq 0 ] && cmp -s bare.pic pictures/four && [ ! -s "$work/err" ]; judge "no python3: a picture is converted" $?
+bare convert old pictures/set bare.2; [ $status -eq 1 ] && grep -q '^ 28  ' "$work/out" && grep -qx 'bare.2 was not made.' "$work/out" && grep -q 'python3 is not on PATH' "$work/err"; judge "no python3: and a refusal says what it can, and so" $?
 
 # ---- the lists that docs/MACHINE.md works through: their commands as they stand there, what it says they print, and that the bytes of a table are those of its commands
 mkdir page; ln -s "$here/tests" page/tests; ln -s "$staran" page/staran
@@ -330,8 +470,14 @@ turned "$(sed '1s/^060002/060003/' page/bytes)"; row 2 "B set and not A"
 turned "$(sed "3s/.*/$(stored 'the mode left in the store as well')/" page/bytes)"; row 3 "a mode beside the register's"
 turned "$(sed "3s/.*/$(stored 'the store with tag 1')/" page/bytes)"; row 4 "a mode of its own"
 cmp -s page/once/after.pic page/left; judge "which leaves the same picture" $?
-cp page/left page/once/before.pic; turned "$(sed 1,2d page/bytes)"; row 5 "neither set, on the picture that a run left"
-[ "$(wc -l <page/rows)" -eq 5 ]; judge "five rows" $?
+turned "$(sed 1,2d page/bytes)"; row 5 "neither set, on a picture of kind 1"
+cmp -s page/once/after.pic page/left; judge "which leaves after.pic as it was" $?
+cp page/once/before.pic page/first.pic; cp page/left page/once/before.pic; turned "$(sed 1,2d page/bytes)"; row 6 "neither set, on the picture that the list left"
+cmp -s page/once/after.pic page/left; judge "which leaves the same picture" $?
+[ "$(wc -l <page/rows)" -eq 6 ]; judge "six rows" $?
+# shellcheck disable=SC2016
+command=$(grep -o '`\./staran convert [^`]*`' page/section | tr -d '`')
+call sh -c "cd page && $command"; [ $status -eq 1 ] && [ -n "$command" ] && grep -q '^ 28  ' "$work/out" && grep -q 'refused with 28' page/section; judge "and what it says of convert" $?
 
 # ---- make_blocks.py
 mkdir made
@@ -345,6 +491,14 @@ complains "no hex digits" 1 "'x' is no hex digit" "$blocks" list made/l 0x00
 complains "half an instruction" 1 'whole instructions of 8 bytes' "$blocks" list made/l 00020000
 complains "an instruction that is refused" 1 'would be refused with 7 at byte 2' "$blocks" list made/l 02030000FF000000
 complains "an instruction under a register that none sets before it" 1 'instruction 0, 02 03 02 00 09 00 00 00, would be refused with 14 at byte 2' "$blocks" list made/l 0203020009000000 060002FF00000000
+call "$blocks" picture made/before.pic 01FF0000; [ $status -eq 0 ] && call "$blocks" list made/under 0203020009000000 && [ $status -eq 0 ] && [ -s made/under ]; judge "unless the before.pic beside it has it set" $?
+complains "and not the other" 1 'instruction 0, 02 03 03 00 09 00 00 00, would be refused with 14 at byte 2' "$blocks" list made/l 0203030009000000
+call "$blocks" --replace picture made/before.pic 00000000; complains "nor one that has it unset" 1 'would be refused with 14 at byte 2' "$blocks" list made/l 0203020009000000
+python 'data = open("made/before.pic", "rb").read(); print(data == files.picture([bytes(32)] * 256, modes=bytes(4)), files.taken(data), len(data), data[8198:8200].hex())' >out
+[ "$(cat out)" = 'True 4 8704 6401' ]; judge "a picture of kind 4: 17 blocks, the last of which uses 356" $?
+complains "mode registers that are refused" 1 'the mode registers 00 07 00 00 would be refused with 15' "$blocks" picture made/bad 00070000
+complains "and that are not four bytes" 1 'the mode registers are four bytes, and not 3' "$blocks" picture made/bad 01FF00
+[ ! -e made/bad ]; judge "are not written" $?
 complains "half an item" 1 'whole items of 32 bytes' "$blocks" items made/i 00
 complains "too many instructions" 1 'at most 992 instructions' "$blocks" list made/l "$(yes 0002000000000000 | head -n 993)"
 complains "a damaged picture has no table" 1 'block 1 is refused with 21' "$blocks" heights damaged
@@ -366,6 +520,11 @@ files.write(sys.argv[2] + '/before.pic', files.picture(words))
 PYTHON
 call "$blocks" --signed heights signed; [ $status -eq 0 ] && grep -qE '^ 200 +-1 +0 +0$' "$work/out" && grep -qE '^ 201 +0 +0 +0$' "$work/out" && [ "$(wc -l <"$work/out")" -eq 3 ]; judge "every station that is not all zero, signed" $?
 call "$blocks" heights signed; [ $status -eq 0 ] && grep -qE '^ 200 +4294967295 ' "$work/out"; judge "or unsigned" $?
+# the same in kind 4, with station 200 marked in Y, and A set: its mode is no mark
+cp "$work/out" plain; python 'data = files.read_picture("signed/before.pic")
+files.write("signed/after.pic", files.blocks(4, data[:8256] + bytes(25) + b"\x01" + bytes(6) + bytes([1, 255, 0, 0])))
+files.write("signed/before.pic", files.blocks(4, data + bytes(4)))'
+call "$blocks" heights signed; [ $status -eq 0 ] && grep -qE '^ 200 +4294967295 .* \*$' "$work/out" && [ "$(grep -c '\*$' "$work/out")" -eq 1 ] && [ "$(wc -l <"$work/out")" -eq 4 ]; judge "and of pictures of kind 4" $?
 
 echo "$passed passed, $failed failed"
 [ "$failed" -eq 0 ]

@@ -1,11 +1,13 @@
 #!/usr/bin/env python3
 """Makes and reads the files of a folder that ./staran runs in. Written from document 01, "Blocks on disk", "Instructions" and "Sum and
-difference lists", from document 02, Six and Seven, and from the bytes in docs/LISTS.md, and from nothing of the crates, so that it can serve
+difference lists", from document 02, Six to Eight, and from the bytes in docs/LISTS.md, and from nothing of the crates, so that it can serve
 as an outside answer.
 
-    make_blocks.py list FILE HEX..       a list: HEX is any number of hex digits and blanks, in one word or several
+    make_blocks.py list FILE HEX..       a list: HEX is any number of hex digits and blanks, in one word or several; a mode register counts as
+                                         set at its start if it is set in the before.pic beside FILE
     make_blocks.py items FILE HEX..      items, likewise
-    make_blocks.py picture FILE          a picture whose words and registers are all 0
+    make_blocks.py picture FILE [HEX]    a picture whose words, M, X and Y are all 0: of kind 1, or, with four bytes of HEX, flag and mode of
+                                         mode register A and of B, of kind 4
     make_blocks.py example FOLDER        before.pic and run.lst of the example that document 01 prints
     make_blocks.py demo FOLDER           before.pic, run.lst and in.itm of the demonstration
     make_blocks.py heights FOLDER        the stations of before.pic and after.pic: every word that is not all zero, with a star behind
@@ -18,8 +20,9 @@ Options: --replace   a picture that is there may be overwritten
 import os
 import sys
 
-PICTURE, LIST, ITEMS = 1, 2, 3
-NAMES = {PICTURE: 'picture', LIST: 'list', ITEMS: 'items'}
+PICTURE, LIST, ITEMS, MODES_PICTURE = 1, 2, 3, 4
+NAMES = {PICTURE: 'picture', LIST: 'list', ITEMS: 'items', MODES_PICTURE: 'picture with mode registers'}
+PICTURE_BYTES = {PICTURE: 8288, MODES_PICTURE: 8292}  # 256 words, then M, X and Y, then, in the second, the mode registers
 SET_MODE = 6
 MODE_REGISTERS = {2: 'A', 3: 'B'}  # by the tag that names each
 
@@ -67,8 +70,8 @@ def block_fault(kind, block, number, count):
 
 def size_fault(kind, size):
     """Why no content of that kind has that many bytes, or nothing."""
-    if kind == PICTURE:
-        return '' if size == 8288 else 'a picture has 8,288 bytes, and not %d' % size
+    if kind in PICTURE_BYTES:
+        return '' if size == PICTURE_BYTES[kind] else 'a picture of kind %d has %d bytes, and not %d' % (kind, PICTURE_BYTES[kind], size)
     unit = 8 if kind == LIST else 32
     if size % unit:
         return '%s are whole %s of %d bytes, and %d bytes are not' % (
@@ -79,21 +82,67 @@ def size_fault(kind, size):
     return ''
 
 
-def content(kind, data, name='the file'):
-    """The content of a file of blocks; Refused says what is wrong with it."""
-    if not data or len(data) % 512:
-        raise Refused('%s: %d bytes are no blocks of 512 (20)' % (name, len(data)))
+def cut(data):
+    """The blocks of a file."""
+    return [data[at:at + 512] for at in range(0, len(data), 512)]
+
+
+def payload(data):
+    """What the blocks of a file say that they use, put together."""
+    return b''.join(block[12:12 + block[6] + 256 * block[7]] for block in cut(data))
+
+
+def file_fault(kind, data):
+    """The number that the bytes of a file are refused with as that kind, and its place; or 0 and 0."""
+    if not data or len(data) % 512 or len(data) > 34304:
+        return 20, 0
     count = len(data) // 512
-    out = b''
-    for number in range(count):
-        block = data[512 * number:512 * number + 512]
+    for number, block in enumerate(cut(data)):
         fault = block_fault(kind, block, number, count)
         if fault:
-            raise Refused('%s: block %d is refused with %d, see docs/NUMBERS.md' % (name, number, fault))
-        out += block[12:12 + block[6] + 256 * block[7]]
-    if size_fault(kind, len(out)):
-        raise Refused('%s: %s (25)' % (name, size_fault(kind, len(out))))
-    return out
+            return fault, number
+    if size_fault(kind, len(payload(data))):
+        return 25, 0
+    if kind == MODES_PICTURE and any(modes_faults(payload(data)[8288:])):
+        return 15, 0
+    return 0, 0
+
+
+def content(kind, data, name='the file'):
+    """The content of a file of blocks; Refused says what is wrong with it."""
+    fault, place = file_fault(kind, data)
+    if fault == 20:
+        raise Refused('%s: %d bytes are no file of 1 to 67 blocks of 512 (20)' % (name, len(data)))
+    if fault == 25:
+        raise Refused('%s: %s (25)' % (name, size_fault(kind, len(payload(data)))))
+    if fault == 15:
+        raise Refused('%s: its mode registers are %s, refused with 15' % (name, payload(data)[8288:].hex(' ')))
+    if fault:
+        raise Refused('%s: block %d is refused with %d, see docs/NUMBERS.md' % (name, place, fault))
+    return payload(data)
+
+
+def modes_faults(modes):
+    """What is wrong with each of the four bytes of the mode registers, or nothing: flag and mode of A, flag and mode of B."""
+    faults = []
+    for flag, mode in (modes[:2], modes[2:]):
+        faults += ['a flag is 0 or 1' if flag > 1 else '', 'behind flag 0 the mode is 0' if flag == 0 and mode else '']
+    return faults
+
+
+def taken(data):
+    """The kind of picture that the program takes a file for, by its first two bytes as they stand."""
+    return MODES_PICTURE if data[:2] == two(MODES_PICTURE) else PICTURE
+
+
+def modes_in(data):
+    """The four bytes of the mode registers with which a run on this picture starts."""
+    return payload(data)[8288:] if taken(data) == MODES_PICTURE else bytes(4)
+
+
+def set_by(modes):
+    """By its tag, the mode of each mode register that is set."""
+    return {tag: modes[2 * k + 1] for k, tag in enumerate(MODE_REGISTERS) if modes[2 * k] == 1}
 
 
 def touches(i):
@@ -124,9 +173,10 @@ def instruction_fault(i, is_set=()):
     return next(((number, byte) for number, byte, met in rows if met), (0, 0))
 
 
-def list_fault(data):
-    """Why the program, which starts with no mode register set, would refuse a run of this list, whatever its items are, or nothing."""
-    given, is_set = 0, set()
+def list_fault(data, is_set=()):
+    """Why the program would refuse a run of this list, whatever its items are, or nothing. `is_set` has the tags of the mode registers that are
+    set at its start."""
+    given, is_set = 0, set(is_set)
     for place in range(len(data) // 8):
         i = data[8 * place:8 * place + 8]
         fault, byte = instruction_fault(i, is_set)
@@ -151,9 +201,11 @@ def digits(words):
     return bytes.fromhex(text)
 
 
-def picture(words, registers=bytes(96)):
-    """A picture: 256 words of 32 bytes in plain order, then M, X and Y."""
-    return blocks(PICTURE, b''.join(words) + registers)
+def picture(words, registers=bytes(96), modes=None):
+    """A picture: 256 words of 32 bytes in plain order, then M, X and Y; with the four bytes of the mode registers, if any, one of kind 4."""
+    if modes is None:
+        return blocks(PICTURE, b''.join(words) + registers)
+    return blocks(MODES_PICTURE, b''.join(words) + registers + bytes(modes))
 
 
 def sum_list(a, b, s, width):
@@ -190,17 +242,22 @@ def station(height, shift, total):
     return b''.join(field.to_bytes(4, 'little') for field in (height, shift, total)) + bytes(20)
 
 
+def read_picture(path):
+    """The content of a picture file, of the kind that its first two bytes name."""
+    with open(path, 'rb') as file:
+        data = file.read()
+    return content(taken(data), data, path)
+
+
 def words_of(path):
     """The 256 words of a picture file."""
-    with open(path, 'rb') as file:
-        plain = content(PICTURE, file.read(), path)
+    plain = read_picture(path)
     return [plain[32 * w:32 * w + 32] for w in range(256)]
 
 
 def marks_of(path):
     """Y of a picture file: the numbers of the words that are marked there."""
-    with open(path, 'rb') as file:
-        y = content(PICTURE, file.read(), path)[8192 + 64:]
+    y = read_picture(path)[8192 + 64:8192 + 96]
     return {w for w in range(256) if y[w // 8] >> w % 8 & 1}
 
 
@@ -230,18 +287,38 @@ def write(path, data, replace=True):
         file.write(data)
 
 
+def set_beside(path):
+    """The tags of the mode registers that are set in the before.pic beside a file; none where there is no such picture."""
+    try:
+        with open(os.path.join(os.path.dirname(path), 'before.pic'), 'rb') as file:
+            data = file.read()
+    except OSError:
+        return ()
+    return () if file_fault(taken(data), data) != (0, 0) else set_by(modes_in(data))
+
+
 def write_hex(kind, path, words, unfit):
     data = digits(words)
-    fault = size_fault(kind, len(data)) or (list_fault(data) if kind == LIST else '')
+    fault = size_fault(kind, len(data)) or (list_fault(data, set_beside(path)) if kind == LIST else '')
     if fault and not unfit:
         raise Refused('%s; --unfit writes it all the same' % fault)
     write(path, blocks(kind, data))
 
 
+def write_blank(path, words, unfit, replace):
+    """A picture whose words, M, X and Y are all 0."""
+    modes = digits(words) if words else None
+    if modes is not None and len(modes) != 4:
+        raise Refused('the mode registers are four bytes, and not %d' % len(modes))
+    if modes is not None and any(modes_faults(modes)) and not unfit:
+        raise Refused('the mode registers %s would be refused with 15: ./staran numbers 15; --unfit writes them all the same' % modes.hex(' '))
+    write(path, picture([bytes(32)] * 256, modes=modes), replace)
+
+
 def main(words):
     options = {word for word in words if word in ('--replace', '--unfit', '--signed')}
     words = [word for word in words if word not in options]
-    if len(words) < 2 or (words[0] not in ('list', 'items') and len(words) > 2):
+    if len(words) < 2 or (words[0] not in ('list', 'items', 'picture') and len(words) > 2):
         sys.exit(__doc__)
     what, path = words[:2]
     replace = '--replace' in options
@@ -251,7 +328,7 @@ def main(words):
     if what in ('list', 'items'):
         write_hex(LIST if what == 'list' else ITEMS, path, words[2:], '--unfit' in options)
     elif what == 'picture':
-        write(path, picture([bytes(32)] * 256), replace)
+        write_blank(path, words[2:], '--unfit' in options, replace)
     elif what == 'example':
         write(beside('before.pic'), picture([bytes(32)] * 256), replace)
         write(beside('run.lst'), blocks(LIST, bytes.fromhex('000200000000001F 0500000000000000')))

@@ -1,7 +1,8 @@
 #!/bin/bash
 # The program on folders of every kind, from outside: absent, empty, too long, damaged and unreadable files; which byte of an instruction is wrong; the
-# mode registers; what happens to an old after.pic; what is left behind; the command's exit status; two runs in one folder. Prints a line for each
-# case, and at last 'N passed, 0 failed'. Run it from anywhere; it builds the program if the sources have changed.
+# mode registers, and pictures of both kinds; what happens to an old after.pic; what is left behind; the command's exit status; two runs in one folder;
+# a picture of one kind made one of the other. Prints a line for each case, and at last 'N passed, 0 failed'. Run it from anywhere; it builds the program
+# if the sources have changed.
 #   tests/program_cases.sh
 set -u
 here=$(cd "$(dirname "$0")/.." && pwd -P)
@@ -184,39 +185,178 @@ PYTHON
 count=$(wc -l <"$work/want") numbers=$(cut -d ' ' -f 2 "$work/want" | sort -nu | paste -s -d ' ')
 diff "$work/want" "$work/got" >"$work/out" && [ "$numbers" = '0 5 6 7 8 9 11 14 16 17 18' ]; judge "number, place and byte of $count instructions" $?
 
-# ---- the mode registers (document 02, Seven): the program starts with neither set, and a picture has none
-# after.pic is a kind 1 picture of 17 blocks, and its words and the 96 bytes of M, X and Y are what the Python says, with `files` for tests/make_blocks.py
-# and `item` for in.itm's.
+# ---- the mode registers (document 02, Seven and Eight): a picture of kind 1 has none, and a run on it starts with neither set
+# after.pic has 17 blocks, and its words and the 96 bytes of M, X and Y are what the Python says, with `files` for tests/make_blocks.py and `item` for
+# in.itm's; and so are its mode registers: `modes` are their four bytes in a picture of kind 4, and None says that it is of kind 1.
 leaves() { # NAME PYTHON
     python3 -B - "$here/tests" "$work/f" >"$work/out" 2>"$work/err" <<PYTHON
 import sys
 sys.path.insert(0, sys.argv[1])
 import make_blocks as files
-item, words, registers = bytes(range(1, 33)), [bytes(32)] * 256, bytearray(96)
+item, words, registers, modes = bytes(range(1, 33)), [bytes(32)] * 256, bytearray(96), None
 $2
 data = open(sys.argv[2] + '/after.pic', 'rb').read()
-sys.exit(len(data) != 8704 or data != files.picture(words, bytes(registers)))
+sys.exit(len(data) != 8704 or data != files.picture(words, bytes(registers), modes))
 PYTHON
     judge "$1" $?
 }
 filled=0102030405060708090a0b0c0d0e0f101112131415161718191a1b1c1d1e1f20
 fresh; blocks list run.lst 060002FF00000000 020402000D000000; blocks items in.itm $filled; says "register A is set to 255, and a store takes its mode" "r 0 0 0 2 1 0\n"
-leaves "word 13 alone is written, and after.pic is as before the mode registers: kind 1, 8,704 bytes, M, X and Y" 'words[13] = item'
-cp after.pic before.pic; blocks list run.lst 020402000D000000; old; says "the next run starts with neither set" "r 14 0 2 0 0 0\n"; kept "and keeps an old after.pic"
+leaves "word 13 alone is written, and after.pic is of kind 4, with the mode" 'words[13] = item; modes = [1, 255, 0, 0]'
+cp after.pic before.pic; blocks list run.lst 020402000E000000; old; says "a second run, on that after.pic, finds the mode" "r 0 0 0 1 1 0\n"
+leaves "and keeps it" 'words[13] = words[14] = item; modes = [1, 255, 0, 0]'
 fresh; blocks list run.lst 020402000D000000; blocks items in.itm $filled; says "the same store without kind 6" "r 14 0 2 0 0 0\n"; none "and no after.pic"
 fresh; blocks list run.lst 020402000D000000 060002FF00000000; blocks items in.itm $filled; says "kind 6 only after the store" "r 14 0 2 0 0 0\n"
 fresh; blocks list run.lst 060003FF00000000 020402000D000000; blocks items in.itm $filled; says "kind 6 of the other register" "r 14 1 2 0 0 0\n"
 fresh; blocks list run.lst 060002FF00000000 020403000D000000; blocks items in.itm $filled; says "and the other way round" "r 14 1 2 0 0 0\n"
 fresh; blocks list run.lst 0600020000000000 000200000000001F 020302000D000000; says "register A is set to 0: set all the same, and a slice is stored" "r 0 0 0 3 0 0\n"
-leaves "bit 13 of every word is written, and Y is in the picture" 'words = [bytes([0, 32] + [0] * 30)] * 256; registers[64:] = b"\xff" * 32'
+leaves "bit 13 of every word is written, and Y and the flag are in the picture" 'words = [bytes([0, 32] + [0] * 30)] * 256; registers[64:] = b"\xff" * 32; modes = [1, 0, 0, 0]'
 fresh; blocks list run.lst 0600020000000000 060003FF00000000 000200000000001F 0203020028000000 020403000D000000 040003000D000000; blocks items in.itm $filled
 says "A is a slice and B a word, in one list" "r 0 0 0 6 1 1\n$filled\n"
-leaves "each store is under its own" 'words = [bytes([0] * 5 + [1] + [0] * 26)] * 256; words[13] = item; registers[64:] = b"\xff" * 32'
-fresh; blocks list run.lst 0600020000000000 060002FF00000000 020402000D000000; blocks items in.itm $filled; says "register A is set twice" "r 0 0 0 3 1 0\n"; leaves "the last before the store counts" 'words[13] = item'
-fresh; blocks list run.lst 060002FF00000000 0600030700000000; old; says "a list that only sets both: two steps, nothing taken or given" "r 0 0 0 2 0 0\n"; same "and leaves the picture as it was"
+leaves "each store is under its own" 'words = [bytes([0] * 5 + [1] + [0] * 26)] * 256; words[13] = item; registers[64:] = b"\xff" * 32; modes = [1, 0, 1, 255]'
+fresh; blocks list run.lst 0600020000000000 060002FF00000000 020402000D000000; blocks items in.itm $filled; says "register A is set twice" "r 0 0 0 3 1 0\n"; leaves "the last before the store counts" 'words[13] = item; modes = [1, 255, 0, 0]'
+fresh; blocks list run.lst 060002FF00000000 0600030700000000; old; says "a list that only sets both: two steps, nothing taken or given" "r 0 0 0 2 0 0\n"; leaves "and leaves the words as they were" 'modes = [1, 255, 1, 7]'
+fresh; blocks list run.lst 0600030000000000; says "a list that only sets B, to 0" "r 0 0 0 1 0 0\n"; leaves "which is kind 4 too" 'modes = [0, 0, 1, 0]'
 fresh; blocks list run.lst 060002FF00000000 020402000D000000 02030000FF000000; blocks items in.itm $filled; old; says "a list that is refused further on" "r 7 2 2 0 0 0\n"; kept "has set and stored nothing"
-fresh; python3 -B -c 'import sys; sys.path.insert(0, sys.argv[1]); import make_blocks as files; files.write("before.pic", files.blocks(4, bytes(8292)))' "$here/tests"; old
-says "a kind 4 file as before.pic" "p 22 0 0 0 0 0\n"; kept "and keeps an old after.pic"
+
+# ---- pictures with mode registers (document 02, Eight)
+four() { blocks --replace picture before.pic "$1"; } # FOUR BYTES: before.pic of kind 4 with these mode registers, and all else 0
+# Words and M, X and Y that are not zeros, the same in each picture that is made of them.
+filling='import random; draw = random.Random(8); words = [draw.randbytes(32) for _ in range(256)]; registers = draw.randbytes(96)'
+# Makes before.pic by Python, with `files` and `filling` as above: `data` are its bytes, and `reseal(K, ..)` alters bytes of its block K and makes the sums again.
+make() { # PYTHON
+    python3 -B - "$here/tests" "$work/f" <<PYTHON || die "no before.pic: $1"
+import sys
+sys.path.insert(0, sys.argv[1])
+import make_blocks as files
+$filling
+data = b''
+
+
+def reseal(k, *changes):
+    global data
+    block = bytearray(data[512 * k:512 * k + 508])
+    for at, value in changes:
+        block[at] = value
+    data = data[:512 * k] + block + files.sums(block) + data[512 * k + 512:]
+
+
+$1
+files.write(sys.argv[2] + '/before.pic', data)
+PYTHON
+}
+# which kind is taken: by the first two bytes as they stand
+whole='data = files.picture(words, registers, [1, 255, 0, 0])' plain='data = files.picture(words, registers)'
+fresh; make "$whole"; rm run.lst; says "a picture of kind 4" "r 0 0 0 0 0 0\n"; same "with the empty list it stays as it was, byte for byte"
+fresh; make "$plain"; rm run.lst; says "a picture of kind 1" "r 0 0 0 0 0 0\n"; same "and so does it"
+fresh; make "$plain; reseal(0, (0, 4))"; says "4 and 0 before 16 blocks of kind 1: taken for kind 4, and block 1 is another" "p 22 1 0 0 0 0\n"
+fresh; make "$whole; reseal(0, (0, 1))"; says "1 and 0 before 16 blocks of kind 4: taken for kind 1, and block 1 is another" "p 22 1 0 0 0 0\n"
+fresh; make "$whole; reseal(0, (1, 1))"; old; says "4 and 1: taken for kind 1, and block 0 is another" "p 22 0 0 0 0 0\n"; kept "and keeps an old after.pic"
+fresh; make "$whole; reseal(0, (0, 0), (1, 4))"; says "0 and 4" "p 22 0 0 0 0 0\n"
+fresh; make "data = files.blocks(260, b''.join(words) + registers + bytes(4))"; says "4 and 1 in every block" "p 22 0 0 0 0 0\n"
+fresh; make "$whole"; change before.pic 1 '\001'; says "4 and 1, and the sums are not right: 21 comes before 22" "p 21 0 0 0 0 0\n"
+fresh; make "$plain"; change before.pic 0 '\004'; says "4 and 0 written over 1 and 0 is damage" "p 21 0 0 0 0 0\n"
+fresh; : >before.pic; says "no byte at all" "p 20 0 0 0 0 0\n"
+fresh; printf '\004' >before.pic; says "one byte, 4" "p 20 0 0 0 0 0\n"
+fresh; printf '\004\000' >before.pic; says "two bytes, 4 and 0" "p 20 0 0 0 0 0\n"
+fresh; make "$whole; data += bytes(512)"; says "kind 4 and a block more" "p 20 0 0 0 0 0\n"
+fresh; make "$whole; data += b'x'"; says "kind 4 and a byte more" "p 20 0 0 0 0 0\n"
+fresh; make "$whole; data = data[:8192]"; says "kind 4 without its last block" "p 23 0 0 0 0 0\n"
+fresh; make "data = files.blocks(4, b''.join(words) + registers)"; says "kind 4 whose last block uses 352" "p 25 0 0 0 0 0\n"
+fresh; make "data = files.blocks(1, b''.join(words) + registers + bytes(4))"; says "kind 1 whose last block uses 356" "p 25 0 0 0 0 0\n"
+fresh; make "$whole; reseal(16, (6, 352 % 256))"; says "kind 4 whose last block says 352, with a flag behind: 24" "p 24 16 0 0 0 0\n"
+fresh; make "data = files.picture(words, registers, [2, 0, 0, 0]); reseal(16, (6, 200), (7, 0))"; says "a bad flag in a block that does not count it: 24 comes before 15" "p 24 16 0 0 0 0\n"
+fresh; make "data = files.picture(words, registers, [2, 0, 0, 0])"; change before.pic 100 '\377\000\377'; says "a bad flag and a damaged block: 21 comes before 15" "p 21 0 0 0 0 0\n"
+fresh; make "data = files.blocks(4, b''.join(words) + registers + bytes([2, 0, 0, 0, 0]))"; says "a bad flag in a content that is too long: 25 comes before 15" "p 25 0 0 0 0 0\n"
+# bad flags
+while read -r modes name <&3; do
+    fresh; four "$modes"; old; says "15: $name, $modes" "p 15 0 0 0 0 0\n"; cmp -s after.pic "$work/old" || judge "15 keeps an old after.pic" 1
+done 3<<'CASES'
+02000000 the flag of A is over 1
+FFFF0000 the flag of A is 255
+00010000 A has a mode and is not set
+00000200 the flag of B is over 1
+000000FF B has a mode and is not set
+01FF8000 A is right and the flag of B is over 1
+01FF0007 A is right, and B has a mode and is not set
+02070103 B is right and the flag of A is over 1
+00070103 B is right, and A has a mode and is not set
+CASES
+fresh; four 02000000; change run.lst 20 '\377'; : >in.itm; says "15 before what is wrong with the other files" "p 15 0 0 0 0 0\n"; none "and no after.pic"
+
+# Pictures of both kinds, each damaged in one place in every way, a folder each, and every pair of flags and modes: tests/make_blocks.py says the number and
+# the place; one that stands is written back as it was.
+mkdir "$work/pictures"
+python3 -B - "$here/tests" "$work/pictures" "$filling" >"$work/want" <<'PYTHON'
+import itertools
+import os
+import sys
+sys.path.insert(0, sys.argv[1])
+import make_blocks as files
+room = sys.argv[2]
+exec(sys.argv[3])
+
+
+def altered(data, k, changes, sealed=True):
+    block = bytearray(data[512 * k:512 * k + 512])
+    for at, value in changes:
+        block[at] = block[at] + value & 255
+    if sealed:
+        block[508:] = files.sums(block[:508])
+    return data[:512 * k] + bytes(block) + data[512 * k + 512:]
+
+
+cases = {}
+for kind, modes in ((1, None), (4, [1, 200, 0, 0]), (4, [0, 0, 0, 0])):
+    good = files.picture(words, registers, modes)
+    for k in (0, 1, 8, 15, 16):
+        name = 'kind%d-%s-block%02d' % (kind, 'set' if modes and any(modes) else 'unset', k)
+        for at in (0, 1, 2, 3, 4, 5, 6, 7, 8, 11, 12, 363, 364, 367, 368, 507):
+            cases['%s-byte%d' % (name, at)] = altered(good, k, [(at, 1)], False)
+            cases['%s-byte%d-sealed' % (name, at)] = altered(good, k, [(at, 1)])
+        for at in (508, 511):
+            cases['%s-byte%d' % (name, at)] = altered(good, k, [(at, 1)], False)
+        cases[name + '-kind-other'] = altered(good, k, [(0, 5 - 2 * kind)])
+        cases[name + '-kind-other-unsealed'] = altered(good, k, [(0, 5 - 2 * kind)], False)
+        cases[name + '-used-other'] = altered(good, k, [(6, 4)])
+        cases[name + '-used-less'] = altered(good, k, [(6, 252)])
+        cases[name + '-lost'] = good[:512 * k] + good[512 * k + 512:]
+        cases[name + '-swapped'] = good[:512 * k] + good[512 * k + 512:512 * k + 1024] + good[512 * k:512 * k + 512] + good[512 * k + 1024:]
+for modes in itertools.product((0, 1, 2, 255), (0, 1, 7, 255), repeat=2):
+    cases['modes-%s' % bytes(modes).hex()] = files.picture(words, registers, modes)
+for low, high in itertools.product((0, 1, 2, 3, 4, 5, 255), (0, 1, 4, 255)):
+    cases['all-of-kind-%d-%d' % (low, high)] = files.blocks(low + 256 * high, b''.join(words) + registers + (bytes(4) if low == 4 else b''))
+for name, data in sorted(cases.items()):
+    os.mkdir(os.path.join(room, name))
+    files.write(os.path.join(room, name, 'before.pic'), data)
+    number, place = (20, 0) if len(data) > 8704 else files.file_fault(files.taken(data), data)
+    print('%s: %s %d %d' % (name, 'p' if number else 'r', number, place))
+PYTHON
+(cd "$work/pictures" && "$here/staran" ./*) 2>"$work/err" | awk '/:$/ { name = substr($0, 3) } /^[prli] / { print name, $1, $2, $3 }' >"$work/got"
+count=$(wc -l <"$work/want") numbers=$(cut -d ' ' -f 3 "$work/want" | sort -nu | paste -s -d ' ')
+diff "$work/want" "$work/got" >"$work/out" && [ "$numbers" = '0 15 21 22 23 24 25' ]; judge "number and place of $count pictures of both kinds, damaged and whole" $?
+(cd "$work/pictures" && for name in *; do
+    if grep -q "^$name: r 0 " "$work/want"; then cmp -s "$name/before.pic" "$name/after.pic"; else [ ! -e "$name/after.pic" ]; fi || echo "$name"
+done) >"$work/out" 2>&1; [ ! -s "$work/out" ]; judge "those that stand are written back as they were, and of the others there is no after.pic" $?
+
+# a run starts from the mode registers of the picture
+stores=020402000D000000
+fresh; four 01FF0000; blocks list run.lst $stores; blocks items in.itm $filled; says "a store under A, which the picture has set to 255" "r 0 0 0 1 1 0\n"; leaves "word 13 is written, and A is as it was" 'words[13] = item; modes = [1, 255, 0, 0]'
+fresh; four 01000000; blocks list run.lst $stores; blocks items in.itm "$(printf 'FF%.0s' $(seq 32))"; says "the same where the picture has A set to 0" "r 0 0 0 1 1 0\n"; leaves "bit 13 of every word is written" 'words = [bytes([0, 32] + [0] * 30)] * 256; modes = [1, 0, 0, 0]'
+fresh; four 00000000; blocks list run.lst $stores; blocks items in.itm $filled; old; says "and where it has A unset" "r 14 0 2 0 0 0\n"; kept "which keeps an old after.pic"
+fresh; four 000001FF; blocks list run.lst $stores; blocks items in.itm $filled; says "and where it has B set, and not A" "r 14 0 2 0 0 0\n"; none "and no after.pic"
+fresh; four 01FF0000; blocks list run.lst 020403000D000000; blocks items in.itm $filled; says "and a store under B where it has A set" "r 14 0 2 0 0 0\n"
+fresh; four 000001FF; blocks list run.lst 020403000D000000; blocks items in.itm $filled; says "a store under B, which the picture has set" "r 0 0 0 1 1 0\n"; leaves "word 13 is written, and B is as it was" 'words[13] = item; modes = [0, 0, 1, 255]'
+fresh; four 01FF0000; blocks list run.lst $stores 02030000FF000000; blocks items in.itm $filled; old; says "a list that is refused further on, on kind 4" "r 7 1 2 0 0 0\n"; kept "leaves everything as it was"
+# and which kind is written
+fresh; says "kind 1 and no register set at the end" "$done_lines"; leaves "stays kind 1" 'registers[64:] = b"\xff" * 32'
+fresh; four 00000000; says "kind 4 and no register set at the end" "$done_lines"; leaves "stays kind 4" 'registers[64:] = b"\xff" * 32; modes = [0, 0, 0, 0]'
+fresh; four 01070103; says "kind 4 with both set, and a list that does not use them" "$done_lines"; leaves "keeps them" 'registers[64:] = b"\xff" * 32; modes = [1, 7, 1, 3]'
+fresh; four 01FF0000; blocks list run.lst 0600020700000000; says "kind 4, and kind 6 sets what is set" "r 0 0 0 1 0 0\n"; leaves "the new mode is in the picture" 'modes = [1, 7, 0, 0]'
+fresh; four 01FF0000; blocks list run.lst 0600032A00000000; says "kind 4, and kind 6 sets the other" "r 0 0 0 1 0 0\n"; leaves "both are in the picture" 'modes = [1, 255, 1, 42]'
+fresh; four 00000000; blocks list run.lst 060002FF00000000; says "kind 4 with both unset, and kind 6 sets one" "r 0 0 0 1 0 0\n"; leaves "it is in the picture" 'modes = [1, 255, 0, 0]'
+fresh; make "$plain"; blocks list run.lst 0600032A00000000; says "kind 1 with words, M, X and Y, and kind 6" "r 0 0 0 1 0 0\n"; leaves "the same words, M, X and Y, in kind 4" "$filling; modes = [0, 0, 1, 42]"
+fresh; make "$whole"; blocks list run.lst 0600032A00000000; says "kind 4 with words, M, X and Y, and kind 6" "r 0 0 0 1 0 0\n"; leaves "the same words, M, X and Y, and both modes" "$filling; modes = [1, 255, 1, 42]"
 
 # ---- what cannot be opened or read
 for name in before.pic:p run.lst:l in.itm:i; do
@@ -270,6 +410,70 @@ another; run; whole "$here/demo/before.pic"; judge "and the next run is not hind
 # ---- printing: by the program itself, whose output the command takes before it hands it on
 fresh; timeout 20 ${emulator:+"$emulator"} "$loader" --library-path "$tools/lib" "$here/target/bin/program" >/dev/full 2>"$work/err"; : >"$work/out"
 grep -qx 'standard output: No space left on device' "$work/err" && [ -s "$work/f/after.pic" ]; judge "an output that takes nothing: the reason is said, and after.pic is whole" $?
+
+# ---- a picture of one kind made one of the other, by the program itself: new or old, the file, and the file to be made
+program() { (cd "$work/f" && timeout 20 ${emulator:+"$emulator"} "$loader" --library-path "$tools/lib" "$here/target/bin/program" "$@") >"$work/out" 2>"$work/err"; }
+converts() { # NAME LINE WAY: before.pic to x.pic; LINE is printed and nothing said, and x.pic is there exactly if the line is that of done
+    program "$3" before.pic x.pic
+    [ "$(cat "$work/out")" = "$2" ] && [ ! -s "$work/err" ] && if [ "$2" = 'c 0 0 8704' ]; then [ -s x.pic ]; else [ ! -e x.pic ]; fi
+    judge "$1" $?
+}
+made() { cmp -s x.pic want.pic; judge "$1" $?; }
+silent() { [ ! -s "$work/out" ] && grep -qx -- "$2" "$work/err"; judge "$1" $?; } # NAME REASON: nothing is printed, and the reason is said
+fresh; make 'data = files.picture(words, registers, [0] * 4)'; mv before.pic want.pic; make "$plain"; converts "old to new" 'c 0 0 8704' new; made "the words, M, X and Y in kind 4, and both registers unset"
+cp before.pic want.pic; mv x.pic before.pic; converts "and back" 'c 0 0 8704' old; made "gives the same bytes"
+fresh; make 'data = files.picture(words, registers, [0] * 4)'; cp before.pic want.pic; converts "new to old" 'c 0 0 8704' old; mv x.pic before.pic; converts "and back" 'c 0 0 8704' new; made "gives the same bytes"
+fresh; make "$whole"; converts "new to old with a register set" 'c 28 0 0' old; converts "and to new, of what is new" 'c 22 0 0' new
+fresh; make "$plain"; converts "to old, of what is old" 'c 22 0 0' old
+fresh; four 02000000; converts "new to old with a bad flag" 'c 15 0 0' old
+fresh; head -c 9216 /dev/zero >before.pic; converts "18 blocks of zeros" 'c 22 0 0' new
+fresh; truncate -s 1T before.pic; converts "2^40 bytes are not read to their end" 'c 20 0 0' old
+fresh; cp before.pic x.pic; program new before.pic x.pic; silent "a file that is there is not written over" 'x.pic: File exists'; cmp -s x.pic before.pic; judge "and is as it was" $?
+fresh; program new before.pic before.pic; silent "nor is the file itself" 'before.pic: File exists'; cmp -s before.pic "$here/crates/program/data/before.pic"; judge "which is as it was" $?
+fresh; ln -s nothing x.pic; program new before.pic x.pic; silent "nor is a link that leads nowhere followed" 'x.pic: File exists'; [ ! -e nothing ]; judge "and nothing is made there" $?
+fresh; program new nothing x.pic; silent "no file" 'nothing: No such file or directory'; [ ! -e x.pic ]; judge "and nothing is made" $?
+fresh; program new . x.pic; silent "a folder for a file" '.: Is a directory'; [ ! -e x.pic ]; judge "and nothing is made of it" $?
+fresh; program old before.pic nothing/x.pic; [ "$(cat "$work/out")" = 'c 22 0 0' ]; judge "a refusal comes before a file that cannot be made" $?
+fresh; program new before.pic nothing/x.pic; silent "a file that cannot be made" 'nothing/x.pic: No such file or directory'
+fresh; (ulimit -f 4; trap '' XFSZ; program new before.pic x.pic); [ ! -s "$work/out" ] && grep -q '^x.pic: ' "$work/err" && [ ! -e x.pic ]; judge "a write that fails half way: the reason is said, and nothing is left" $?
+while read -ra words <&3; do
+    fresh; program "${words[@]}"; silent "other words: ${words[*]}" 'new or old, a file and the file to be made, or no word at all'
+    if [ -e x.pic ] || [ -e after.pic ]; then judge "other words make nothing" 1; fi
+done 3<<'CASES'
+new
+new before.pic
+new before.pic x.pic y.pic
+newer before.pic x.pic
+ne before.pic x.pic
+New before.pic x.pic
+before.pic
+CASES
+fresh; program ''; silent "one empty word is no run" 'new or old, a file and the file to be made, or no word at all'; none "and no after.pic"
+
+# The pictures with every pair of flags and modes, and those with one fault in block 16, both ways: tests/make_blocks.py says the line and what is made.
+python3 -B - "$here/tests" "$work/pictures" >"$work/want" <<'PYTHON'
+import os
+import sys
+sys.path.insert(0, sys.argv[1])
+import make_blocks as files
+room = sys.argv[2]
+for name in sorted(os.listdir(room)):
+    if name.startswith('modes-') or '-block16-' in name:
+        data = open(os.path.join(room, name, 'before.pic'), 'rb').read()
+        for way, kind, other, modes in (('new', 1, 4, bytes(4)), ('old', 4, 1, b'')):
+            number, place = files.file_fault(kind, data)
+            if number == 0 and kind == 4 and files.set_by(files.modes_in(data)):
+                number = 28
+            if number == 0:
+                files.write(os.path.join(room, name, way + '.want'), files.blocks(other, files.payload(data)[:8288] + modes))
+            print(name, way, 'c', number, place, 0 if number else 8704)
+PYTHON
+while read -r name way _ <&3; do
+    echo "$name $way $(${emulator:+"$emulator"} "$loader" --library-path "$tools/lib" "$here/target/bin/program" "$way" "$work/pictures/$name/before.pic" "$work/pictures/$name/$way.pic" 2>&1)"
+    if [ -e "$work/pictures/$name/$way.want" ]; then cmp -s "$work/pictures/$name/$way.want" "$work/pictures/$name/$way.pic"; else [ ! -e "$work/pictures/$name/$way.pic" ]; fi || echo "$name $way: another file"
+done 3<"$work/want" >"$work/got" 2>"$work/err"
+count=$(wc -l <"$work/want") numbers=$(cut -d ' ' -f 4 "$work/want" | sort -nu | paste -s -d ' ')
+diff "$work/want" "$work/got" >"$work/out" && [ "$numbers" = '0 15 21 22 23 24 25 28' ]; judge "$count conversions: the line and the file made" $?
 
 # ---- the demonstration: 20 stations, word 13 stored by itself, the highest marked, and the marks resolved
 "$here/staran" >"$work/out" 2>"$work/err"; status=$?

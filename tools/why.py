@@ -1,8 +1,10 @@
 #!/usr/bin/env python3
-"""Shows what a refusal of a folder points at: the instruction byte by byte, with a mark at the byte that the program named, and the mode registers
-that are set before it where it names one; or the head of the block. ./staran why calls it, with the first words of the program's line.
+"""Shows what a refusal points at: the instruction byte by byte, with a mark at the byte that the program named, and the mode registers that are
+set before it where it names one; or the head of the block, or the mode registers of a picture. ./staran why calls it, with the first words of the
+program's line, and ./staran convert, with the file that it was to convert.
 
     tools/why.py FOLDER LETTER NUMBER PLACE BYTE
+    tools/why.py FILE new|old NUMBER PLACE
 """
 import os
 import sys
@@ -119,23 +121,29 @@ def meanings(i, modes):
     ]
 
 
-def show_modes(steps, place):
-    """Which instructions set the mode registers, before the one at the place and after it."""
+def show_modes(steps, place, kind, start):
+    """What sets the mode registers before the instruction at the place: an instruction, or the picture, which is of that kind and has those in
+    `start` set; and which instruction comes too late."""
     for tag, name in files.MODE_REGISTERS.items():
         setters = [k for k, i in enumerate(steps) if i[0] == files.SET_MODE and i[2] == tag]
         before, after = [k for k in setters if k < place], [k for k in setters if k > place]
         if before:
             print('Mode register %s is set before it, to %d by instruction %d.' % (name, steps[before[-1]][3], before[-1]))
+        elif tag in start:
+            print('Mode register %s is set before it, to %d by before.pic.' % (name, start[tag]))
         else:
-            print('Mode register %s is not set before it%s.' % (name, '; instruction %d sets it, and comes after' % after[0] if after else ''))
+            print('Mode register %s is not set before it: before.pic, of kind %d, has %s%s.' % (
+                name, kind, 'it unset' if kind == files.MODES_PICTURE else 'none', '; instruction %d sets it, and comes after' % after[0] if after else ''))
 
 
-def show_instruction(path, number, place, byte):
-    with open(path, 'rb') as file:
-        data = files.content(files.LIST, file.read(), 'run.lst')
+def show_instruction(folder, number, place, byte):
+    data = files.content(files.LIST, contents(os.path.join(folder, 'run.lst')), 'run.lst')
+    picture = contents(os.path.join(folder, 'before.pic'))
+    files.content(files.taken(picture), picture, 'before.pic')
+    start = files.set_by(files.modes_in(picture))
     steps = [data[at:at + 8] for at in range(0, len(data), 8)]
     i = steps[place]
-    modes = {j[2]: j[3] for j in steps[:place] if j[0] == files.SET_MODE}
+    modes = {**start, **{j[2]: j[3] for j in steps[:place] if j[0] == files.SET_MODE}}
     lacks = {12: 'The list takes %s.' % counted(sum(j[1] == 4 for j in steps), 'item'),
              13: 'The list gives %s.' % counted(sum(j[0] in (4, 5) for j in steps), 'item')}
     print('Instruction %d, counted from 0, at byte %d of the list: %s' % (place, 8 * place, i.hex(' ')))
@@ -144,19 +152,19 @@ def show_instruction(path, number, place, byte):
     if number in lacks:
         print('No byte of it is wrong. ' + lacks[number])
     if files.touches(i) and i[2] in files.MODE_REGISTERS:
-        show_modes(steps, place)
+        show_modes(steps, place, files.taken(picture), start)
 
 
-def show_block(path, kind, place):
-    with open(path, 'rb') as file:
-        data = file.read()
+def show_block(name, data, kinds, place):
+    """The head of a block. `kinds` are those that it may be of: the first is the one that the file was taken for."""
     block = data[512 * place:512 * place + 512]
+    kind = kinds[0]
 
     def pair(at):
         return block[at] + 256 * block[at + 1]
-    print('Block %d, counted from 0, at byte %d of %s, which has %s:' % (place, 512 * place, os.path.basename(path), counted(len(data) // 512, 'block')))
+    print('Block %d, counted from 0, at byte %d of %s, which has %s:' % (place, 512 * place, name, counted(len(data) // 512, 'block')))
     right = files.sums(block[:508])
-    rows = [('kind', pair(0), kind, 'it must be %d, %s' % (kind, files.NAMES[kind])),
+    rows = [('kind', pair(0), kind, 'it must be ' + ', or '.join('%d, %s' % (k, files.NAMES[k]) for k in kinds)),
             ('number', pair(2), place, 'it must be %d, its place' % place),
             ('blocks', pair(4), len(data) // 512, 'it must be %d, for so many are there' % (len(data) // 512)),
             ('used', pair(6), None, 'of 496 bytes of payload; 496 in every block but the last'),
@@ -166,23 +174,80 @@ def show_block(path, kind, place):
         print('  %-7s %6d  %s%s' % (name, found, text, '   <-- here' if must is not None and found != must else ''))
 
 
-def main(words):
-    if len(words) != 5:
-        sys.exit(__doc__)
-    folder, letter = words[:2]
-    number, place, byte = (int(word) for word in words[2:])
+def show_registers(name, data, number):
+    """The mode registers of a picture of kind 4, and what is wrong with them by 15, or which is set, by 28."""
+    modes = files.modes_in(data)
+    if len(modes) != 4:
+        raise files.Refused('%s is another by now' % name)
+    faults = files.modes_faults(modes)
+    print('The mode registers of %s, bytes 364 to 367 of block 16, its last: %s' % (name, modes.hex(' ')))
+    for k, value in enumerate(modes):
+        flag, here = modes[k - k % 2], bool(faults[k])
+        if faults[k]:
+            text = 'it must be 0, or 1 for set' if k % 2 == 0 else 'it must be 0: the flag says that there is none'
+        elif k % 2 == 0:
+            text, here = 'set' if value else 'not set', number == 28 and value == 1
+        else:
+            text = mode(value) if flag == 1 else 'none' if flag == 0 else 'not looked at with such a flag'
+        print('  %s of %s  %02x  %s%s' % ('mode' if k % 2 else 'flag', 'AB'[k // 2], value, text, '   <-- here' if here else ''))
+
+
+def show_size(path, kind, number):
+    name = os.path.basename(path)
+    if not os.path.isfile(path):
+        print('%s is %s.' % (name, 'no file' if os.path.lexists(path) else 'not there'))
+        return
+    size = os.path.getsize(path)
+    print('%s has %s, %s.' % (name, counted(size, 'byte'), 'which is no multiple of 512' if size % 512 else counted(size // 512, 'block')))
+    if number == 25:
+        print('Every block is good, but %s.' % files.size_fault(kind, len(files.payload(contents(path)))))
+
+
+def contents(path):
+    with open(path, 'rb') as file:
+        return file.read()
+
+
+def show_file(path, kinds, number, place):
+    """What a file is refused for as one of the first of these kinds."""
+    name = os.path.basename(path)
+    if 21 <= number <= 24:
+        show_block(name, contents(path), kinds, place)
+    elif number in (15, 28):
+        show_registers(name, contents(path), number)
+    else:
+        show_size(path, kinds[0], number)
+
+
+def show_folder(folder, letter, number, place, byte):
     path = os.path.join(folder, {'p': 'before.pic', 'i': 'in.itm'}.get(letter, 'run.lst'))
     if letter == 'r' and number in (1, 2, 3, 4, 15):
         print('No instruction is wrong: it is of what the run is lent.')
     elif letter == 'r':
-        show_instruction(path, number, place, byte)
-    elif 21 <= number <= 24:
-        show_block(path, {'p': files.PICTURE, 'l': files.LIST, 'i': files.ITEMS}[letter], place)
-    elif os.path.isfile(path):
-        size = os.path.getsize(path)
-        print('%s has %s, %s.' % (os.path.basename(path), counted(size, 'byte'), 'which is no multiple of 512' if size % 512 else counted(size // 512, 'block')))
+        show_instruction(folder, number, place, byte)
+    elif letter != 'p':
+        show_file(path, [files.LIST if letter == 'l' else files.ITEMS], number, place)
     else:
-        print('%s is %s.' % (os.path.basename(path), 'no file' if os.path.lexists(path) else 'not there'))
+        # before.pic may be of either kind; its first two bytes, 4 and 0 or not, say which it is taken for
+        kind = files.taken(contents(path)) if os.path.isfile(path) else files.PICTURE
+        show_file(path, [kind] if kind == files.MODES_PICTURE or place else [kind, files.MODES_PICTURE], number, place)
+
+
+def show_converted(path, way, number, place):
+    """What a file is refused for that was to be made a picture of the new kind, or of the old one."""
+    kind, made = (files.PICTURE, files.MODES_PICTURE) if way == 'new' else (files.MODES_PICTURE, files.PICTURE)
+    show_file(path, [kind], number, place)
+    if number == 22 and files.file_fault(made, contents(path)) == (0, 0):
+        print('It is a good picture of kind %d as it stands: there is nothing to convert.' % made)
+
+
+def main(words):
+    if len(words) == 4 and words[1] in ('new', 'old'):
+        show_converted(words[0], words[1], int(words[2]), int(words[3]))
+    elif len(words) == 5:
+        show_folder(words[0], words[1], *(int(word) for word in words[2:]))
+    else:
+        sys.exit(__doc__)
 
 
 if __name__ == '__main__':

@@ -132,7 +132,7 @@ static void there_and_back(uint32_t a, uint32_t s, uint32_t n, int end)
     lend_words(end);
     move(1, a, s, n, end);
     check("closing, then spreading: A %u, S %u, width %u", (unsigned)a, (unsigned)s, (unsigned)n);
-    model_picture(buffers[MEMORY].bytes, buffers[REGISTERS].bytes, after);
+    model_picture(STARAN_CONTENT_PICTURE, buffers[MEMORY].bytes, buffers[REGISTERS].bytes, after);
     for (int w = 0; w < WORDS; w++)
         for (uint32_t k = 0; k < n; k++)
             same &= bit(after, w, a + k) == bit(marked(marks, w) ? old : others, w, a + k);

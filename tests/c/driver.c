@@ -5,6 +5,7 @@
  *     driver modes     has lists judged and run with mode registers, and counts
  *     driver searches  builds searches over a field, runs them, and counts
  *     driver closing   builds lists that close up a field and spread it back, runs them, and counts
+ *     driver pictures  reads, writes and converts pictures of either kind, and counts
  *     driver unwritten makes calls that leave their buffers on buffers that cannot be written, and counts
  * The exit status is 0 where nothing failed. tests/c/run builds and runs it. */
 #include "closing.h"
@@ -12,6 +13,7 @@
 #include "lengths.h"
 #include "lent.h"
 #include "modes.h"
+#include "pictures.h"
 #include "replay.h"
 #include "searches.h"
 #include "unwritten.h"
@@ -35,8 +37,10 @@ int main(int count, char **words)
         return searches();
     if (count == 2 && strcmp(words[1], "closing") == 0)
         return closing();
+    if (count == 2 && strcmp(words[1], "pictures") == 0)
+        return pictures();
     if (count == 2 && strcmp(words[1], "unwritten") == 0)
         return unwritten();
-    fputs("usage: driver cases | driver lengths | driver judging | driver modes | driver searches | driver closing | driver unwritten\n", stderr);
+    fputs("usage: driver cases | driver lengths | driver judging | driver modes | driver searches | driver closing | driver pictures | driver unwritten\n", stderr);
     return 2;
 }

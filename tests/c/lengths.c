@@ -358,8 +358,10 @@ static void move_lengths(const char *name, mover *build, int spreads)
 
 /* ---- disk: kinds, file lengths, targets, damaged blocks */
 
-static const size_t kinds[] = {0, 1, 2, 3, 4, 258, 65537, 65538, 65539, (size_t)1 << 32, ((size_t)1 << 32) + 1, ((size_t)1 << 32) + 2, ((size_t)1 << 32) + 3, SIZE_MAX};
-static const size_t sizes[] = {0, 1, 7, 8, 9, 31, 32, 33, 488, 496, 504, 992, 1024, 8288, 32736, 32767, 32768, 32769, 32776, 32800, 65536};
+#define OVER_32_BITS(kind) (((size_t)1 << 32) + (kind))
+static const size_t kinds[] = {0, 1, 2, 3, 4, 5, 6, 255, 256, 257, 258, 259, 260, 65537, 65538, 65539, 65540, OVER_32_BITS(0), OVER_32_BITS(1), OVER_32_BITS(2),
+                               OVER_32_BITS(3), OVER_32_BITS(4), SIZE_MAX - 3, SIZE_MAX};
+static const size_t sizes[] = {0, 1, 7, 8, 9, 31, 32, 33, 488, 496, 504, 992, 1024, 8288, 8292, 32736, 32767, 32768, 32769, 32776, 32800, 65536};
 static uint8_t content[LONGEST], file[LONGEST];
 
 /* Reads what stands in `file` as a list or items. */
@@ -373,7 +375,7 @@ static void read_once(size_t kind, size_t length, size_t target, int end)
     lend(LIST, target, end);
     expected[0] = model_file(kind, file, length, &place, content, &size);
     expected[1] = (uint32_t)place;
-    if (expected[0] == 0 && (kind == 1 || target < size))
+    if (expected[0] == 0 && (kind == 1 || kind == 4 || target < size))
         expected[0] = 26;
     if (expected[0] == 0) {
         expected[2] = (uint32_t)size;
@@ -387,31 +389,26 @@ static void read_once(size_t kind, size_t length, size_t target, int end)
 /* Reads what stands in `file` as a picture. */
 static void read_picture_once(size_t kind, size_t length, size_t memory, size_t registers, int end)
 {
-    uint32_t expected[3] = {0, 0, 0}, *answer;
-    size_t place, size;
+    uint32_t expected[3], *answer;
     check("read_picture: kind %zu, file %zu, memory %zu, registers %zu", kind, length, memory, registers);
     nothing_lent(end);
     lend_bytes(FILE_BYTES, file, length, end);
     lend(MEMORY, memory, end);
     lend(REGISTERS, registers, end);
-    expected[0] = model_file(kind, file, length, &place, content, &size);
-    expected[1] = (uint32_t)place;
-    if (expected[0] == 0 && !(kind == 1 && memory == 8192 && registers == 96))
-        expected[0] = 26;
-    if (expected[0] == 0) {
-        expected[2] = 8288;
-        model_memory(content, buffers[MEMORY].expected);
-        memcpy(buffers[REGISTERS].expected, content + 8192, 96);
-    }
+    model_read_picture(kind, file, length, buffers[MEMORY].expected, memory, buffers[REGISTERS].expected, registers, expected);
     answer = lend_answer(3, end);
     staran_read_picture(kind, WHOLE(FILE_BYTES), WHOLE(MEMORY), WHOLE(REGISTERS), answer);
     settle(answer, 3, expected);
 }
 
-/* A file of this kind and size, whatever they are, in `file`; its length. The bytes behind it are another file's. */
+/* A file of this kind and size, whatever they are, in `file`; its length. The bytes behind it are another file's. The mode registers, where there are some, are good. */
 static size_t make_file(size_t kind, size_t size)
 {
     lend(ITEMS, size, FIRST);
+    if (kind == STARAN_CONTENT_PICTURE_WITH_MODES && size >= 8292) {
+        memcpy(buffers[ITEMS].bytes + 8288, draw_modes(), 4);
+        memcpy(buffers[ITEMS].expected, buffers[ITEMS].bytes, size);
+    }
     memset(file, 0x5A, sizeof file);
     return model_blocks(kind, buffers[ITEMS].bytes, size, file);
 }
@@ -425,7 +422,7 @@ static size_t near(size_t length, size_t i)
 
 static void read_lengths(void)
 {
-    for (size_t kind = 1; kind <= 3; kind++)
+    for (size_t kind = 1; kind <= 4; kind++)
         for (size_t s = 0; s < COUNT(sizes); s++) {
             size_t size = sizes[s] <= 34000 ? sizes[s] : 33000, length = make_file(kind, size);
             const size_t targets[] = {size, 0, 1, size - (size > 0), size + 1, 65536};
@@ -441,18 +438,22 @@ static void read_lengths(void)
 
 static void read_picture_lengths(void)
 {
-    for (size_t kind = 1; kind <= 3; kind++) {
-        size_t length = make_file(kind, kind == 1 ? 8288 : 8192);
-        for (size_t i = 0; i < 2 * COUNT(kinds); i++)
+    for (size_t kind = 1; kind <= 4; kind++) {
+        size_t length = make_file(kind, kind == 1 ? 8288 : kind == 4 ? 8292 : 8192);
+        for (size_t i = 0; i < 2 * COUNT(kinds); i++) {
             read_picture_once(kinds[i / 2], length, 8192, 96, (int)(i % 2));
+            read_picture_once(kinds[i / 2], length, 8192, 100, (int)(i % 2));
+        }
         for (size_t i = 0; near(length, i / 2) != SIZE_MAX; i++)
-            read_picture_once(kind, near(length, i / 2), 8192, 96, (int)(i % 2));
+            read_picture_once(kind, near(length, i / 2), 8192, model_registers(kind), (int)(i % 2));
         for (size_t m = 0; m < COUNT(memories); m++)
             for (size_t r = 0; r < 2 * COUNT(registers_lengths); r++)
                 read_picture_once(kind, length, memories[m], registers_lengths[r / 2], (int)(r % 2));
     }
-    for (size_t size = 8280; size <= 8296; size++)
+    for (size_t size = 8280; size <= 8300; size++) {
         read_picture_once(1, make_file(1, size), 8192, 96, (int)(size % 2));
+        read_picture_once(4, make_file(4, size), 8192, 100, (int)(size % 2));
+    }
     function("read_picture");
 }
 
@@ -461,11 +462,14 @@ static void damaged_blocks(void)
 {
     static const size_t parts[] = {0, 1, 2, 3, 4, 5, 6, 7, 8, 11, 12, 255, 507, 508, 510, 511};
     for (size_t i = 0; i < 17 * COUNT(parts) * 2; i++) {
-        size_t block = i / 2 / COUNT(parts), part = parts[i / 2 % COUNT(parts)], length = make_file(STARAN_CONTENT_PICTURE, 8288);
-        file[512 * block + part] ^= 1;
-        if (i % 2 == 1)
-            model_seal(file + 512 * block);
-        read_picture_once(STARAN_CONTENT_PICTURE, length, 8192, 96, (int)(block % 2));
+        size_t block = i / 2 / COUNT(parts), part = parts[i / 2 % COUNT(parts)], length;
+        for (size_t kind = 1; kind <= 4; kind += 3) {
+            length = make_file(kind, 8192 + model_registers(kind));
+            file[512 * block + part] ^= 1;
+            if (i % 2 == 1)
+                model_seal(file + 512 * block);
+            read_picture_once(kind, length, 8192, model_registers(kind), (int)(block % 2));
+        }
         length = make_file(STARAN_CONTENT_LIST, 8288);
         file[512 * block + part] ^= 1;
         if (i % 2 == 1)
@@ -483,9 +487,9 @@ static void write_once(size_t kind, size_t size, size_t out, int end)
     nothing_lent(end);
     lend(LIST, size, end);
     lend(FILE_BYTES, out, end);
-    if (kind < 1 || kind > 3)
+    if (kind < 1 || kind > 4)
         expected[0] = 22;
-    else if (kind == 1 || !model_fits(kind, size))
+    else if (kind == 1 || kind == 4 || !model_fits(kind, size))
         expected[0] = 26;
     else if (out < need)
         expected[0] = 27;
@@ -510,22 +514,13 @@ static void write_lengths(void)
 
 static void write_picture_once(size_t kind, size_t memory, size_t registers, size_t out, int end)
 {
-    uint32_t expected[3] = {0, 0, 0}, *answer;
+    uint32_t expected[3], *answer;
     check("write_picture: kind %zu, memory %zu, registers %zu, out %zu", kind, memory, registers, out);
     nothing_lent(end);
     lend(MEMORY, memory, end);
-    lend(REGISTERS, registers, end);
+    lend_registers(draw_modes(), registers, end);
     lend(FILE_BYTES, out, end);
-    if (kind < 1 || kind > 3)
-        expected[0] = 22;
-    else if (kind != 1 || memory != 8192 || registers != 96)
-        expected[0] = 26;
-    else if (out < STARAN_PICTURE_FILE_BYTES)
-        expected[0] = 27;
-    else {
-        model_picture(buffers[MEMORY].bytes, buffers[REGISTERS].bytes, content);
-        expected[2] = (uint32_t)model_blocks(kind, content, 8288, buffers[FILE_BYTES].expected);
-    }
+    model_write_picture(kind, buffers[MEMORY].bytes, memory, buffers[REGISTERS].bytes, registers, buffers[FILE_BYTES].expected, out, expected);
     answer = lend_answer(3, end);
     staran_write_picture(kind, WHOLE(MEMORY), WHOLE(REGISTERS), WHOLE(FILE_BYTES), answer);
     settle(answer, 3, expected);
@@ -536,13 +531,16 @@ static void write_picture_lengths(void)
     static const size_t outs[] = {0, 1, 8191, 8192, 8288, 8703, 8704, 8705, 65536};
     for (int end = 0; end < ENDS; end++) {
         for (size_t k = 0; k < COUNT(kinds); k++)
-            for (size_t o = 0; o < COUNT(outs); o++)
+            for (size_t o = 0; o < COUNT(outs); o++) {
                 write_picture_once(kinds[k], 8192, 96, outs[o], end);
+                write_picture_once(kinds[k], 8192, 100, outs[o], end);
+            }
         for (size_t m = 0; m < COUNT(memories); m++)
             for (size_t r = 0; r < COUNT(registers_lengths); r++)
-                for (size_t o = 0; o < COUNT(outs); o++)
-                    if (memories[m] != 8192 || registers_lengths[r] != 96)
-                        write_picture_once(STARAN_CONTENT_PICTURE, memories[m], registers_lengths[r], outs[o], end);
+                for (size_t o = 0; o < COUNT(outs); o++) {
+                    write_picture_once(STARAN_CONTENT_PICTURE, memories[m], registers_lengths[r], outs[o], end);
+                    write_picture_once(STARAN_CONTENT_PICTURE_WITH_MODES, memories[m], registers_lengths[r], outs[o], end);
+                }
     }
     function("write_picture");
 }
@@ -564,6 +562,35 @@ static uint8_t *reserve(size_t length, int writable)
         staran_##call;                                                                                                                     \
         settle(answer, n, expected);                                                                                                       \
     } while (0)
+
+/* Pictures of kind 4, and conversions. What comes before 27 is given though the output is long. */
+static void pictures_refused_long(uint8_t *far, size_t long_by)
+{
+    static const uint8_t a_set[4] = {1, 255, 0, 0}, wrong_flag[4] = {0, 0, 2, 0};
+    enum { WITH_MODES = STARAN_CONTENT_PICTURE_WITH_MODES };
+    nothing_lent(LAST);
+    lend(MEMORY, 8192, LAST);
+    lend_registers(a_set, 100, LAST);
+    lend(OUT, 8704, LAST);
+    LONG_CALL(read_picture(WITH_MODES, far, long_by + 8704, WHOLE(MEMORY), WHOLE(REGISTERS), answer), 3, 20);
+    LONG_CALL(write_picture(WITH_MODES, far, long_by + 8192, WHOLE(REGISTERS), WHOLE(OUT), answer), 3, 26);
+    LONG_CALL(write_picture(WITH_MODES, WHOLE(MEMORY), far, long_by + 100, WHOLE(OUT), answer), 3, 26);
+    LONG_CALL(picture_to_new(far, long_by + 8704, WHOLE(OUT), answer), 3, 20);
+    LONG_CALL(picture_to_old(far, long_by + 8704, WHOLE(OUT), answer), 3, 20);
+    lend_bytes(FILE_BYTES, file, make_file(WITH_MODES, 8292), LAST);
+    LONG_CALL(read_picture(WITH_MODES, WHOLE(FILE_BYTES), far, long_by + 8192, WHOLE(REGISTERS), answer), 3, 26);
+    LONG_CALL(read_picture(WITH_MODES, WHOLE(FILE_BYTES), WHOLE(MEMORY), far, long_by + 100, answer), 3, 26);
+    LONG_CALL(picture_to_new(WHOLE(FILE_BYTES), far, long_by + 8704, answer), 3, 22);
+    for (int set = 0; set < 2; set++) {
+        make_file(WITH_MODES, 8292);
+        memcpy(buffers[ITEMS].bytes + 8288, set ? a_set : wrong_flag, 4);
+        lend_bytes(FILE_BYTES, file, model_blocks(WITH_MODES, buffers[ITEMS].bytes, 8292, file), LAST);
+        lend(ITEMS, 0, LAST);
+        LONG_CALL(picture_to_old(WHOLE(FILE_BYTES), far, long_by + 8704, answer), 3, set ? 28 : 15);
+    }
+    lend_registers(wrong_flag, 100, LAST);
+    LONG_CALL(write_picture(WITH_MODES, WHOLE(MEMORY), WHOLE(REGISTERS), far, long_by, answer), 3, 15);
+}
 
 static void refused_long(uint8_t *far, size_t long_by)
 {
@@ -680,6 +707,30 @@ static void moved_long(uint8_t *far, size_t long_by, uint8_t *made)
     }
 }
 
+/* A picture of either kind written to a long output, and made one of the other there. */
+static void pictures_long(uint8_t *far, size_t long_by, uint8_t *made)
+{
+    static const uint8_t unset[4];
+    static uint8_t converted[STARAN_PICTURE_FILE_BYTES];
+    uint32_t known[3];
+    nothing_lent(LAST);
+    for (size_t kind = 1; kind <= 4; kind += 3) {
+        lend(MEMORY, 8192, LAST);
+        lend_registers(unset, model_registers(kind), LAST);
+        lend(FILE_BYTES, 0, LAST);
+        model_write_picture(kind, WHOLE(MEMORY), WHOLE(REGISTERS), made, 8704, known);
+        LONG_CALL(write_picture(kind, WHOLE(MEMORY), WHOLE(REGISTERS), far, long_by + (kind == 1 ? 0 : 8703), answer), 3, 0, 0, 8704);
+        written_long(far, long_by, made, 8704);
+        lend_bytes(FILE_BYTES, made, 8704, LAST);
+        model_convert(kind == 4, made, 8704, converted, sizeof converted, known);
+        if (kind == 1)
+            LONG_CALL(picture_to_new(WHOLE(FILE_BYTES), far, long_by + 8703, answer), 3, 0, 0, 8704);
+        else
+            LONG_CALL(picture_to_old(WHOLE(FILE_BYTES), far, long_by, answer), 3, 0, 0, 8704);
+        written_long(far, long_by, converted, 8704);
+    }
+}
+
 /* Where any length will do, a long one is no refusal. */
 static void done_long(uint8_t *far, size_t long_by)
 {
@@ -694,12 +745,8 @@ static void done_long(uint8_t *far, size_t long_by)
     model_blocks(STARAN_CONTENT_LIST, buffers[LIST].bytes, 1024, made);
     LONG_CALL(write_content(STARAN_CONTENT_LIST, WHOLE(LIST), far, long_by, answer), 3, 0, 0, 1536);
     written_long(far, long_by, made, 1536);
+    pictures_long(far, long_by, made);
     lend(MEMORY, 8192, LAST);
-    lend(REGISTERS, 96, LAST);
-    model_picture(buffers[MEMORY].bytes, buffers[REGISTERS].bytes, content);
-    model_blocks(STARAN_CONTENT_PICTURE, content, 8288, made);
-    LONG_CALL(write_picture(STARAN_CONTENT_PICTURE, WHOLE(MEMORY), WHOLE(REGISTERS), far, long_by, answer), 3, 0, 0, 8704);
-    written_long(far, long_by, made, 8704);
     lend_registers(draw_modes(), 100, LAST);
     lend(ITEMS, 32, LAST);
     lend_bytes(LIST, deliver_outside, 8, LAST);
@@ -727,6 +774,7 @@ static void long_lengths(void)
         return;
     }
     refused_long(closed, long_by);
+    pictures_refused_long(closed, long_by);
     done_long(open, long_by);
     munmap(closed, long_by + 65536);
     munmap(open, long_by + 65536);

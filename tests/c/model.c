@@ -345,14 +345,16 @@ static unsigned block_fault(size_t kind, const uint8_t *block, size_t place, siz
 
 int model_fits(size_t kind, size_t size)
 {
-    return kind == 1 ? size == 8288 : size % (kind == 2 ? 8 : 32) == 0 && size <= 32768;
+    if (kind == 1 || kind == 4)
+        return size == 8192 + model_registers(kind);
+    return size % (kind == 2 ? 8 : 32) == 0 && size <= 32768;
 }
 
 unsigned model_file(size_t kind, const uint8_t *file, size_t length, size_t *place, uint8_t *content, size_t *size)
 {
     *place = 0;
     *size = 0;
-    if (kind < 1 || kind > 3)
+    if (kind < 1 || kind > 4)
         return 22;
     if (length == 0 || length % 512 != 0 || length > 34304)
         return 20;
@@ -372,12 +374,15 @@ unsigned model_file(size_t kind, const uint8_t *file, size_t length, size_t *pla
 /* Bit b of word w is location b of chip b xor w. */
 static size_t cell(size_t w, size_t b) { return 256 * (b ^ w) + b; }
 
-void model_picture(const uint8_t *memory, const uint8_t *registers, uint8_t *content)
+size_t model_registers(size_t kind) { return kind == 4 ? 100 : 96; }
+
+size_t model_picture(size_t kind, const uint8_t *memory, const uint8_t *registers, uint8_t *content)
 {
     for (size_t w = 0; w < 256; w++)
         for (size_t b = 0; b < 256; b++)
             set(content, 256 * w + b, bit(memory, cell(w, b)));
-    memcpy(content + 8192, registers, 96); /* not the mode registers */
+    memcpy(content + 8192, registers, model_registers(kind));
+    return 8192 + model_registers(kind);
 }
 
 void model_memory(const uint8_t *content, uint8_t *memory)
@@ -387,17 +392,81 @@ void model_memory(const uint8_t *content, uint8_t *memory)
             set(memory, cell(w, b), bit(content, 256 * w + b));
 }
 
-/* ---- a run: what it is lent is judged, then each instruction; then line by line */
+/* ---- pictures: of either kind by way of the content, also where one is made of the other */
 
-enum { NUMBER, PLACE, BYTE, STEPS, TAKEN, GIVEN, NUMBERS };
+enum { LONGEST_FILE = 34304 };
+static uint8_t content[LONGEST_FILE];
 
-static int wrong_modes(const uint8_t modes[4])
+int model_wrong_modes(const uint8_t modes[4])
 {
     for (size_t r = 0; r < 4; r += 2)
         if (modes[r] > 1 || (modes[r] == 0 && modes[r + 1] != 0))
             return 1;
     return 0;
 }
+
+static int picture_fits(size_t kind, size_t memory_length, size_t registers_length)
+{
+    return (kind == 1 || kind == 4) && memory_length == 8192 && registers_length == model_registers(kind);
+}
+
+static void give(uint32_t answer[3], size_t number, size_t place, size_t bytes)
+{
+    answer[0] = (uint32_t)number;
+    answer[1] = (uint32_t)place;
+    answer[2] = (uint32_t)bytes;
+}
+
+void model_read_picture(size_t kind, const uint8_t *file, size_t length, uint8_t *memory, size_t memory_length, uint8_t *registers, size_t registers_length, uint32_t answer[3])
+{
+    size_t place, size;
+    unsigned number = model_file(kind, file, length, &place, content, &size);
+    if (number == 0 && !picture_fits(kind, memory_length, registers_length))
+        number = 26;
+    if (number == 0 && kind == 4 && model_wrong_modes(content + 8288))
+        number = 15;
+    give(answer, number, place, number == 0 ? size : 0);
+    if (number != 0)
+        return;
+    model_memory(content, memory);
+    memcpy(registers, content + 8192, registers_length);
+}
+
+void model_write_picture(size_t kind, const uint8_t *memory, size_t memory_length, const uint8_t *registers, size_t registers_length, uint8_t *out, size_t out_length,
+                         uint32_t answer[3])
+{
+    if (kind < 1 || kind > 4)
+        give(answer, 22, 0, 0);
+    else if (!picture_fits(kind, memory_length, registers_length))
+        give(answer, 26, 0, 0);
+    else if (kind == 4 && model_wrong_modes(registers + 96))
+        give(answer, 15, 0, 0);
+    else if (out_length < 8704)
+        give(answer, 27, 0, 0);
+    else
+        give(answer, 0, 0, model_blocks(kind, content, model_picture(kind, memory, registers, content), out));
+}
+
+void model_convert(int old, const uint8_t *file, size_t length, uint8_t *out, size_t out_length, uint32_t answer[3])
+{
+    size_t place, size;
+    unsigned number = model_file(old ? 4 : 1, file, length, &place, content, &size);
+    if (number == 0 && old && model_wrong_modes(content + 8288))
+        number = 15;
+    if (number == 0 && old && (content[8288] == 1 || content[8290] == 1))
+        number = 28;
+    if (number == 0 && out_length < 8704)
+        number = 27;
+    give(answer, number, place, 0);
+    if (number != 0)
+        return;
+    memset(content + 8288, 0, 4);
+    answer[2] = (uint32_t)model_blocks(old ? 1 : 4, content, old ? 8288 : 8292, out);
+}
+
+/* ---- a run: what it is lent is judged, then each instruction; then line by line */
+
+enum { NUMBER, PLACE, BYTE, STEPS, TAKEN, GIVEN, NUMBERS };
 
 /* Kind 6 sets the register of its tag to byte 3. */
 static void set_mode(const uint8_t *i, uint8_t modes[4])
@@ -418,7 +487,7 @@ static unsigned lent_wrong(int step, const model_lent *l)
         return 3;
     if (l->items_length % 32 != 0 || l->items_length > 32768)
         return 4;
-    return wrong_modes(l->registers + 96) ? 15 : 0;
+    return model_wrong_modes(l->registers + 96) ? 15 : 0;
 }
 
 /* The first instruction of those that `want` an item or room, 32 bytes each, that finds less than that; or how many there are. */

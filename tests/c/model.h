@@ -42,9 +42,21 @@ unsigned model_file(size_t kind, const uint8_t *file, size_t length, size_t *pla
 /* Does a content of this size fit its kind? */
 int model_fits(size_t kind, size_t size);
 
-/* A picture's content from memory and registers, and the memory from a content. */
-void model_picture(const uint8_t *memory, const uint8_t *registers, uint8_t *content);
+/* How many register bytes a picture of this kind has. */
+size_t model_registers(size_t kind);
+
+/* A picture's content from memory and registers, and its size; and the memory from a content. */
+size_t model_picture(size_t kind, const uint8_t *memory, const uint8_t *registers, uint8_t *content);
 void model_memory(const uint8_t *content, uint8_t *memory);
+
+/* Is a flag over 1, or a mode not 0 behind flag 0? */
+int model_wrong_modes(const uint8_t modes[4]);
+
+/* What reading, writing and converting a picture answers, and what it leaves in its targets or its output. `old` is 0 for old to new, 1 for new to old. */
+void model_read_picture(size_t kind, const uint8_t *file, size_t length, uint8_t *memory, size_t memory_length, uint8_t *registers, size_t registers_length, uint32_t answer[3]);
+void model_write_picture(size_t kind, const uint8_t *memory, size_t memory_length, const uint8_t *registers, size_t registers_length, uint8_t *out, size_t out_length,
+                         uint32_t answer[3]);
+void model_convert(int old, const uint8_t *file, size_t length, uint8_t *out, size_t out_length, uint32_t answer[3]);
 
 /* What a run is lent. */
 typedef struct {

@@ -9,7 +9,7 @@
 #include <string.h>
 
 enum { RECORD = 1000, FEWEST_NUMBERS = 5, NUMBERS = 3 + STARAN_RUN_NUMBERS, COUNT = 6, WORDS = NUMBERS + COUNT, REPEAT = 254, SEAL = 255 };
-enum { RUN, STEP, SUM_RUN = 10, DIFFERENCE_RUN, EQUAL_RUN, LESS_RUN, GREATEST_RUN, CLOSING_RUN, SPREADING_RUN, KINDS };
+enum { RUN, STEP, SUM_RUN = 10, DIFFERENCE_RUN, EQUAL_RUN, LESS_RUN, GREATEST_RUN, CLOSING_RUN, SPREADING_RUN, READ_PICTURE, WRITE_PICTURE, MADE_NEW, MADE_OLD, KINDS };
 
 /* A case, taken apart: every kind that is known here has COUNT buffers and at most four parameters. */
 typedef struct {
@@ -22,9 +22,9 @@ typedef struct {
 static int numbers(const outside_case *c)
 {
     const int kind = c->record[0];
-    if (kind >= EQUAL_RUN)
+    if (kind >= EQUAL_RUN && kind <= SPREADING_RUN)
         return NUMBERS;
-    return kind >= SUM_RUN || kind <= STEP ? STARAN_RUN_NUMBERS : FEWEST_NUMBERS;
+    return kind == SUM_RUN || kind == DIFFERENCE_RUN || kind <= STEP ? STARAN_RUN_NUMBERS : FEWEST_NUMBERS;
 }
 
 /* Where buffer k stands in a record: two bytes of its length, and whether it is filled with zeros. */
@@ -159,7 +159,8 @@ static int make_buffers(const outside_case *c, int end)
     if (c->record[1] != 0)
         for (size_t i = 0; i + 8 <= buffers[LIST].length; i += 8)
             shape_one(buffers[LIST].bytes + i, c->record[1]);
-    if ((c->record[0] == 6 || c->record[0] == 7) && c->p[3] == 1)
+    const int kind = c->record[0], has_file = kind == 6 || kind == 7 || kind == READ_PICTURE || kind == MADE_NEW || kind == MADE_OLD;
+    if (has_file && c->p[3] == 1)
         format(c);
     if (!patch(c))
         return 0;
@@ -206,8 +207,9 @@ static unsigned call(const outside_case *c, int end, uint32_t words[WORDS])
         memcpy(words, a, 12);
         return 1u << LIST;
     case 7:
+    case READ_PICTURE:
         a = lend_answer(3, end);
-        staran_read_picture(STARAN_CONTENT_PICTURE, WHOLE(FILE_BYTES), WHOLE(MEMORY), WHOLE(REGISTERS), a);
+        staran_read_picture(kind == 7 ? STARAN_CONTENT_PICTURE : p[0], WHOLE(FILE_BYTES), WHOLE(MEMORY), WHOLE(REGISTERS), a);
         memcpy(words, a, 12);
         return 1u << MEMORY | 1u << REGISTERS;
     case 8:
@@ -232,9 +234,15 @@ static unsigned call(const outside_case *c, int end, uint32_t words[WORDS])
         (kind == CLOSING_RUN ? staran_closing_list : staran_spreading_list)(p[0], p[1], p[2], WHOLE(FILE_BYTES), WHOLE(LIST), WHOLE(ITEMS), a);
         memcpy(words, a, 12);
         return 1u << LIST | 1u << ITEMS;
+    case MADE_NEW:
+    case MADE_OLD:
+        a = lend_answer(3, end);
+        (kind == MADE_NEW ? staran_picture_to_new : staran_picture_to_old)(WHOLE(FILE_BYTES), WHOLE(LIST), a);
+        memcpy(words, a, 12);
+        return 1u << LIST;
     default:
         a = lend_answer(3, end);
-        staran_write_picture(STARAN_CONTENT_PICTURE, WHOLE(MEMORY), WHOLE(REGISTERS), WHOLE(FILE_BYTES), a);
+        staran_write_picture(kind == 9 ? STARAN_CONTENT_PICTURE : p[0], WHOLE(MEMORY), WHOLE(REGISTERS), WHOLE(FILE_BYTES), a);
         memcpy(words, a, 12);
         return 1u << FILE_BYTES;
     }
@@ -284,7 +292,7 @@ static const char *run_case(const outside_case *c, int end, uint32_t words[WORDS
     const char *wrong = disturbed(call(c, end, words));
     int kind = c->record[0];
     size_t left_out[COUNT] = {0}; /* of each buffer at its front what no document fixes, which is not digested */
-    if (wrong == NULL && kind >= EQUAL_RUN && words[0] == 0) {
+    if (wrong == NULL && kind >= EQUAL_RUN && kind <= SPREADING_RUN && words[0] == 0) {
         wrong = run_built(end, words[1], words + 3);
         left_out[LIST] = words[1];
         if (kind >= CLOSING_RUN) {

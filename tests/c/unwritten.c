@@ -3,7 +3,10 @@
 
 #include "checks.h"
 #include "lent.h"
+#include "model.h"
 #include "staran.h"
+
+#include <string.h>
 
 /* The answer must be these numbers. */
 static void expect(const uint32_t *answer, size_t n, const uint32_t *expected)
@@ -39,9 +42,9 @@ static void call_with(const uint8_t modes[4], const char *name, const uint8_t *l
 }
 
 /* With neither mode register set. */
+static const uint8_t unset[4];
 static void call(const char *name, const uint8_t *list, size_t length, size_t items, size_t out, uint32_t number, uint32_t place, uint32_t byte)
 {
-    static const uint8_t unset[4];
     call_with(unset, name, list, length, items, out, number, place, byte);
 }
 
@@ -156,10 +159,114 @@ static void closings(const char *name, size_t marks, uint32_t a, uint32_t s, uin
     }
 }
 
+/* ---- pictures: a file of this kind and size with these mode registers, of which block 16 has one byte altered, by `by`, and is sealed again or not */
+
+enum { OLD = STARAN_CONTENT_PICTURE, NEW = STARAN_CONTENT_PICTURE_WITH_MODES, OLD_BYTES = 8288, NEW_BYTES = 8292 };
+static const uint8_t set[4] = {0, 0, 1, 0}, wrong_flag[4] = {1, 255, 2, 0};
+static uint8_t file[STARAN_PICTURE_FILE_BYTES];
+
+static void make_picture(size_t kind, size_t size, const uint8_t modes[4], size_t byte, uint8_t by, int sealed)
+{
+    static uint8_t content[NEW_BYTES + 1];
+    for (size_t i = 0; i < sizeof content; i++)
+        content[i] = (uint8_t)(i * 59 + 1);
+    memcpy(content + OLD_BYTES, modes, 4);
+    model_blocks(kind, content, size, file);
+    file[512 * 16 + byte] ^= by;
+    if (sealed)
+        model_seal(file + 512 * 16);
+}
+
+/* Reads `file` as this kind, unless `registers` is 0, and where `converts` takes it for a conversion from this kind: each must be refused so. */
+static void refused_file(const char *name, size_t kind, size_t length, size_t registers, int converts, size_t out, uint32_t number, uint32_t place)
+{
+    const uint32_t expected[STARAN_DISK_NUMBERS] = {number, place, 0};
+    for (int end = 0; end < ENDS; end++) {
+        lend_bytes(FILE_BYTES, file, length, end);
+        lend(MEMORY, STARAN_MEMORY_BYTES, end);
+        lend(REGISTERS, registers, end);
+        lend(OUT, out, end);
+        uint32_t *answer = lend_answer(STARAN_DISK_NUMBERS, end);
+        shut_rooms();
+        if (registers != 0) {
+            check("reading that writes nothing: %s", name);
+            staran_read_picture(kind, WHOLE(FILE_BYTES), WHOLE(MEMORY), WHOLE(REGISTERS), answer);
+            expect(answer, STARAN_DISK_NUMBERS, expected);
+        }
+        if (converts) {
+            check("conversion that writes nothing: %s", name);
+            answer = lend_answer(STARAN_DISK_NUMBERS, end);
+            (kind == NEW ? staran_picture_to_old : staran_picture_to_new)(WHOLE(FILE_BYTES), WHOLE(OUT), answer);
+            expect(answer, STARAN_DISK_NUMBERS, expected);
+        }
+        open_rooms();
+    }
+}
+
+static void pictures(void)
+{
+    const size_t whole = STARAN_PICTURE_FILE_BYTES;
+    for (size_t kind = OLD; kind <= NEW; kind += NEW - OLD) {
+        const size_t size = kind == NEW ? NEW_BYTES : OLD_BYTES, registers = size - STARAN_MEMORY_BYTES;
+        make_picture(kind, size, unset, 20, 0, 1);
+        refused_file("no kind", 5, whole, registers, 0, whole, STARAN_REFUSED_BLOCK_KIND, 0);
+        refused_file("a byte too few", kind, whole - 1, registers, 1, whole, STARAN_REFUSED_FILE_LENGTH, 0);
+        refused_file("a block too few", kind, whole - 512, registers, 1, whole, STARAN_REFUSED_BLOCK_NUMBER, 0);
+        refused_file("the other kind", OLD + NEW - kind, whole, OLD + NEW - kind == NEW ? 100 : 96, 1, whole, STARAN_REFUSED_BLOCK_KIND, 0);
+        refused_file("registers of the other kind", kind, whole, kind == NEW ? 96 : 100, 0, whole, STARAN_REFUSED_LENT_LENGTH, 0);
+        refused_file("an output too short", kind, whole, 0, 1, whole - 1, STARAN_REFUSED_OUTPUT_TOO_SHORT, 0);
+        make_picture(kind, size, unset, 20, 1, 0);
+        refused_file("other sums", kind, whole, registers, 1, whole, STARAN_REFUSED_BLOCK_SUMS, 16);
+        make_picture(kind, size, unset, 0, 8, 1);
+        refused_file("a block of another kind", kind, whole, registers, 1, whole, STARAN_REFUSED_BLOCK_KIND, 16);
+        make_picture(kind, size, unset, 368, 1, 1);
+        refused_file("a byte that must be 0", kind, whole, registers, 1, whole, STARAN_REFUSED_BLOCK_FORM, 16);
+        make_picture(kind, size + 1, unset, 20, 0, 1);
+        refused_file("a byte more", kind, whole, registers, 1, whole, STARAN_REFUSED_CONTENT_SIZE, 0);
+    }
+    make_picture(NEW, NEW_BYTES, wrong_flag, 20, 0, 1);
+    refused_file("a flag over 1", NEW, whole, 100, 1, whole, STARAN_REFUSED_MODE_REGISTERS, 0);
+    make_picture(NEW, NEW_BYTES, set, 20, 0, 1);
+    refused_file("a mode register set", NEW, whole, 0, 1, whole, STARAN_REFUSED_MODE_SET, 0);
+}
+
+static void refused_writing(const char *name, size_t kind, size_t memory, size_t registers, const uint8_t modes[4], size_t out, uint32_t number)
+{
+    const uint32_t expected[STARAN_DISK_NUMBERS] = {number, 0, 0};
+    for (int end = 0; end < ENDS; end++) {
+        lend(MEMORY, memory, end);
+        lend_registers(modes, registers, end);
+        lend(OUT, out, end);
+        uint32_t *answer = lend_answer(STARAN_DISK_NUMBERS, end);
+        shut_rooms();
+        check("writing a picture that writes nothing: %s", name);
+        staran_write_picture(kind, WHOLE(MEMORY), WHOLE(REGISTERS), WHOLE(OUT), answer);
+        expect(answer, STARAN_DISK_NUMBERS, expected);
+        open_rooms();
+    }
+}
+
+static void written_pictures(void)
+{
+    const size_t whole = STARAN_PICTURE_FILE_BYTES;
+    refused_writing("kind 0", 0, 8192, 96, unset, whole, STARAN_REFUSED_BLOCK_KIND);
+    refused_writing("kind 5", 5, 8192, 100, wrong_flag, whole, STARAN_REFUSED_BLOCK_KIND);
+    refused_writing("a list", STARAN_CONTENT_LIST, 8192, 96, unset, whole, STARAN_REFUSED_LENT_LENGTH);
+    refused_writing("kind 1 with 100 registers", OLD, 8192, 100, unset, whole, STARAN_REFUSED_LENT_LENGTH);
+    refused_writing("kind 4 with 96 registers", NEW, 8192, 96, unset, whole, STARAN_REFUSED_LENT_LENGTH);
+    refused_writing("a memory too short", NEW, 8191, 100, wrong_flag, whole, STARAN_REFUSED_LENT_LENGTH);
+    refused_writing("a flag over 1", NEW, 8192, 100, wrong_flag, whole, STARAN_REFUSED_MODE_REGISTERS);
+    refused_writing("a flag over 1, and an output too short", NEW, 8192, 100, wrong_flag, whole - 1, STARAN_REFUSED_MODE_REGISTERS);
+    refused_writing("an output too short for kind 1", OLD, 8192, 96, unset, whole - 1, STARAN_REFUSED_OUTPUT_TOO_SHORT);
+    refused_writing("an output too short for kind 4", NEW, 8192, 100, set, whole - 1, STARAN_REFUSED_OUTPUT_TOO_SHORT);
+}
+
 int unwritten(void)
 {
     instructions();
     mode_registers();
+    pictures();
+    written_pictures();
     sums("a width of 0", 0, 0, 0, 0, STARAN_REFUSED_WIDTH);
     sums("a width of 65", 0, 65, 65, 0, STARAN_REFUSED_WIDTH);
     sums("a field beyond the word", 0, 193, 64, 0, STARAN_REFUSED_FIELD_BEYOND);

@@ -16,6 +16,7 @@ static const uint64_t NUMBER = 0x5A3C96E1;
 
 static uint8_t memory[STARAN_MEMORY_BYTES], registers[STARAN_REGISTERS_BYTES], out[STARAN_ITEM_BYTES * GIVEN];
 static uint8_t list[STARAN_SUM_LIST_BYTES(WIDTH)], many[LONGEST], content[LIST], target[LIST], file[STARAN_FILE_BYTES(LIST)], picture[STARAN_PICTURE_FILE_BYTES];
+static uint8_t with_modes[STARAN_PICTURE_FILE_BYTES], converted[STARAN_PICTURE_FILE_BYTES]; /* a picture of kind 4, and what a conversion puts out */
 static uint8_t equal[STARAN_SEARCH_LIST_BYTES(WIDTH)], less[STARAN_SEARCH_LIST_BYTES(WIDTH)], greatest[STARAN_GREATEST_LIST_BYTES(WIDTH)];
 static uint8_t searched[STARAN_SEARCH_ITEMS_BYTES(WIDTH)]; /* the items of equal and of less: the same number */
 static uint8_t marks[STARAN_ITEM_BYTES], closing[STARAN_CLOSING_LIST_BYTES(WIDTH)], closing_items[STARAN_CLOSING_ITEMS_BYTES];
@@ -35,6 +36,17 @@ static void spreading_list(void)
 {
     staran_spreading_list(0, 32, WIDTH, marks, sizeof marks, spreading, sizeof spreading, spreading_items, sizeof spreading_items, answer);
 }
+
+static void write_with_modes(void)
+{
+    staran_write_picture(STARAN_CONTENT_PICTURE_WITH_MODES, memory, sizeof memory, registers, sizeof registers, with_modes, sizeof with_modes, answer);
+}
+static void read_with_modes(void)
+{
+    staran_read_picture(STARAN_CONTENT_PICTURE_WITH_MODES, with_modes, sizeof with_modes, memory, sizeof memory, registers, sizeof registers, answer);
+}
+static void to_new(void) { staran_picture_to_new(picture, sizeof picture, converted, sizeof converted, answer); }
+static void to_old(void) { staran_picture_to_old(with_modes, sizeof with_modes, converted, sizeof converted, answer); }
 
 /* What the calls start from: no two neighbouring bytes are alike, and the files are whole. */
 static void prepare(void)
@@ -56,6 +68,7 @@ static void prepare(void)
     many[sizeof many - 1] = 0x50; /* a choice over 4, or byte 7 of a store: 11 in any kind */
     staran_write_content(STARAN_CONTENT_LIST, content, sizeof content, file, sizeof file, answer);
     staran_write_picture(STARAN_CONTENT_PICTURE, memory, sizeof memory, registers, STARAN_PICTURE_REGISTERS_BYTES, picture, sizeof picture, answer);
+    write_with_modes();
 }
 
 /* The list of `count` times the instruction that 16 hex digits say. */
@@ -91,7 +104,8 @@ static void (*later_named(const char *name))(void)
         void (*call)(void);
     } later[] = {{"equal-list", equal_list},         {"run-equal", run_equal},       {"less-list", less_list},       {"run-less", run_less},
                  {"greatest-list", greatest_list},   {"run-greatest", run_greatest}, {"closing-list", closing_list}, {"run-closing", run_closing},
-                 {"spreading-list", spreading_list}, {"run-spreading", run_spreading}};
+                 {"spreading-list", spreading_list}, {"run-spreading", run_spreading},
+                 {"read-with-modes", read_with_modes}, {"write-with-modes", write_with_modes}, {"to-new", to_new}, {"to-old", to_old}};
     for (size_t i = 0; i < sizeof later / sizeof *later; i++)
         if (strcmp(name, later[i].name) == 0)
             return later[i].call;

@@ -122,9 +122,11 @@ static void make_marks(void)
 static void closing_list(size_t k) { CALL(staran_closing_list, MOVED(k)); }
 static void spreading_list(size_t k) { CALL(staran_spreading_list, MOVED(k)); }
 
-/* ---- files: what one of the two readers or writers takes, the other refuses. Kind 1 is a picture, 2 a list, 3 items */
+/* ---- files: what one of the two readers or writers takes, the other refuses, and so with the conversions. Kinds 1 and 4 are pictures, 2 a list, 3 items. Of kind 4 there is
+ * one picture with neither mode register set, one with A set, and one with a flag over 1. OTHER_ and a kind is a block of that kind, of 24 bytes, which are no picture */
 
-enum { PICTURE, LONG, SHORT, NONE, ITEMS, OTHER_SUMS, OTHER_PLACE, OTHER_FORM, OTHER_KIND, FILES };
+enum { PICTURE, WITH_MODES, MODE_SET, WRONG_FLAG, LONG, SHORT, NONE, ITEMS, OTHER_SUMS, OTHER_PLACE, OTHER_FORM, OTHER_KIND };
+enum { OTHER_1 = OTHER_KIND + 1, OTHER_PLACE_1, OTHER_FORM_1, OTHER_4, OTHER_PLACE_4, OTHER_FORM_4, FILES };
 static uint8_t files[FILES][STARAN_PICTURE_FILE_BYTES];
 static size_t lengths[FILES];
 static const struct {
@@ -132,11 +134,23 @@ static const struct {
 } reads[] = {{1, PICTURE, 0, 0, 0},    {1, PICTURE, 0, 1, 0},     {1, PICTURE, 0, 0, 1},    {2, LONG, 0, 0, 0},
              {2, LONG, 0, 1, 0},       {2, SHORT, 0, 0, 0},       {2, NONE, 0, 0, 0},       {3, ITEMS, 0, 0, 0},
              {0, SHORT, 0, 0, 0},      {2, SHORT, BLOCK, 0, 0},   {2, SHORT, 1, 0, 0},      {3, SHORT, 0, 0, 0},
-             {2, OTHER_SUMS, 0, 0, 0}, {2, OTHER_PLACE, 0, 0, 0}, {2, OTHER_FORM, 0, 0, 0}, {3, OTHER_KIND, 0, 0, 0}};
+             {2, OTHER_SUMS, 0, 0, 0}, {2, OTHER_PLACE, 0, 0, 0}, {2, OTHER_FORM, 0, 0, 0}, {3, OTHER_KIND, 0, 0, 0},
+             {4, WITH_MODES, 0, 0, 0}, {4, WITH_MODES, 0, 1, 0},  {4, WITH_MODES, 0, 0, 4}, {4, MODE_SET, 0, 0, 0},
+             {4, WRONG_FLAG, 0, 0, 0}, {4, PICTURE, 0, 0, 0},     {1, WITH_MODES, 0, 0, 0}, {5, WITH_MODES, 0, 0, 0},
+             {4, OTHER_4, 0, 0, 0},    {1, OTHER_1, 0, 0, 0}};
 static const struct {
     size_t kind, memory, registers, out;
-} writes[] = {{1, 0, 0, 0}, {1, 1, 0, 0}, {1, 0, 1, 0}, {1, 0, 0, 1}, {2, 0, 0, 0},
-              {2, 0, 0, 1}, {2, 1, 0, 0}, {3, 0, 0, 0}, {0, 0, 0, 0}, {2, sizeof content, 0, 0}};
+    uint8_t flag; /* of register B */
+} writes[] = {{1, 0, 0, 0, 0}, {1, 1, 0, 0, 0}, {1, 0, 1, 0, 0}, {1, 0, 0, 1, 0}, {2, 0, 0, 0, 0}, {2, 0, 0, 1, 0},
+              {2, 1, 0, 0, 0}, {3, 0, 0, 0, 0}, {0, 0, 0, 0, 0}, {4, 0, 0, 0, 0}, {4, 0, 0, 0, 1}, {4, 0, 0, 0, 2},
+              {4, 1, 0, 0, 0}, {4, 0, 4, 0, 0}, {4, 0, 0, 1, 0}, {5, 0, 0, 0, 0}, {2, sizeof content, 0, 0, 0}};
+static const struct {
+    size_t file, bytes, out;
+} conversions[] = {{PICTURE, 0, 0},       {PICTURE, 0, 1},       {PICTURE, 1, 0},      {WITH_MODES, 0, 0},    {WITH_MODES, 0, 1},    {WITH_MODES, 1, 0},
+                   {MODE_SET, 0, 0},      {WRONG_FLAG, 0, 0},    {LONG, 0, 0},         {NONE, BLOCK, 0},      {OTHER_SUMS, 0, 0},    {OTHER_1, 0, 0},
+                   {OTHER_PLACE_1, 0, 0}, {OTHER_FORM_1, 0, 0},  {OTHER_4, 0, 0},      {OTHER_PLACE_4, 0, 0}, {OTHER_FORM_4, 0, 0}};
+
+#define REGISTERS(kind) ((kind) == STARAN_CONTENT_PICTURE_WITH_MODES ? (size_t)STARAN_REGISTERS_BYTES : (size_t)STARAN_PICTURE_REGISTERS_BYTES)
 
 static void make_file(size_t file, size_t kind, size_t size)
 {
@@ -144,40 +158,67 @@ static void make_file(size_t file, size_t kind, size_t size)
     lengths[file] = answer[2];
 }
 
-/* The short list with byte `at` of its block one greater, and its payload such that the block's two sums stay: a second difference. */
-static void make_other(size_t file, size_t at)
+/* Byte `at` of a block so much greater, and two others such that the block's two sums stay: a second difference about a byte of the payload. */
+static void add_to(uint8_t *block, size_t at, size_t about, int by)
+{
+    block[at] += (uint8_t)by, block[about] -= (uint8_t)(2 * by), block[2 * about - at] += (uint8_t)by;
+}
+
+/* The short list as a block of this kind; where `at` is not 0, with that byte one greater. */
+static void make_other(size_t file, int kind, size_t at)
 {
     make_file(file, STARAN_CONTENT_LIST, 24);
-    files[file][at] += 1, files[file][12] -= 2, files[file][24 - at] += 1;
+    add_to(files[file], 0, 12, kind - STARAN_CONTENT_LIST);
+    add_to(files[file], at, 12, at != 0);
+}
+
+static void make_picture(size_t file, size_t kind, uint8_t flag)
+{
+    registers[96] = flag, registers[97] = registers[98] = registers[99] = 0;
+    staran_write_picture(kind, memory, sizeof memory, registers, REGISTERS(kind), files[file], sizeof files[file], answer);
+    lengths[file] = answer[2];
 }
 
 static void make_files(void)
 {
-    staran_write_picture(STARAN_CONTENT_PICTURE, memory, sizeof memory, registers, STARAN_PICTURE_REGISTERS_BYTES, files[PICTURE], sizeof files[PICTURE], answer);
-    lengths[PICTURE] = answer[2];
+    make_picture(PICTURE, STARAN_CONTENT_PICTURE, 0);
+    make_picture(WITH_MODES, STARAN_CONTENT_PICTURE_WITH_MODES, 0);
+    make_picture(MODE_SET, STARAN_CONTENT_PICTURE_WITH_MODES, 1);
+    make_picture(WRONG_FLAG, STARAN_CONTENT_PICTURE_WITH_MODES, 0);
+    add_to(files[WRONG_FLAG] + 16 * BLOCK, 12 + 352, 12 + 340, 2);
     make_file(LONG, STARAN_CONTENT_LIST, sizeof content);
     make_file(SHORT, STARAN_CONTENT_LIST, 24);
     make_file(NONE, STARAN_CONTENT_LIST, 0);
     make_file(ITEMS, STARAN_CONTENT_ITEMS, 32);
     make_file(OTHER_SUMS, STARAN_CONTENT_LIST, 24);
     files[OTHER_SUMS][12] ^= 1;
-    make_other(OTHER_PLACE, 2);
-    make_other(OTHER_FORM, 8);
-    make_other(OTHER_KIND, 0); /* 24 bytes of items, which are no item */
+    make_other(OTHER_PLACE, 2, 2);
+    make_other(OTHER_FORM, 2, 8);
+    make_other(OTHER_KIND, 3, 0); /* 24 bytes of items, which are no item */
+    make_other(OTHER_1, 1, 0);
+    make_other(OTHER_PLACE_1, 1, 2);
+    make_other(OTHER_FORM_1, 1, 8);
+    make_other(OTHER_4, 4, 0);
+    make_other(OTHER_PLACE_4, 4, 2);
+    make_other(OTHER_FORM_4, 4, 8);
 }
 
 #define READ(k) reads[k].kind, files[reads[k].file], lengths[reads[k].file] - reads[k].bytes
 static void read_content(size_t k) { CALL(staran_read_content, READ(k), content, sizeof content - reads[k].memory, answer); }
 static void read_picture(size_t k)
 {
-    CALL(staran_read_picture, READ(k), memory, sizeof memory - reads[k].memory, registers, STARAN_PICTURE_REGISTERS_BYTES - reads[k].registers, answer);
+    CALL(staran_read_picture, READ(k), memory, sizeof memory - reads[k].memory, registers, REGISTERS(reads[k].kind) - reads[k].registers, answer);
 }
 #define OUT(k) blocks, sizeof blocks - writes[k].out, answer
 static void write_content(size_t k) { CALL(staran_write_content, writes[k].kind, content, sizeof content - writes[k].memory, OUT(k)); }
 static void write_picture(size_t k)
 {
-    CALL(staran_write_picture, writes[k].kind, memory, sizeof memory - writes[k].memory, registers, STARAN_PICTURE_REGISTERS_BYTES - writes[k].registers, OUT(k));
+    registers[96] = 1, registers[97] = 255, registers[98] = writes[k].flag, registers[99] = 0;
+    CALL(staran_write_picture, writes[k].kind, memory, sizeof memory - writes[k].memory, registers, REGISTERS(writes[k].kind) - writes[k].registers, OUT(k));
 }
+#define CONVERSION(k) files[conversions[k].file], lengths[conversions[k].file] - conversions[k].bytes, blocks, sizeof blocks - conversions[k].out, answer
+static void to_new(size_t k) { CALL(staran_picture_to_new, CONVERSION(k)); }
+static void to_old(size_t k) { CALL(staran_picture_to_old, CONVERSION(k)); }
 
 static void version(size_t k) { (void)k, CALL(staran_version); }
 
@@ -205,8 +246,10 @@ static const struct {
     {"staran_spreading_list", 10, spreading_list, COUNT(moved), DONE | NUMBERS(30, 33) | NUMBERS(35, 35)},
     {"staran_read_content", 6, read_content, COUNT(reads), DONE | NUMBERS(20, 26)},
     {"staran_write_content", 6, write_content, COUNT(writes), DONE | NUMBERS(22, 22) | NUMBERS(26, 27)},
-    {"staran_read_picture", 8, read_picture, COUNT(reads), DONE | NUMBERS(20, 26)},
-    {"staran_write_picture", 8, write_picture, COUNT(writes), DONE | NUMBERS(22, 22) | NUMBERS(26, 27)},
+    {"staran_read_picture", 8, read_picture, COUNT(reads), DONE | NUMBERS(15, 15) | NUMBERS(20, 26)},
+    {"staran_write_picture", 8, write_picture, COUNT(writes), DONE | NUMBERS(15, 15) | NUMBERS(22, 22) | NUMBERS(26, 27)},
+    {"staran_picture_to_new", 5, to_new, COUNT(conversions), DONE | NUMBERS(20, 25) | NUMBERS(27, 27)},
+    {"staran_picture_to_old", 5, to_old, COUNT(conversions), DONE | NUMBERS(15, 15) | NUMBERS(20, 25) | NUMBERS(27, 28)},
     {"staran_version", 0, version, 1, DONE},
 };
 
@@ -214,7 +257,7 @@ int main(void)
 {
     int other = 0;
     for (size_t i = 0; i < sizeof memory; i++)
-        memory[i] = content[i] = (uint8_t)(i * 167 + i / 256 + 2);
+        memory[i] = content[i] = (uint8_t)(i * 167 + i / 256 + 8);
     memcpy(registers, content, sizeof registers);
     make_instructions();
     make_marks();

@@ -1,5 +1,5 @@
 /* Holds the header's names to bytes and numbers that stand here as they stand in document 01, in document 02 (Four, the resolved item; Six, the offending byte; Seven, the
- * mode registers) and, of the searches, the closing and the spreading, in docs/LISTS.md, from C and from C++: tests/c/run builds and runs it.
+ * mode registers; Eight, pictures with them) and, of the searches, the closing and the spreading, in docs/LISTS.md, from C and from C++: tests/c/run builds and runs it.
  * Says each name that does not hold, then every number with its meaning, for tests/c/run to compare with docs/numbers.tsv. */
 #include "staran.h"
 
@@ -216,7 +216,7 @@ static void answers(void)
                                                 STARAN_ANSWER_TAKEN == 4 && STARAN_ANSWER_GIVEN == 5);
 }
 
-/* A picture has M, X and Y of a run's registers, and the mode registers stay where they are. */
+/* A picture of kind 1 has M, X and Y of a run's registers, and the mode registers stay where they are. */
 static void pictures(void)
 {
     static uint8_t file[STARAN_PICTURE_FILE_BYTES], others[STARAN_MEMORY_BYTES];
@@ -232,6 +232,44 @@ static void pictures(void)
     hold("not into 100", answer[0] == STARAN_REFUSED_LENT_LENGTH);
     staran_write_picture(STARAN_CONTENT_PICTURE, memory, sizeof memory, registers, sizeof registers, file, sizeof file, answer);
     hold("not from 100", answer[0] == STARAN_REFUSED_LENT_LENGTH);
+}
+
+/* A picture of kind 4 has the mode registers too, of which A is set here: a run goes on from it, and it has no picture of kind 1. With neither set there is one, and back. */
+static void new_pictures(void)
+{
+    const uint8_t list[] = {STARAN_DELIVER_BY(STARAN_TAG_A, 13, 0, 0)}, by_given[] = {STARAN_DELIVER(STARAN_MODE_WORD, 13, 0, 0)};
+    static uint8_t file[STARAN_PICTURE_FILE_BYTES], old[STARAN_PICTURE_FILE_BYTES], again[STARAN_PICTURE_FILE_BYTES], others[STARAN_MEMORY_BYTES];
+    const uint8_t *last = file + STARAN_PICTURE_FILE_BYTES - STARAN_BLOCK_BYTES;
+    uint8_t read[STARAN_REGISTERS_BYTES], given[STARAN_ITEM_BYTES];
+    uint32_t answer[STARAN_RUN_NUMBERS];
+    staran_write_picture(STARAN_CONTENT_PICTURE_WITH_MODES, memory, sizeof memory, registers, sizeof registers, file, sizeof file, answer);
+    hold("a picture of all 100 bytes is written", answer[0] == STARAN_DONE && answer[2] == STARAN_PICTURE_FILE_BYTES);
+    bytes("the last of its 17 blocks uses 356", last, 12, "040010001100640100000000");
+    bytes("and ends with the mode registers", last + 12 + 352, 4, "01FF0000");
+    staran_read_picture(STARAN_CONTENT_PICTURE_WITH_MODES, file, sizeof file, others, sizeof others, read, sizeof read, answer);
+    hold("and read, all of it", answer[0] == STARAN_DONE && answer[2] == 8292 && memcmp(read, registers, 100) == 0 && memcmp(others, memory, sizeof others) == 0);
+    staran_run_4(memory, sizeof memory, registers, sizeof registers, by_given, sizeof by_given, out, 0, given, sizeof given, answer);
+    staran_run_4(others, sizeof others, read, sizeof read, list, sizeof list, out, 0, out, sizeof out, answer);
+    hold("a run goes on by the mode that it has", answer[STARAN_ANSWER_NUMBER] == STARAN_DONE && memcmp(out, given, sizeof given) == 0);
+    staran_read_picture(STARAN_CONTENT_PICTURE_WITH_MODES, file, sizeof file, others, sizeof others, read, STARAN_PICTURE_REGISTERS_BYTES, answer);
+    hold("not into 96", answer[0] == STARAN_REFUSED_LENT_LENGTH);
+    staran_read_picture(STARAN_CONTENT_PICTURE, file, sizeof file, others, sizeof others, read, STARAN_PICTURE_REGISTERS_BYTES, answer);
+    hold("not as kind 1", answer[0] == STARAN_REFUSED_BLOCK_KIND && answer[1] == 0);
+    staran_picture_to_old(file, sizeof file, old, sizeof old, answer);
+    hold("a mode register set has no old picture", answer[0] == STARAN_REFUSED_MODE_SET && STARAN_REFUSED_MODE_SET == 28 && answer[1] == 0 && answer[2] == 0);
+    registers[98] = 2;
+    staran_write_picture(STARAN_CONTENT_PICTURE_WITH_MODES, memory, sizeof memory, registers, sizeof registers, file, sizeof file, answer);
+    hold("no picture of a flag over 1", answer[0] == STARAN_REFUSED_MODE_REGISTERS && answer[1] == 0 && answer[2] == 0);
+    memset(registers + 96, 0, 4);
+    staran_write_picture(STARAN_CONTENT_PICTURE_WITH_MODES, memory, sizeof memory, registers, sizeof registers, file, sizeof file, answer);
+    staran_write_picture(STARAN_CONTENT_PICTURE, memory, sizeof memory, registers, STARAN_PICTURE_REGISTERS_BYTES, again, sizeof again, answer);
+    staran_picture_to_old(file, sizeof file, old, sizeof old, answer);
+    hold("new to old", answer[0] == STARAN_DONE && answer[2] == STARAN_PICTURE_FILE_BYTES && memcmp(old, again, sizeof old) == 0);
+    bytes("whose last block uses 352", old + STARAN_PICTURE_FILE_BYTES - STARAN_BLOCK_BYTES, 12, "010010001100600100000000");
+    staran_picture_to_new(old, sizeof old, again, sizeof again, answer);
+    hold("and back to new", answer[0] == STARAN_DONE && answer[2] == STARAN_PICTURE_FILE_BYTES && memcmp(file, again, sizeof again) == 0);
+    staran_picture_to_new(file, sizeof file, again, sizeof again, answer);
+    hold("new to new", answer[0] == STARAN_REFUSED_BLOCK_KIND && answer[1] == 0);
 }
 
 /* The mode registers: their instructions by macros, the record's bytes, and a list that sets one and stores through it, by a run and by steps. */
@@ -269,6 +307,7 @@ static void mode_registers(void)
     hold("steps that do the same", answer[STARAN_ANSWER_NUMBER] == STARAN_DONE && memcmp(out, record.y, 32) == 0);
     hold("the record's mode registers behind them", record.a_set == 1 && record.a_mode == 255 && record.b_set == 0 && record.b_mode == 0);
     pictures();
+    new_pictures();
     registers[98] = 2;
     staran_run_4(memory, sizeof memory, registers, sizeof registers, list, sizeof list, out, 0, out, sizeof out, answer);
     hold("a flag over 1", answer[STARAN_ANSWER_NUMBER] == STARAN_REFUSED_MODE_REGISTERS && answer[STARAN_ANSWER_PLACE] == 0 && answer[STARAN_ANSWER_BYTE] == 0);
@@ -327,8 +366,9 @@ int main(void)
     answers();
     mode_registers();
     refusals();
-    hold("the contents on disk", STARAN_CONTENT_PICTURE == 1 && STARAN_CONTENT_LIST == 2 && STARAN_CONTENT_ITEMS == 3);
-    hold("the linked version is the header's", staran_version() == STARAN_VERSION && STARAN_VERSION == 327680);
+    hold("the contents on disk",
+         STARAN_CONTENT_PICTURE == 1 && STARAN_CONTENT_LIST == 2 && STARAN_CONTENT_ITEMS == 3 && STARAN_CONTENT_PICTURE_WITH_MODES == 4);
+    hold("the linked version is the header's", staran_version() == STARAN_VERSION && STARAN_VERSION == 327681);
     hold("a number that is never given", strcmp(staran_meaning(100), "no such number is ever given") == 0);
     hold("a number that is not given any more", strcmp(staran_meaning(10), staran_meaning(100)) == 0);
     for (uint32_t number = 0; number <= 100; number++)

@@ -1,9 +1,13 @@
-/* Blocks on disk: lists, items and pictures, read and written. */
+/* Blocks on disk: lists, items and pictures, read and written, and a picture of one kind made one of the other. */
 #include "plain.h"
 
 #include <string.h>
 
-enum { BLOCK = STARAN_BLOCK_BYTES, PAYLOAD = 496, PICTURE = MEMORY + PICTURE_REGISTERS };
+enum { BLOCK = STARAN_BLOCK_BYTES, PAYLOAD = 496, FILE_BYTES = STARAN_PICTURE_FILE_BYTES, OLD = STARAN_CONTENT_PICTURE, NEW = STARAN_CONTENT_PICTURE_WITH_MODES };
+
+static int is_picture(size_t kind) { return kind == OLD || kind == NEW; }
+static size_t registers_of(size_t kind) { return kind == NEW ? REGISTERS : PICTURE_REGISTERS; }
+static int is_kind(size_t kind) { return kind >= 1 && kind <= 4; }
 
 static void give(uint32_t answer[3], uint32_t number, uint32_t place, uint32_t bytes)
 {
@@ -59,13 +63,13 @@ static uint32_t fault(const uint8_t *block, size_t kind, size_t place, size_t co
 
 static int size_fits(size_t kind, size_t size)
 {
-    return kind == STARAN_CONTENT_PICTURE ? size == PICTURE : size % (kind == STARAN_CONTENT_LIST ? 8 : 32) == 0 && size <= 32768;
+    return is_picture(kind) ? size == MEMORY + registers_of(kind) : size % (kind == STARAN_CONTENT_LIST ? 8 : 32) == 0 && size <= 32768;
 }
 
 static void judge(size_t kind, const uint8_t *bytes, size_t length, uint32_t answer[3])
 {
     size_t size = 0;
-    if (kind < 1 || kind > 3) {
+    if (!is_kind(kind)) {
         give(answer, STARAN_REFUSED_BLOCK_KIND, 0, 0);
         return;
     }
@@ -107,7 +111,7 @@ void staran_read_content(size_t kind, const uint8_t *bytes, size_t bytes_length,
     judge(kind, bytes, bytes_length, answer);
     if (answer[0] != STARAN_DONE)
         return;
-    if (kind == STARAN_CONTENT_PICTURE || target_length < answer[2]) {
+    if (is_picture(kind) || target_length < answer[2]) {
         give(answer, STARAN_REFUSED_LENT_LENGTH, 0, 0);
         return;
     }
@@ -118,9 +122,9 @@ void staran_read_content(size_t kind, const uint8_t *bytes, size_t bytes_length,
 void staran_write_content(size_t kind, const uint8_t *content, size_t content_length, uint8_t *out, size_t out_length, uint32_t answer[3])
 {
     size_t count = content_length == 0 ? 1 : (content_length + PAYLOAD - 1) / PAYLOAD;
-    if (kind < 1 || kind > 3)
+    if (!is_kind(kind))
         give(answer, STARAN_REFUSED_BLOCK_KIND, 0, 0);
-    else if (kind == STARAN_CONTENT_PICTURE || !size_fits(kind, content_length))
+    else if (is_picture(kind) || !size_fits(kind, content_length))
         give(answer, STARAN_REFUSED_LENT_LENGTH, 0, 0);
     else if (out_length < BLOCK * count)
         give(answer, STARAN_REFUSED_OUTPUT_TOO_SHORT, 0, 0);
@@ -156,42 +160,103 @@ static void put_part(uint8_t *bytes, size_t at, const uint8_t *part, size_t size
     memcpy(bytes + to + first + 16, part + first, size - first);
 }
 
+static int picture_fits(size_t kind, size_t memory_length, size_t registers_length)
+{
+    return is_picture(kind) && memory_length == MEMORY && registers_length == registers_of(kind);
+}
+
+static int wrong_register(const uint8_t r[2]) { return r[0] > 1 || (r[0] == 0 && r[1] != 0); }
+static int wrong_modes(const uint8_t modes[4]) { return wrong_register(modes) || wrong_register(modes + 2); }
+
+static void take_modes(const uint8_t *bytes, uint8_t modes[4]) { take_part(bytes, MEMORY + PICTURE_REGISTERS, modes, REGISTERS - PICTURE_REGISTERS); }
+
+/* Headers and sums of all blocks of a picture whose content stands in them. */
+static void seal_picture(size_t kind, uint8_t *out)
+{
+    for (size_t i = 0; i < 17; i++)
+        seal(kind, i, 17, i < 16 ? PAYLOAD : MEMORY + registers_of(kind) - 16 * PAYLOAD, out + BLOCK * i);
+}
+
 void staran_read_picture(size_t kind, const uint8_t *bytes, size_t bytes_length, uint8_t *memory, size_t memory_length, uint8_t *registers,
                          size_t registers_length, uint32_t answer[3])
 {
-    uint8_t words[256];
+    uint8_t words[256], modes[4] = {0};
     judge(kind, bytes, bytes_length, answer);
     if (answer[0] != STARAN_DONE)
         return;
-    if (kind != STARAN_CONTENT_PICTURE || memory_length != MEMORY || registers_length != PICTURE_REGISTERS) {
+    if (!picture_fits(kind, memory_length, registers_length)) {
         give(answer, STARAN_REFUSED_LENT_LENGTH, 0, 0);
+        return;
+    }
+    if (kind == NEW)
+        take_modes(bytes, modes);
+    if (wrong_modes(modes)) {
+        give(answer, STARAN_REFUSED_MODE_REGISTERS, 0, 0);
         return;
     }
     for (unsigned v = 0; v < 32; v++) {
         take_part(bytes, 256 * v, words, sizeof words);
         plain_words_in(memory, v, words);
     }
-    take_part(bytes, MEMORY, registers, PICTURE_REGISTERS);
+    take_part(bytes, MEMORY, registers, registers_length);
 }
 
 void staran_write_picture(size_t kind, const uint8_t *memory, size_t memory_length, const uint8_t *registers, size_t registers_length, uint8_t *out,
                           size_t out_length, uint32_t answer[3])
 {
     uint8_t words[256];
-    if (kind < 1 || kind > 3)
+    if (!is_kind(kind))
         give(answer, STARAN_REFUSED_BLOCK_KIND, 0, 0);
-    else if (kind != STARAN_CONTENT_PICTURE || memory_length != MEMORY || registers_length != PICTURE_REGISTERS)
+    else if (!picture_fits(kind, memory_length, registers_length))
         give(answer, STARAN_REFUSED_LENT_LENGTH, 0, 0);
-    else if (out_length < STARAN_PICTURE_FILE_BYTES)
+    else if (kind == NEW && wrong_modes(registers + PICTURE_REGISTERS))
+        give(answer, STARAN_REFUSED_MODE_REGISTERS, 0, 0);
+    else if (out_length < FILE_BYTES)
         give(answer, STARAN_REFUSED_OUTPUT_TOO_SHORT, 0, 0);
     else {
         for (unsigned v = 0; v < 32; v++) {
             plain_words_out(memory, v, words);
             put_part(out, 256 * v, words, sizeof words);
         }
-        put_part(out, MEMORY, registers, PICTURE_REGISTERS);
-        for (size_t i = 0; i < 17; i++)
-            seal(STARAN_CONTENT_PICTURE, i, 17, i < 16 ? PAYLOAD : PICTURE - 16 * PAYLOAD, out + BLOCK * i);
-        give(answer, STARAN_DONE, 0, STARAN_PICTURE_FILE_BYTES);
+        put_part(out, MEMORY, registers, registers_length);
+        seal_picture(kind, out);
+        give(answer, STARAN_DONE, 0, FILE_BYTES);
+    }
+}
+
+/* The words, M, X and Y stand at the same places in both kinds: the blocks are copied whole, and sealed anew. */
+void staran_picture_to_new(const uint8_t *bytes, size_t bytes_length, uint8_t *out, size_t out_length, uint32_t answer[3])
+{
+    static const uint8_t unset[4];
+    judge(OLD, bytes, bytes_length, answer);
+    if (answer[0] != STARAN_DONE)
+        return;
+    if (out_length < FILE_BYTES) {
+        give(answer, STARAN_REFUSED_OUTPUT_TOO_SHORT, 0, 0);
+        return;
+    }
+    memcpy(out, bytes, FILE_BYTES);
+    put_part(out, MEMORY + PICTURE_REGISTERS, unset, sizeof unset);
+    seal_picture(NEW, out);
+    give(answer, STARAN_DONE, 0, FILE_BYTES);
+}
+
+void staran_picture_to_old(const uint8_t *bytes, size_t bytes_length, uint8_t *out, size_t out_length, uint32_t answer[3])
+{
+    uint8_t modes[4];
+    judge(NEW, bytes, bytes_length, answer);
+    if (answer[0] != STARAN_DONE)
+        return;
+    take_modes(bytes, modes);
+    if (wrong_modes(modes))
+        give(answer, STARAN_REFUSED_MODE_REGISTERS, 0, 0);
+    else if (modes[0] == 1 || modes[2] == 1)
+        give(answer, STARAN_REFUSED_MODE_SET, 0, 0);
+    else if (out_length < FILE_BYTES)
+        give(answer, STARAN_REFUSED_OUTPUT_TOO_SHORT, 0, 0);
+    else {
+        memcpy(out, bytes, FILE_BYTES);
+        seal_picture(OLD, out);
+        give(answer, STARAN_DONE, 0, FILE_BYTES);
     }
 }

@@ -8,7 +8,7 @@ use native.Mathlib.Numerals.{add-one}
 use native.Mathlib.Decide.{decLt, ℕ-discrete}
 use native.Mathlib.Omega.{arith}
 use lib.ListN.{length, getD, set, length-set, List·getD-eq-default}
-use lib.Seq.{getD-set-same, getD-set-other}
+use lib.Seq.{getD-set-same, getD-set-other, set-getD}
 use Rattle.bits.specs.Steps.{written}
 
 pub written-ext : (l : List ℕ) (x : ℕ → ℕ) (v : ℕ → ℕ → ℕ) (y : ℕ → ℕ) (w : ℕ → ℕ → ℕ) (n : ℕ) → ((k : ℕ) → k < n → x k ≡ y k) → ((k o : ℕ) → k < n → v k o ≡ w k o)
@@ -24,6 +24,15 @@ module _ (x : ℕ → ℕ) (v : ℕ → ℕ → ℕ) (l : List ℕ) where
   unfolding written
   length-written zero = refl
   length-written (suc n) = length-set (written x v l n) (x n) (v n (getD (written x v l n) (x n) 0)) ∙ length-written n
+
+  -- writes of what stands there already change nothing
+  pub written-same : (n : ℕ) → ((k : ℕ) → k < n → v k (getD l (x k) 0) ≡ getD l (x k) 0) → written x v l n ≡ l
+  unfolding written
+  written-same zero e = refl
+  written-same (suc n) e =
+      ap (λ (w : List ℕ). set w (x n) (v n (getD w (x n) 0))) (written-same n (λ k h. e k (omega arith)))
+      ∙ ap (set l (x n)) (e n (omega arith))
+      ∙ set-getD l (x n) 0
 
   -- a place that no write goes to stays
   pub written-off : (n i : ℕ) → ((k : ℕ) → k < n → i ≢ x k) → getD (written x v l n) i 0 ≡ getD l i 0

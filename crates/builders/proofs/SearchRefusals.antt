@@ -8,8 +8,7 @@ use lib.Dec.{ltb}
 use lib.Pow.{pow-pos, pow-mono}
 use borrow.Author.Tests.{ltb-true, ltb-false, lt-ltb, le-ltb, not-false}
 use Rattle.bits.specs.Rows.{FirstRow}
-use Rattle.bits.proofs.Rows.{none-number, number-none, first-number, number-first, row-off}
-use Rattle.judge.proofs.RowLaws.{or-none}
+use Rattle.bits.proofs.Rows.{or-none, none-number, number-none, first-number, number-first, row-off}
 use Rattle.builders.specs.Field.{Field, wrongWidth, beyond}
 use Rattle.builders.specs.Searches.{tooLarge, searchLength, itemsLength, greatestLength, searchRows, greatestRows, searchFault, greatestFault}
 use Rattle.builders.proofs.Refusals.{or-false}

@@ -8,8 +8,7 @@ use native.Mathlib.Omega.{arith}
 use lib.Dec.{eqb, ltb}
 use borrow.Author.Tests.{eqb-true, eq-eqb, ltb-false, lt-ltb, le-ltb, not-false}
 use Rattle.bits.specs.Rows.{FirstRow}
-use Rattle.bits.proofs.Rows.{none-number, number-none, first-number, number-first, row-off}
-use Rattle.judge.proofs.RowLaws.{or-none}
+use Rattle.bits.proofs.Rows.{or-none, none-number, number-none, first-number, number-first, row-off}
 use Rattle.builders.specs.Field.{beyond}
 use Rattle.builders.specs.Sums.{Apart}
 use Rattle.closing.specs.Closing.{meets, movingRows, movingFault, FieldsApart}

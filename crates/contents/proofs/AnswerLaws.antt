@@ -1,14 +1,15 @@
 -- What each way through a reader and a writer answers, and what it leaves. Assumes nothing.
 use mathlib.Core.Path.{_≡_, refl, sym, ap, ap₂, _∙_}
-use mathlib.Core.Bool.{Bool, true, false, cond, not}
+use mathlib.Core.Bool.{Bool, true, false, cond}
 use mathlib.Core.List.{List}
-use Prim.Native.Nat.{ℕ, _*_, _<_, _≤_}
-use native.Mathlib.Omega.{arith}
-use lib.Dec.{eqb, ltb}
-use borrow.Author.Tests.{ne-eqb, eq-eqb, eqb-false, lt-ltb, le-ltb}
+use Prim.Native.Nat.{ℕ}
+use lib.Dec.{eqb}
+use borrow.Author.Tests.{ne-eqb, eq-eqb, eqb-true, eqb-false}
+use Rattle.bits.specs.Rows.{Row, numberOf, NoRow, FirstRow}
+use Rattle.bits.proofs.Rows.{none-number, first-number}
 use Rattle.contents.specs.declared.Moved.{Moved}
-use Rattle.contents.specs.File.{done, refused, kindRight, fileJudged, blockCount}
-use Rattle.contents.specs.Content.{readAnswer, writeAnswer, changed, ContentLeft}
+use Rattle.contents.specs.File.{done, refused, fileJudged}
+use Rattle.contents.specs.Content.{answered, readAnswer, changed, ContentLeft}
 
 -- ---- a target after an answer
 
@@ -40,63 +41,51 @@ left-parts r a new old t h =
     let e = ap (λ (l : ContentLeft). l .answer) h in
     (e, ap (λ (l : ContentLeft). l .buffer) h ∙ ap (λ (x : Moved). changed x new old) (sym e))
 
+-- ---- the answer by a table
+
+pub answered-none : (rows : List Row) (n : ℕ) → numberOf rows ≡ 0 → done n ≡ answered rows n
+unfolding answered
+answered-none rows n z = sym (ap (λ (t : Bool). cond t (done n) (refused (numberOf rows) 0)) (eq-eqb (numberOf rows) 0 z))
+
+pub answered-no-row : (rows : List Row) (n : ℕ) → NoRow rows → done n ≡ answered rows n
+answered-no-row rows n f = answered-none rows n (none-number rows f)
+
+pub answered-first : (rows : List Row) (n m : ℕ) → (m ≡ 0 → ⊥) → FirstRow rows m → refused m 0 ≡ answered rows n
+unfolding answered
+answered-first rows n m u f =
+    sym (ap (λ (k : ℕ). cond (eqb k 0) (done n) (refused k 0)) (first-number rows m f) ∙ ap (λ (t : Bool). cond t (done n) (refused m 0)) (ne-eqb m 0 u))
+
+-- only a table of which no row holds gives 0
+pub answered-0 : (rows : List Row) (n : ℕ) → answered rows n .number ≡ 0 → numberOf rows ≡ 0
+unfolding answered
+answered-0 rows n z = go (eqb (numberOf rows) 0) refl z
+  where
+    go : (t : Bool) → eqb (numberOf rows) 0 ≡ t → (cond t (done n) (refused (numberOf rows) 0)) .number ≡ 0 → numberOf rows ≡ 0
+    go true e z = eqb-true (numberOf rows) 0 e
+    go false e z = z
+
 -- ---- a reader
 
-module _ (kind : ℕ) (bytes : List ℕ) (fits : Bool) (a : Moved) (e : a ≡ fileJudged kind bytes) where
-  pub read-refused : (a .number ≡ 0 → ⊥) → a ≡ readAnswer kind bytes fits
+module _ (kind : ℕ) (bytes : List ℕ) (rows : List Row) (n : ℕ) (a : Moved) (e : a ≡ fileJudged kind bytes) where
+  pub read-refused : (a .number ≡ 0 → ⊥) → a ≡ readAnswer kind bytes rows n
   unfolding readAnswer
-  read-refused u = rw (sym e) (sym (ap (λ (t : Bool). cond (not t) a (cond (not fits) (refused 26 0) a)) (ne-eqb (a .number) 0 u)))
+  read-refused u = rw (sym e) (sym (ap (λ (t : Bool). cond t (answered rows n) a) (ne-eqb (a .number) 0 u)))
 
-  pub read-26 : a .number ≡ 0 → fits ≡ false → refused 26 0 ≡ readAnswer kind bytes fits
+  -- where the file stands, the rows decide
+  pub read-rows : a .number ≡ 0 → answered rows n ≡ readAnswer kind bytes rows n
   unfolding readAnswer
-  read-26 z f = rw (sym e) (sym (ap (λ (t : Bool). cond (not t) a (cond (not fits) (refused 26 0) a)) (eq-eqb (a .number) 0 z) ∙ ap (λ (t : Bool). cond (not t) (refused 26 0) a) f))
+  read-rows z = rw (sym e) (sym (ap (λ (t : Bool). cond t (answered rows n) a) (eq-eqb (a .number) 0 z)))
 
-  pub read-done : a .number ≡ 0 → fits ≡ true → a ≡ readAnswer kind bytes fits
-  unfolding readAnswer
-  read-done z f = rw (sym e) (sym (ap (λ (t : Bool). cond (not t) a (cond (not fits) (refused 26 0) a)) (eq-eqb (a .number) 0 z) ∙ ap (λ (t : Bool). cond (not t) (refused 26 0) a) f))
-
--- a file that is not refused stands when judged, and its targets fit
-pub read-stands : (kind : ℕ) (bytes : List ℕ) (fits : Bool) → readAnswer kind bytes fits .number ≡ 0 → (fileJudged kind bytes .number ≡ 0) × (fits ≡ true)
+-- a file that is not refused stands when judged, and none of the rows holds
+pub read-stands : (kind : ℕ) (bytes : List ℕ) (rows : List Row) (n : ℕ) → readAnswer kind bytes rows n .number ≡ 0
+    → (fileJudged kind bytes .number ≡ 0) × (numberOf rows ≡ 0) × (readAnswer kind bytes rows n ≡ done n)
 unfolding readAnswer
-read-stands kind bytes fits z = go (eqb (fileJudged kind bytes .number) 0) fits refl refl z
+read-stands kind bytes rows n z = go (eqb (fileJudged kind bytes .number) 0) refl z
   where
-    go : (t f : Bool) → eqb (fileJudged kind bytes .number) 0 ≡ t → fits ≡ f
-        → (cond (not t) (fileJudged kind bytes) (cond (not f) (refused 26 0) (fileJudged kind bytes))) .number ≡ 0 → (fileJudged kind bytes .number ≡ 0) × (fits ≡ true)
-    go true true et ef z = (z, ef)
-    go true false et ef z = absurd (omega arith)
-    go false f et ef z = absurd (eqb-false (fileJudged kind bytes .number) 0 et z)
-
--- ---- a writer
-
-module _ (kind : ℕ) (fits : Bool) (size room : ℕ) where
-  pub write-22 : kindRight kind ≡ false → refused 22 0 ≡ writeAnswer kind fits size room
-  unfolding writeAnswer
-  write-22 k = simp k
-
-  module _ (k : kindRight kind ≡ true) where
-    pub write-26 : fits ≡ false → refused 26 0 ≡ writeAnswer kind fits size room
-    unfolding writeAnswer
-    write-26 f = simp (k, f)
-
-    module _ (f : fits ≡ true) where
-      pub write-27 : room < 512 * blockCount size → refused 27 0 ≡ writeAnswer kind fits size room
-      unfolding writeAnswer
-      write-27 h = simp (k, f, lt-ltb room (512 * blockCount size) h)
-
-      pub write-done : 512 * blockCount size ≤ room → done (512 * blockCount size) ≡ writeAnswer kind fits size room
-      unfolding writeAnswer
-      write-done h = simp (k, f, le-ltb room (512 * blockCount size) h)
-
--- a content that is not refused is of a right kind and size, and has room
-pub write-stands : (kind : ℕ) (fits : Bool) (size room : ℕ) → writeAnswer kind fits size room .number ≡ 0
-    → (kindRight kind ≡ true) × (fits ≡ true) × (writeAnswer kind fits size room ≡ done (512 * blockCount size))
-unfolding writeAnswer
-write-stands kind fits size room z = go (kindRight kind) fits (ltb room (512 * blockCount size)) refl refl refl z
-  where
-    go : (k f l : Bool) → kindRight kind ≡ k → fits ≡ f → ltb room (512 * blockCount size) ≡ l
-        → (cond (not k) (refused 22 0) (cond (not f) (refused 26 0) (cond l (refused 27 0) (done (512 * blockCount size))))) .number ≡ 0
-        → (kindRight kind ≡ true) × (fits ≡ true) × (writeAnswer kind fits size room ≡ done (512 * blockCount size))
-    go true true false ek ef el z = (ek, ef, simp (ek, ef, el))
-    go true true true ek ef el z = absurd (omega arith)
-    go true false l ek ef el z = absurd (omega arith)
-    go false f l ek ef el z = absurd (omega arith)
+    go : (t : Bool) → eqb (fileJudged kind bytes .number) 0 ≡ t → (cond t (answered rows n) (fileJudged kind bytes)) .number ≡ 0
+        → (fileJudged kind bytes .number ≡ 0) × (numberOf rows ≡ 0) × (readAnswer kind bytes rows n ≡ done n)
+    go true e z =
+        let r = answered-0 rows n z in
+        let f = eqb-true (fileJudged kind bytes .number) 0 e in
+        (f, r, sym (answered-none rows n r ∙ read-rows kind bytes rows n (fileJudged kind bytes) refl f))
+    go false e z = absurd (eqb-false (fileJudged kind bytes .number) 0 e z)

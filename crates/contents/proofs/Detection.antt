@@ -1,12 +1,13 @@
 -- A good file with one byte altered, or with two unequal neighbours swapped, is refused with 21, at the block of the first such byte. Document 01, Errors that look right. Assumes nothing.
 use mathlib.Core.Path.{_≡_, refl, sym, ap, ap₂, _∙_}
-use mathlib.Core.Bool.{Bool, true}
+use mathlib.Core.Bool.{true}
 use mathlib.Core.List.{List}
 use Prim.Native.Nat.{ℕ, zero, suc, _+_, _-_, _*_, _/_, _%_, _<_, _≤_}
 use native.Mathlib.Decide.{decLt}
 use native.Mathlib.Omega.{arith}
 use lib.ListN.{length, take, drop, set, length-set}
 use lib.Seq.{drop-set-add, take-set-le, take-set-lt, getD-take, getD-drop}
+use Rattle.bits.specs.Rows.{Row}
 use Rattle.blocks.specs.Sums.{at}
 use Rattle.blocks.specs.Block.{sumsRight, fault}
 use Rattle.blocks.specs.Swap.{swapped}
@@ -132,13 +133,13 @@ module _ (kind : ℕ) (bytes : List ℕ) (s : Stands kind bytes) (small : (k : �
           ap₂ (λ (x y : ℕ). fileJudged kind (swapped bytes x y)) e f
           ∙ crossed-at i (omega (arith, w)) (λ q. u (ap (at bytes) e ∙ q ∙ sym (ap (at bytes) f)))
 
-  -- so every reader refuses it, whatever its targets
-  pub altered-read : (k v : ℕ) (fits : Bool) → k < length bytes → v < 256 → (v ≡ at bytes k → ⊥) → readAnswer kind (set bytes k v) fits ≡ refused 21 (k / 512)
-  altered-read k v fits hk hv u =
+  -- so every reader and every conversion refuses it, whatever else is asked
+  pub altered-read : (k v : ℕ) (rows : List Row) (n : ℕ) → k < length bytes → v < 256 → (v ≡ at bytes k → ⊥) → readAnswer kind (set bytes k v) rows n ≡ refused 21 (k / 512)
+  altered-read k v rows n hk hv u =
       let e = altered-file k v hk hv u in
-      sym (read-refused kind (set bytes k v) fits (refused 21 (k / 512)) (sym e) (λ z. omega arith))
+      sym (read-refused kind (set bytes k v) rows n (refused 21 (k / 512)) (sym e) (λ z. omega arith))
 
-  pub swapped-read : (k : ℕ) (fits : Bool) → k + 1 < length bytes → (at bytes k ≡ at bytes (k + 1) → ⊥) → readAnswer kind (swapped bytes k (k + 1)) fits ≡ refused 21 (k / 512)
-  swapped-read k fits hk u =
+  pub swapped-read : (k : ℕ) (rows : List Row) (n : ℕ) → k + 1 < length bytes → (at bytes k ≡ at bytes (k + 1) → ⊥) → readAnswer kind (swapped bytes k (k + 1)) rows n ≡ refused 21 (k / 512)
+  swapped-read k rows n hk u =
       let e = swapped-file k hk u in
-      sym (read-refused kind (swapped bytes k (k + 1)) fits (refused 21 (k / 512)) (sym e) (λ z. omega arith))
+      sym (read-refused kind (swapped bytes k (k + 1)) rows n (refused 21 (k / 512)) (sym e) (λ z. omega arith))

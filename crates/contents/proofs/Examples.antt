@@ -13,9 +13,9 @@ pub kind-0 : fileJudged 0 [] ≡ refused 22 0
 unfolding fileJudged kindRight
 kind-0 = refl
 
-pub kind-4 : fileJudged 4 [] ≡ refused 22 0
+pub kind-5 : fileJudged 5 [] ≡ refused 22 0
 unfolding fileJudged kindRight
-kind-4 = refl
+kind-5 = refl
 
 pub no-bytes : fileJudged 2 [] ≡ refused 20 0
 unfolding fileJudged kindRight lengthRight
@@ -39,6 +39,10 @@ empty-list = refl
 pub empty-picture : fileJudged 1 (blocksOf 1 []) ≡ refused 25 0
 unfolding blocksOf firstBlocks summed body header fileJudged kindRight lengthRight sizeFits gathered blocksJudged fault sumsRight usedRight zerosRight allZero s1 s2 total
 empty-picture = refl
+
+pub empty-modes-picture : fileJudged 4 (blocksOf 4 []) ≡ refused 25 0
+unfolding blocksOf firstBlocks summed body header fileJudged kindRight lengthRight sizeFits gathered blocksJudged fault sumsRight usedRight zerosRight allZero s1 s2 total
+empty-modes-picture = refl
 
 pub wrong-place : fileJudged 2 (block 2 1 1 []) ≡ refused 23 0
 unfolding summed body header fileJudged kindRight lengthRight sizeFits gathered blocksJudged fault sumsRight s1 s2 total

@@ -191,16 +191,18 @@ file-stands kind bytes e = one (kindRight kind) (lengthRight (length bytes)) (bl
 
 pub size-le : (kind size : ℕ) → sizeFits kind size ≡ true → size ≤ 32768
 unfolding sizeFits
-size-le kind size e = go (eqb kind 1) (eqb kind 2) e
+size-le kind size e = go (eqb kind 1) (eqb kind 4) (eqb kind 2) e
   where
-    go : (s t : Bool) → cond s (eqb size 8288) (cond t (eqb (size % 8) 0 && leb size 32768) (eqb (size % 32) 0 && leb size 32768)) ≡ true → size ≤ 32768
-    go true t e = omega (arith, eqb-true size 8288 e)
-    go false true e = leb-true size 32768 (and-right (eqb (size % 8) 0) (leb size 32768) e)
-    go false false e = leb-true size 32768 (and-right (eqb (size % 32) 0) (leb size 32768) e)
+    go : (p q t : Bool) → cond p (eqb size 8288) (cond q (eqb size 8292) (cond t (eqb (size % 8) 0 && leb size 32768) (eqb (size % 32) 0 && leb size 32768))) ≡ true
+        → size ≤ 32768
+    go true q t e = omega (arith, eqb-true size 8288 e)
+    go false true t e = omega (arith, eqb-true size 8292 e)
+    go false false true e = leb-true size 32768 (and-right (eqb (size % 8) 0) (leb size 32768) e)
+    go false false false e = leb-true size 32768 (and-right (eqb (size % 32) 0) (leb size 32768) e)
 
-pub kind-le : (kind : ℕ) → kindRight kind ≡ true → kind ≤ 3
+pub kind-le : (kind : ℕ) → kindRight kind ≡ true → kind ≤ 4
 unfolding kindRight
-kind-le kind e = leb-true kind 3 (and-right (ltb 0 kind) (leb kind 3) e)
+kind-le kind e = leb-true kind 4 (and-right (ltb 0 kind) (leb kind 4) e)
 
 pub whole : (n : ℕ) → lengthRight n ≡ true → n % 512 ≡ 0
 unfolding lengthRight

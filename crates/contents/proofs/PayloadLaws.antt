@@ -9,9 +9,9 @@ use lib.Seq.{drop-at, take-all, length-take-le, getD-take, getD-drop, getD-appen
 use borrow.Rule.Slice.PartMut.{midOf, putMid, mid-len}
 use Rattle.bits.specs.Bits.{listed}
 use Rattle.bits.specs.Steps.{written}
-use Rattle.bits.proofs.Items.{length-listed, getD-listed, listed-is, part-more}
+use Rattle.bits.proofs.Items.{length-listed, getD-listed, listed-ext, listed-is, part-more}
 use Rattle.bits.proofs.Puts.{part-put, put-front, put-written}
-use Rattle.bits.proofs.Writes.{length-written, written-at, written-off, written-ext, written-then}
+use Rattle.bits.proofs.Writes.{length-written, written-same, written-at, written-off, written-ext, written-then}
 use Rattle.contents.specs.File.{blockAt, contentOf, blockCount, firstBlocks, blocksOf}
 use Rattle.contents.specs.Content.{over}
 use Rattle.contents.specs.Payloads.{payloadAt, payloads, laid}
@@ -203,3 +203,59 @@ content-read kind bytes s target ys size es h e =
     part-put 0 size target ys (ap length ec ∙ omega arith)
     ∙ put-front ys target
     ∙ ap (λ (l : List ℕ). over l target) ec
+
+-- ---- a file that stands, copied over an output
+
+-- its blocks are all of its bytes
+pub file-size : (kind : ℕ) (bytes : List ℕ) → Stands kind bytes → length bytes ≡ 512 * blockCount (length (contentOf bytes))
+file-size kind bytes s = size-is kind bytes s ∙ ap (λ (n : ℕ). 512 * n) (sym (count-is kind bytes s))
+
+-- to lay a content where it stands already changes nothing
+laid-same : (content out : List ℕ) → payloads out 0 (length content) ≡ content → laid content 0 out ≡ out
+laid-same content out e =
+    written-same (λ k. payloadAt (0 + k)) (λ k o. getD content k 0) out (length content)
+    (λ k h. ap (λ (l : List ℕ). getD l k 0) (sym e) ∙ getD-listed (λ j. getD out (payloadAt (0 + j)) 0) (length content) k h)
+
+-- the payloads of the first blocks are the file's
+payloads-over : (bytes out : List ℕ) (n : ℕ) → 512 * blockCount n ≤ length bytes → payloads (over bytes out) 0 n ≡ payloads bytes 0 n
+payloads-over bytes out n room =
+    listed-ext (λ k. getD (over bytes out) (payloadAt (0 + k)) 0) (λ k. getD bytes (payloadAt (0 + k)) 0) n
+    (λ k h. List·getD-append bytes (drop (length bytes) out) 0 (payloadAt (0 + k)) (omega arith))
+
+over-over : (a b out : List ℕ) → length a ≡ length b → over a (over b out) ≡ over a out
+over-over a b out e =
+    ap (λ (l : List ℕ). a ++ l) (drop-at b (drop (length b) out) (length a) (sym e) ∙ ap (λ (n : ℕ). drop n out) (sym e))
+
+-- with more laid behind the first n bytes of its content, and sealed as another kind of as many blocks
+pub copied-sealed : (kind kind′ : ℕ) (bytes out more : List ℕ) (n : ℕ) → Stands kind bytes → n ≤ length (contentOf bytes)
+    → 512 * blockCount (n + length more) ≡ length bytes
+    → (let o = laid more n (over bytes out) in over (blocksOf kind′ (payloads o 0 (n + length more))) o)
+    ≡ over (blocksOf kind′ (take n (contentOf bytes) ++ more)) out
+copied-sealed kind kind′ bytes out more n s h room =
+    ap₂ (λ (o : List ℕ) (m : ℕ). over (blocksOf kind′ (payloads o 0 m)) o) laid-all (sym size)
+    ∙ laid-sealed all copy (omega (arith, size, length-append bytes (drop (length bytes) out))) kind′
+    ∙ over-over (blocksOf kind′ all) bytes out (all-length kind′ all ∙ ap (λ (m : ℕ). 512 * blockCount m) size ∙ room)
+  where
+    copy : List ℕ
+    copy = over bytes out
+
+    front : List ℕ
+    front = take n (contentOf bytes)
+
+    all : List ℕ
+    all = front ++ more
+
+    front-length : length front ≡ n
+    front-length = length-take-le n (contentOf bytes) h
+
+    size : length all ≡ n + length more
+    size = length-append front more ∙ ap (λ (k : ℕ). k + length more) front-length
+
+    stands-there : payloads copy 0 (length front) ≡ front
+    stands-there =
+        ap (payloads copy 0) front-length
+        ∙ payloads-over bytes out n (payloads-room kind bytes s n h)
+        ∙ payloads-content kind bytes s 0 n (omega arith)
+
+    laid-all : laid more n copy ≡ laid all 0 copy
+    laid-all = ap (laid more n) (sym (laid-same front copy stands-there)) ∙ laid-more front more copy n (sym front-length)

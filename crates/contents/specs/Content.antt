@@ -1,27 +1,22 @@
 -- Reading and writing: the answer, and what a target holds afterwards. Document 01, Blocks on disk.
--- The answers serve every kind; what reading and writing a list or items leaves stands here, a picture in pictures/specs/Picture.
+-- The answers serve every kind; what reading and writing a list or items leaves stands here, a picture in pictures/specs/Picture and Conversion.
 use mathlib.Core.Bool.{Bool, cond, not, _&&_}
-use mathlib.Core.List.{List, _++_}
+use mathlib.Core.List.{List, [], _∷_, _++_}
 use Prim.Native.Nat.{ℕ, _*_}
 use lib.Dec.{eqb, leb, ltb}
 use lib.ListN.{length, drop}
+use Rattle.bits.specs.Rows.{Row, row, numberOf}
 use Rattle.contents.specs.declared.Moved.{Moved}
 use Rattle.blocks.specs.Block.{blockBytes}
-use Rattle.contents.specs.File.{pictureKind, done, refused, contentOf, kindRight, sizeFits, fileJudged, blockCount, blocksOf}
+use Rattle.contents.specs.File.{isPicture, done, refused, contentOf, kindRight, sizeFits, fileJudged, blockCount, blocksOf}
 
--- Reading: a file that stands when judged is refused with 26 if its targets do not fit.
-unfoldable pub readAnswer : ℕ → List ℕ → Bool → Moved
-readAnswer kind bytes fits =
-    cond (not (eqb (fileJudged kind bytes .number) 0)) (fileJudged kind bytes)
-    (cond (not fits) (refused 26 0) (fileJudged kind bytes))
+-- "Place is the block for 21 to 24, else 0": the answer by a table whose rows are all at place 0. Where none holds, n bytes are put out.
+unfoldable pub answered : List Row → ℕ → Moved
+answered rows n = cond (eqb (numberOf rows) 0) (done n) (refused (numberOf rows) 0)
 
--- "Writing: 26 content of wrong size; 27 output too short", after 22 for the kind asked.
-unfoldable pub writeAnswer : ℕ → Bool → ℕ → ℕ → Moved
-writeAnswer kind fits size room =
-    cond (not (kindRight kind)) (refused 22 0)
-    (cond (not fits) (refused 26 0)
-    (cond (ltb room (blockBytes * blockCount size)) (refused 27 0)
-    (done (blockBytes * blockCount size))))
+-- Reading: the file judged by itself, and where it stands the rows of what else is asked.
+unfoldable pub readAnswer : ℕ → List ℕ → List Row → ℕ → Moved
+readAnswer kind bytes rows n = cond (eqb (fileJudged kind bytes .number) 0) (answered rows n) (fileJudged kind bytes)
 
 -- "Targets change only on success": what a target holds after an answer, new or old.
 abbrev pub changed : Moved → List ℕ → List ℕ → List ℕ
@@ -31,15 +26,23 @@ changed a new old = cond (eqb (a .number) 0) new old
 abbrev pub over : List ℕ → List ℕ → List ℕ
 over new old = new ++ drop (length new) old
 
--- ---- a list or items: one target, one content. A picture asked for here has no target that fits (docs/DECISIONS.md).
+-- ---- a list or items: one target, one content. A picture of either kind asked for here has no target that fits (docs/DECISIONS.md).
 
 -- The target is not too short.
 abbrev pub targetFits : ℕ → List ℕ → List ℕ → Bool
-targetFits kind bytes target = ltb pictureKind kind && leb (length (contentOf bytes)) (length target)
+targetFits kind bytes target = not (isPicture kind) && leb (length (contentOf bytes)) (length target)
 
 -- The content is of the right size.
 abbrev pub contentFits : ℕ → List ℕ → Bool
-contentFits kind content = ltb pictureKind kind && sizeFits kind (length content)
+contentFits kind content = not (isPicture kind) && sizeFits kind (length content)
+
+-- "26 target too short", of a file that stands.
+abbrev pub readRows : Bool → List Row
+readRows fits = row 26 (not fits) ∷ []
+
+-- "Writing: 26 content of wrong size; 27 output too short", after 22 for the kind asked; `need` are the bytes of the blocks.
+abbrev pub writeRows : ℕ → Bool → ℕ → ℕ → List Row
+writeRows kind fits need room = row 22 (not (kindRight kind)) ∷ row 26 (not fits) ∷ row 27 (ltb room need) ∷ []
 
 -- What an entry leaves that writes to one buffer: its answer, and the buffer.
 pub record ContentLeft : Type 0 where
@@ -49,11 +52,12 @@ pub record ContentLeft : Type 0 where
 -- What `read_content` leaves.
 unfoldable pub contentRead : ℕ → List ℕ → List ℕ → ContentLeft
 contentRead kind bytes target =
-    let a = readAnswer kind bytes (targetFits kind bytes target) in
+    let a = readAnswer kind bytes (readRows (targetFits kind bytes target)) (length (contentOf bytes)) in
     record { answer = a; buffer = changed a (over (contentOf bytes) target) target }
 
 -- What `write_content` leaves.
 unfoldable pub contentWritten : ℕ → List ℕ → List ℕ → ContentLeft
 contentWritten kind content out =
-    let a = writeAnswer kind (contentFits kind content) (length content) (length out) in
+    let need = blockBytes * blockCount (length content) in
+    let a = answered (writeRows kind (contentFits kind content) need (length out)) need in
     record { answer = a; buffer = changed a (over (blocksOf kind content) out) out }

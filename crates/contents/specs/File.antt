@@ -1,5 +1,5 @@
--- A file of blocks: what is found when it is judged, the content that it holds, and the blocks that a content is written as. Document 01, Blocks on disk.
-use mathlib.Core.Bool.{Bool, cond, not, _&&_}
+-- A file of blocks: what is found when it is judged, the content that it holds, and the blocks that a content is written as. Document 01, Blocks on disk; document 02, Eight.
+use mathlib.Core.Bool.{Bool, cond, not, _&&_, _||_}
 use mathlib.Core.List.{List, [], _++_}
 use Prim.Native.Nat.{ℕ, zero, suc, _+_, _*_, _/_, _%_, max}
 use lib.Dec.{eqb, leb, ltb}
@@ -7,7 +7,7 @@ use lib.ListN.{length, take, drop}
 use Rattle.blocks.specs.Block.{blockBytes, payloadBytes, block, fault, payloadOf}
 use Rattle.contents.specs.declared.Moved.{Moved}
 
--- The kinds.
+-- The kinds: a picture of the words, M, X and Y; a list; items; and a picture that has the mode registers too.
 abbrev pub pictureKind : ℕ
 pictureKind = 1
 
@@ -17,9 +17,19 @@ listKind = 2
 abbrev pub itemsKind : ℕ
 itemsKind = 3
 
--- The bytes of a picture, the most bytes of a list or of items, and the most of a file, which is 67 blocks.
+abbrev pub modesPictureKind : ℕ
+modesPictureKind = 4
+
+-- Either kind of picture.
+abbrev pub isPicture : ℕ → Bool
+isPicture kind = eqb kind pictureKind || eqb kind modesPictureKind
+
+-- The bytes of a picture of each kind, the most bytes of a list or of items, and the most of a file, which is 67 blocks.
 abbrev pub pictureBytes : ℕ
 pictureBytes = 8288
+
+abbrev pub modesPictureBytes : ℕ
+modesPictureBytes = 8292
 
 abbrev pub mostContent : ℕ
 mostContent = 32768
@@ -68,20 +78,21 @@ blocksJudged kind bytes count zero = good
 blocksJudged kind bytes count (suc n) =
     next (blocksJudged kind bytes count n) (verdict (fault (blockAt bytes n) kind n count) n)
 
--- "A kind asked for that is not 1 to 3 is 22."
+-- "A kind asked for that is not 1 to 3 is 22"; document 02: "Kinds asked for .. now run to 4."
 unfoldable pub kindRight : ℕ → Bool
-kindRight kind = ltb 0 kind && leb kind itemsKind
+kindRight kind = ltb 0 kind && leb kind modesPictureKind
 
 -- "20 length 0, not a multiple of 512, or over 34,304."
 unfoldable pub lengthRight : ℕ → Bool
 lengthRight n = ltb 0 n && eqb (n % blockBytes) 0 && leb n mostFile
 
--- "25 size unfit for the kind (8,288; a list or items as in 3 and 4)": a multiple of 8 or of 32, not over 32,768.
+-- "25 size unfit for the kind (8,288; a list or items as in 3 and 4)": a multiple of 8 or of 32, not over 32,768. Document 02: "Add picture kind 4: 8,292 bytes."
 unfoldable pub sizeFits : ℕ → ℕ → Bool
 sizeFits kind size =
     cond (eqb kind pictureKind) (eqb size pictureBytes)
+    (cond (eqb kind modesPictureKind) (eqb size modesPictureBytes)
     (cond (eqb kind listKind) (eqb (size % 8) 0 && leb size mostContent)
-    (eqb (size % 32) 0 && leb size mostContent))
+    (eqb (size % 32) 0 && leb size mostContent)))
 
 -- The answer for a content of so many bytes and the verdict on its blocks: 25 only where every block is good.
 abbrev pub settled : ℕ → ℕ → Verdict → Moved

@@ -1,5 +1,5 @@
 // Files of blocks: the judging of a file, and reading and writing of lists and items. Document 01, Blocks on disk;
-// docs/FORMAT.md has the layout.
+// document 02, Eight; docs/FORMAT.md has the layout.
 //
 // The public entries take any bytes, any lengths and any kind asked: `read_content` and `write_content`; those of pictures are
 // in pictures. The other functions are inner ones.
@@ -10,7 +10,7 @@ ghost use Prim.Native.Nat.{_+_, _*_, _<_, _≤_, min};
 ghost use lib.ListN.{length};
 ghost use Rattle.blocks.specs.Block.{blockBytes};
 ghost use Rattle.contents.specs.File.{mostContent, blockCount, blocksOf};
-ghost use Rattle.contents.specs.File.{done, refused, kindRight, lengthRight, sizeFits, fileJudged};
+ghost use Rattle.contents.specs.File.{isPicture, done, refused, kindRight, lengthRight, sizeFits, fileJudged};
 ghost use Rattle.contents.specs.Content.{over, contentRead, contentWritten};
 ghost use Rattle.contents.specs.Payloads.{payloads, laid};
 
@@ -19,9 +19,11 @@ pub const PICTURE: usize = 1;
 
 const LIST: usize = 2;
 
-const ITEMS: usize = 3;
+pub const MODES_PICTURE: usize = 4;
 
 pub const PICTURE_BYTES: usize = 8288;
+
+pub const MODES_PICTURE_BYTES: usize = 8292;
 
 const MOST_CONTENT: usize = 32768;
 
@@ -57,7 +59,11 @@ pub fn done(bytes: usize) -> Moved
 pub fn kind_right(kind: usize) -> bool
     ensures { λ r. ⌜ r ≡ kindRight kind ⌝ }
 {
-    if 0 < kind { kind <= ITEMS } else { false }
+    if 0 < kind {
+        kind <= MODES_PICTURE
+    } else {
+        false
+    }
 }
 
 fn length_right(n: usize) -> bool
@@ -71,11 +77,20 @@ fn length_right(n: usize) -> bool
     false
 }
 
+pub fn is_picture(kind: usize) -> bool
+    ensures { λ r. ⌜ r ≡ isPicture kind ⌝ }
+{
+    (kind == PICTURE) | (kind == MODES_PICTURE)
+}
+
 fn size_fits(kind: usize, size: usize) -> bool
     ensures { λ r. ⌜ r ≡ sizeFits kind size ⌝ }
 {
     if kind == PICTURE {
         return size == PICTURE_BYTES;
+    }
+    if kind == MODES_PICTURE {
+        return size == MODES_PICTURE_BYTES;
     }
     if kind == LIST {
         if size % 8 == 0 {
@@ -159,7 +174,7 @@ pub fn read_content(kind: usize, bytes: &[u8], target: &mut [u8]) -> Moved
         return found;
     }
     let size = found.bytes;
-    if kind <= PICTURE {
+    if is_picture(kind) {
         return refused(26, 0);
     }
     if target.len() < size {
@@ -223,7 +238,7 @@ pub fn write_content(kind: usize, content: &[u8], out: &mut [u8]) -> Moved
     if !kind_right(kind) {
         return refused(22, 0);
     }
-    if kind <= PICTURE {
+    if is_picture(kind) {
         return refused(26, 0);
     }
     if !size_fits(kind, size) {

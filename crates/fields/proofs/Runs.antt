@@ -20,7 +20,7 @@ use Rattle.judge.specs.Instructions.{instructionAt, takes, gives}
 use Rattle.judge.specs.Modes.{modesBy, modesAfter}
 use Rattle.judge.specs.Judge.{unfit, faultOf, judged}
 use Rattle.judge.proofs.Accepted.{run-of}
-use Rattle.judge.proofs.RowLaws.{or-none}
+use Rattle.bits.proofs.Rows.{or-none}
 use Rattle.module.specs.Act.{State, passedBy, acted}
 use Rattle.module.specs.Run.{Lent, Left, runLengths, begun}
 use Rattle.module.proofs.ActLaws.{no-out, modes-acted}

@@ -9,7 +9,7 @@ use lib.Dec.{eqb, ltb}
 use lib.ListN.{length}
 use borrow.Author.Tests.{eqb-true, eq-eqb, ne-eqb, ltb-false, not-false}
 use Rattle.bits.specs.Rows.{Row, numberOf, NoRow}
-use Rattle.bits.proofs.Rows.{row-off}
+use Rattle.bits.proofs.Rows.{row-off, or-none, and-none}
 use Rattle.bits.specs.Search.{count}
 use Rattle.network.specs.Shifts.{permitted}
 use Rattle.network.proofs.TableRules.{listed-none}
@@ -23,7 +23,7 @@ use Rattle.judge.specs.Judge.{wrongMemory, wrongRegisters, unfit, wrongK
 use Rattle.judge.specs.Steps.{Accepted}
 use Rattle.judge.specs.Numbers.{Served, Unrefused}
 use Rattle.judge.proofs.ByteRowLaws.{condition-off}
-use Rattle.judge.proofs.RowLaws.{or-none, and-none, fit-whole, fit-size}
+use Rattle.judge.proofs.RowLaws.{fit-whole, fit-size}
 use Rattle.judge.proofs.Numbers.{unfaulted, done-is, unrefused}
 
 -- ---- what a list relies on, from what is not refused
@@ -60,6 +60,9 @@ module _ (l : Lengths) (modes : Modes) (list : List ℕ) where
 
     pub run-registers : l .registers ≡ 100
     run-registers = eqb-true (l .registers) 100 (not-false (eqb (l .registers) 100) (row-off (runRows l modes list) (why .lent) 2))
+
+    pub run-modes : wrongModes modes ≡ false
+    run-modes = row-off (runRows l modes list) (why .lent) 15
 
     pub run-done : judged l modes list ≡ done list
     run-done = done-is (runRows l modes list) l modes list why

@@ -1,4 +1,4 @@
--- The mode registers in a list: which count as set, and that an instruction without a number uses none that is not. Assumes nothing.
+-- The mode registers in a list: which count as set, that an instruction without a number uses none that is not, and that those which 15 does not refuse stay so. Assumes nothing.
 use mathlib.Core.Path.{_≡_, refl, sym, ap, _∙_}
 use mathlib.Core.Bool.{Bool, true, false, cond, not, _&&_, _||_}
 use mathlib.Core.List.{List}
@@ -8,8 +8,10 @@ use native.Mathlib.Decide.{ℕ-discrete}
 use native.Mathlib.Omega.{arith}
 use lib.Dec.{eqb}
 use borrow.Author.Tests.{eqb-true, eqb-false, eq-eqb, ne-eqb, ltb-false, not-false}
+use Rattle.bits.proofs.Rows.{taken, or-none, and-none}
 use Rattle.registers.specs.declared.ModeRegister.{ModeRegister}
 use Rattle.registers.specs.declared.Modes.{Modes}
+use Rattle.registers.specs.Modes.{wrongRegister, wrongModes}
 use Rattle.judge.specs.declared.Instruction.{Instruction}
 use Rattle.judge.specs.declared.modes.Settled.{Settled}
 use Rattle.judge.specs.Instructions.{instructionAt, touches}
@@ -17,7 +19,6 @@ use Rattle.judge.specs.Modes.{modesBy, modesAfter, SetBefore, modeOf, Na
 use Rattle.judge.specs.Judge.{lacksTag, wrongTag, idleTag, unsetMode, instructionRows, faultOf}
 use Rattle.judge.specs.Steps.{settledBy}
 use Rattle.judge.proofs.ByteRowLaws.{conditionAt, condition-off}
-use Rattle.judge.proofs.RowLaws.{or-none, and-none}
 use Rattle.judge.proofs.Numbers.{unfaulted}
 
 -- ---- which count as set
@@ -174,3 +175,16 @@ module _ (m : Modes) (i : Instruction) (good : faultOf m i .number ≡ 0) where
       go (no u) (yes e) f = inr (inl (e, touching t .0 e))
       go (no u) (no v) (yes e) = inr (inr (e, touching t .1 e))
       go (no u) (no v) (no w) = absurd (some (omega (arith, few)))
+
+-- ---- those that 15 does not refuse stay so
+
+right-by : (i : Instruction) (m : Modes) → wrongModes m ≡ false → wrongModes (modesBy i m) ≡ false
+unfolding wrongModes
+right-by i m e =
+    taken (λ (x : Modes). wrongModes x ≡ false) _ _ (eqb (i .kind) 6 && eqb (i .tag) 2) (or-none (wrongRegister (m .a)) (wrongRegister (m .b)) e .1)
+    (taken (λ (x : Modes). wrongModes x ≡ false) _ m (eqb (i .kind) 6 && eqb (i .tag) 3) (ap (λ (b : Bool). b || false) (or-none (wrongRegister (m .a)) (wrongRegister (m .b)) e .0)) e)
+
+pub right-after : (list : List ℕ) (m : Modes) (k : ℕ) → wrongModes m ≡ false → wrongModes (modesAfter list m k) ≡ false
+unfolding modesAfter
+right-after list m zero e = e
+right-after list m (suc k) e = right-by (instructionAt list k) (modesAfter list m k) (right-after list m k e)

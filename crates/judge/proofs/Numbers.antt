@@ -10,7 +10,7 @@ use lib.Dec.{eqb, ltb}
 use lib.ListN.{length}
 use borrow.Author.Tests.{eqb-true, eqb-false, eq-eqb, ne-eqb, ltb-true, ltb-false, lt-ltb, le-ltb, not-true, not-false}
 use Rattle.bits.specs.Rows.{Row, numberOf, NoRow}
-use Rattle.bits.proofs.Rows.{numbered, none-number, number-none, first-number, number-first, among, first-among}
+use Rattle.bits.proofs.Rows.{numbered, none-number, number-none, first-number, number-first, among, first-among, and-none}
 use Rattle.bits.specs.Search.{first, count}
 use Rattle.bits.proofs.Search.{NoneBelow, found, found-none, found-at, none-found}
 use Rattle.registers.specs.declared.Modes.{Modes}
@@ -24,7 +24,7 @@ use Rattle.judge.specs.Modes.{modesAfter}
 use Rattle.judge.specs.Judge.{lacks, instructionRows, faultOf, rowsAt, faultAt, faulty, refusal, judgedAlone, done, judgedNeeds, judgedList, judgedBy}
 use Rattle.judge.specs.Numbers.{Gives, Formed, Has, Served, Lacks, Refused, by-lent, by-instruction, by-item, by-room, Unrefused}
 use Rattle.judge.proofs.ByteRowLaws as laws
-use Rattle.judge.proofs.RowLaws.{and-none, and-both, both-and}
+use Rattle.judge.proofs.RowLaws.{and-both, both-and}
 
 -- ---- tests and facts
 

@@ -1,18 +1,11 @@
 -- Rows as facts: what a test that holds, or does not, says. Assumes nothing.
 use mathlib.Core.Path.{_≡_, refl, ap, _∙_}
-use mathlib.Core.Bool.{Bool, true, false, not, _&&_, _||_, true≢false, false≢true}
+use mathlib.Core.Bool.{Bool, true, false, not, _&&_, false≢true}
 use Prim.Native.Nat.{ℕ, _%_, _≤_}
 use lib.Dec.{eqb, ltb}
 use borrow.Author.Tests.{eqb-true, ltb-false, not-false}
+use Rattle.bits.proofs.Rows.{or-none}
 use Rattle.judge.specs.Judge.{unfit}
-
-pub or-none : (a b : Bool) → (a || b) ≡ false → (a ≡ false) × (b ≡ false)
-or-none true b e = absurd (true≢false e)
-or-none false b e = (refl, e)
-
-pub and-none : (a b : Bool) → (a && b) ≡ false → a ≡ true → b ≡ false
-and-none true b e p = e
-and-none false b e p = absurd (false≢true p)
 
 pub and-both : (a b : Bool) → (a && b) ≡ true → (a ≡ true) × (b ≡ true)
 and-both true b e = (refl, e)

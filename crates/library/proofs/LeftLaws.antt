@@ -1,6 +1,6 @@
 -- What a function of the library leaves, from what the entry that it calls leaves and from the answer as numbers; and that these numbers are small, whatever the entry is called on.
 -- A proof takes the arguments of a law from what the call ensures, so that a wrong call is refused at the contract's own equation. Assumes nothing.
-use mathlib.Core.Path.{_≡_, sym, ap, _∙_, subst}
+use mathlib.Core.Path.{_≡_, refl, sym, ap, _∙_, subst}
 use mathlib.Core.Bool.{Bool}
 use mathlib.Core.List.{List, [], _∷_}
 use Prim.Native.Nat.{ℕ, _≤_}
@@ -22,10 +22,12 @@ use Rattle.builders.specs.Building.{BuiltLeft as Buffer, BuiltTwoLeft as Buffer
 use Rattle.builders.proofs.Bounds.{Bounded as Bounded2, BoundedTwo, sum-bounds, difference-bounds, search-bounds, greatest-bounds}
 use Rattle.closing.proofs.Bounds.{closing-bounds, spreading-bounds}
 use Rattle.contents.specs.declared.Moved.{Moved}
-use Rattle.contents.specs.Content.{targetFits, ContentLeft, contentRead, contentWritten}
-use Rattle.contents.proofs.Bounds.{Bounded as Bounded3, read-bounds, write-bounds, write-content-bounds}
-use Rattle.pictures.specs.Picture.{pictureFits, PictureLeft, pictureRead, pictureWritten}
-use Rattle.library.specs.Left.{six, three, runLeft, stepLeft, PassLeft, passLeft, BufferLeft, builtLeft, sumLeft, differenceLeft, greatestLeft, TwoLeft, builtTwoLeft, equalLeft, lessLeft, closingLeft, spreadingLeft, movedLeft, readLeft, writeLeft, writePictureLeft, TargetsLeft, readPictureLeft}
+use Rattle.contents.specs.File.{contentOf}
+use Rattle.contents.specs.Content.{ContentLeft, contentRead, contentWritten}
+use Rattle.contents.proofs.Bounds.{Bounded as Bounded3, answered-bounds, read-bounds, size-small, read-content-bounds, write-content-bounds}
+use Rattle.pictures.specs.Picture.{contentModes, pictureFits, pictureReadRows, pictureWriteRows, PictureLeft, pictureRead, pictureWritten}
+use Rattle.pictures.specs.Conversion.{toNewRows, toOldRows, toNew, toOld}
+use Rattle.library.specs.Left.{six, three, runLeft, stepLeft, PassLeft, passLeft, BufferLeft, builtLeft, sumLeft, differenceLeft, greatestLeft, TwoLeft, builtTwoLeft, equalLeft, lessLeft, closingLeft, spreadingLeft, movedLeft, readLeft, writeLeft, writePictureLeft, toNewLeft, toOldLeft, TargetsLeft, readPictureLeft}
 
 -- ---- the array
 
@@ -162,7 +164,7 @@ moved-left l m w e d = ap (λ (x : List ℕ). record { buffer = l .buffer; answe
 module _ (kind : ℕ) (bytes target : List ℕ) (l : ContentLeft) (e : l ≡ contentRead kind bytes target) where
   pub read-small : (l .answer .place ≤ 67) × (l .answer .bytes ≤ 34304)
   unfolding contentRead
-  read-small = small-three (l .answer) _ (ap (λ (x : ContentLeft). x .answer) e) (read-bounds kind bytes (targetFits kind bytes target))
+  read-small = small-three (l .answer) _ (ap (λ (x : ContentLeft). x .answer) e) (read-content-bounds kind bytes target)
 
   pub read-left : (w : List ℕ) → w ≡ three (l .answer) → _≡_ {A = BufferLeft} (record { buffer = l .buffer; answer = w }) (readLeft kind bytes target)
   unfolding readLeft
@@ -182,7 +184,9 @@ module _ (kind : ℕ) (content out : List ℕ) (l : ContentLeft) (e : l ≡ cont
 module _ (kind : ℕ) (bytes memory registers : List ℕ) (l : PictureLeft) (e : l ≡ pictureRead kind bytes memory registers) where
   pub read-picture-small : (l .answer .place ≤ 67) × (l .answer .bytes ≤ 34304)
   unfolding pictureRead
-  read-picture-small = small-three (l .answer) _ (ap (λ (x : PictureLeft). x .answer) e) (read-bounds kind bytes (pictureFits kind (length memory) (length registers)))
+  read-picture-small =
+      small-three (l .answer) _ (ap (λ (x : PictureLeft). x .answer) e)
+      (read-bounds (pictureReadRows (pictureFits kind (length memory) (length registers)) (contentModes (contentOf bytes))) (length (contentOf bytes)) refl kind bytes (size-small kind bytes))
 
   pub read-picture-left : (w : List ℕ) → w ≡ three (l .answer)
       → _≡_ {A = TargetsLeft} (record { memory = l .memory; registers = l .registers; answer = w }) (readPictureLeft kind bytes memory registers)
@@ -196,8 +200,29 @@ module _ (kind : ℕ) (memory registers out : List ℕ) (l : ContentLeft) (e : l
   pub write-picture-small : (l .answer .place ≤ 67) × (l .answer .bytes ≤ 34304)
   unfolding pictureWritten
   write-picture-small =
-      small-three (l .answer) _ (ap (λ (x : ContentLeft). x .answer) e) (write-bounds kind (pictureFits kind (length memory) (length registers)) 8288 (length out) (λ f. omega arith))
+      small-three (l .answer) _ (ap (λ (x : ContentLeft). x .answer) e)
+      (answered-bounds (pictureWriteRows kind (pictureFits kind (length memory) (length registers)) (modesOf registers) (length out)) 8704 refl (λ z. omega arith))
 
   pub write-picture-left : (w : List ℕ) → w ≡ three (l .answer) → _≡_ {A = BufferLeft} (record { buffer = l .buffer; answer = w }) (writePictureLeft kind memory registers out)
   unfolding writePictureLeft
   write-picture-left w d = moved-left l (pictureWritten kind memory registers out) w e d
+
+-- and of one that is converted
+module _ (bytes out : List ℕ) (l : ContentLeft) where
+  pub to-new-small : l ≡ toNew bytes out → (l .answer .place ≤ 67) × (l .answer .bytes ≤ 34304)
+  unfolding toNew
+  to-new-small e = small-three (l .answer) _ (ap (λ (x : ContentLeft). x .answer) e) (read-bounds (toNewRows (length out)) 8704 refl 1 bytes (λ s. omega arith))
+
+  pub to-new-left : l ≡ toNew bytes out → (w : List ℕ) → w ≡ three (l .answer) → _≡_ {A = BufferLeft} (record { buffer = l .buffer; answer = w }) (toNewLeft bytes out)
+  unfolding toNewLeft
+  to-new-left e w d = moved-left l (toNew bytes out) w e d
+
+  pub to-old-small : l ≡ toOld bytes out → (l .answer .place ≤ 67) × (l .answer .bytes ≤ 34304)
+  unfolding toOld
+  to-old-small e =
+      small-three (l .answer) _ (ap (λ (x : ContentLeft). x .answer) e)
+      (read-bounds (toOldRows (contentModes (contentOf bytes)) (length out)) 8704 refl 4 bytes (λ s. omega arith))
+
+  pub to-old-left : l ≡ toOld bytes out → (w : List ℕ) → w ≡ three (l .answer) → _≡_ {A = BufferLeft} (record { buffer = l .buffer; answer = w }) (toOldLeft bytes out)
+  unfolding toOldLeft
+  to-old-left e w d = moved-left l (toOld bytes out) w e d

@@ -12,6 +12,7 @@ use Rattle.builders.specs.Building.{BuiltLeft as Built, BuiltTwoLeft as BuiltTw
 use Rattle.contents.specs.declared.Moved.{Moved}
 use Rattle.contents.specs.Content.{ContentLeft, contentRead, contentWritten}
 use Rattle.pictures.specs.Picture.{pictureRead, pictureWritten}
+use Rattle.pictures.specs.Conversion.{toNew, toOld}
 
 -- ---- answers as numbers
 
@@ -73,6 +74,12 @@ writeLeft kind content out = movedLeft (contentWritten kind content out)
 
 unfoldable pub writePictureLeft : ℕ → List ℕ → List ℕ → List ℕ → BufferLeft
 writePictureLeft kind memory registers out = movedLeft (pictureWritten kind memory registers out)
+
+unfoldable pub toNewLeft : List ℕ → List ℕ → BufferLeft
+toNewLeft bytes out = movedLeft (toNew bytes out)
+
+unfoldable pub toOldLeft : List ℕ → List ℕ → BufferLeft
+toOldLeft bytes out = movedLeft (toOld bytes out)
 
 -- ---- lists with their items: two buffers are written
 

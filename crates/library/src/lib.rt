@@ -5,7 +5,7 @@ mod answers;
 
 use registers::Registers;
 ghost use mathlib.Core.Path.{_≡_};
-ghost use Rattle.library.specs.Left.{runLeft, stepLeft, passLeft, sumLeft, differenceLeft, equalLeft, lessLeft, greatestLeft, closingLeft, spreadingLeft, readLeft, writeLeft, readPictureLeft, writePictureLeft, version};
+ghost use Rattle.library.specs.Left.{runLeft, stepLeft, passLeft, sumLeft, differenceLeft, equalLeft, lessLeft, greatestLeft, closingLeft, spreadingLeft, readLeft, writeLeft, readPictureLeft, writePictureLeft, toNewLeft, toOldLeft, version};
 
 // A run of an instruction list. The 4 is the version since which the answer has six numbers: a program compiled for five does not link.
 #[no_mangle]
@@ -252,10 +252,30 @@ pub extern "C" fn staran_write_picture(
     *answer = answers::three(r);
 }
 
+// A file with a picture of kind 1 made one of kind 4.
+#[no_mangle]
+pub extern "C" fn staran_picture_to_new(bytes: &[u8], out: &mut [u8], answer: &mut [u32; 3])
+    ensures { λ _. ⌜ record { buffer = now (out .exit); answer = now (answer .exit) }
+        ≡ toNewLeft (now (bytes .entry)) (now (out .entry)) ⌝ }
+{
+    let r = pictures::convert::to_new(bytes, out);
+    *answer = answers::three(r);
+}
+
+// A file with a picture of kind 4 made one of kind 1.
+#[no_mangle]
+pub extern "C" fn staran_picture_to_old(bytes: &[u8], out: &mut [u8], answer: &mut [u32; 3])
+    ensures { λ _. ⌜ record { buffer = now (out .exit); answer = now (answer .exit) }
+        ≡ toOldLeft (now (bytes .entry)) (now (out .entry)) ⌝ }
+{
+    let r = pictures::convert::to_old(bytes, out);
+    *answer = answers::three(r);
+}
+
 // The version of the library that is linked, to be held to the header's.
 #[no_mangle]
 pub extern "C" fn staran_version() -> u32
-    ensures { λ r. ⌜ r ≡ version 5 0 ⌝ }
+    ensures { λ r. ⌜ r ≡ version 5 1 ⌝ }
 {
-    327680
+    327681
 }

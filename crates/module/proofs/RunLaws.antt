@@ -1,6 +1,6 @@
--- A run, from what its parts leave: one instruction more, and the two ends of a judged list. Assumes nothing.
+-- A run, from what its parts leave: one instruction more, the two ends of a judged list, and the mode registers that are left. Assumes nothing.
 use mathlib.Core.Path.{_≡_, refl, sym, ap, ap₂, subst, _∙_}
-use mathlib.Core.Bool.{Bool, cond}
+use mathlib.Core.Bool.{Bool, false, cond}
 use mathlib.Core.List.{List}
 use Prim.Native.Nat.{ℕ, zero, suc, _+_, _/_, _<_}
 use native.Mathlib.Numerals.{add-one}
@@ -12,7 +12,7 @@ use Rattle.bits.specs.Search.{count}
 use Rattle.bits.proofs.Search.{count-more, count-le}
 use Rattle.registers.specs.declared.Modes.{Modes}
 use Rattle.registers.specs.declared.Registers.{Registers}
-use Rattle.registers.specs.Modes.{modesOf}
+use Rattle.registers.specs.Modes.{modesOf, wrongModes}
 use Rattle.registers.specs.Rows.{registersOf, bytesOf}
 use Rattle.judge.specs.declared.Instruction.{Instruction}
 use Rattle.judge.specs.declared.Answer.{Answer}
@@ -20,13 +20,14 @@ use Rattle.judge.specs.Instructions.{instructionAt, takes, gives}
 use Rattle.judge.specs.Modes.{modesBy, modesAfter}
 use Rattle.judge.specs.Judge.{faultOf, runRows, judged}
 use Rattle.judge.specs.Steps.{Accepted}
-use Rattle.judge.proofs.Accepted.{well-formed, run-accepted, run-registers, run-done}
+use Rattle.judge.proofs.Accepted.{well-formed, run-accepted, run-registers, run-modes, run-done}
 use Rattle.judge.proofs.Numbers.{refusal-counts}
+use Rattle.judge.proofs.ModeLaws.{right-after}
 use Rattle.module.specs.Act.{State, acted}
 use Rattle.module.specs.Ready.{Ready}
 use Rattle.module.specs.Run.{Lent, Left, unmoved, runLengths, stepLengths, begun, ranBy, ranAll, ran}
 use Rattle.module.proofs.ActLaws.{modes-acted}
-use Rattle.registers.proofs.RowLaws.{bytes-registers}
+use Rattle.registers.proofs.RowLaws.{modes-bytes, bytes-registers}
 
 -- how many of the first k instructions want one
 abbrev pub usedBy : (Instruction → Bool) → List ℕ → ℕ → ℕ
@@ -151,3 +152,24 @@ ran-answer l = go (ℕ-discrete (a .number) 0)
     go (yes z) =
         sym (ap (λ (x : Left (List ℕ) Answer). x .answer) (ran-done l a refl z (registersOf (l .registers)) s (bytesOf (s .regs)) refl refl refl))
     go (no u) = sym (ap (λ (x : Left (List ℕ) Answer). x .answer) (ran-refused l a refl u))
+
+-- the mode registers that a run leaves are never such as 15 refuses
+pub modes-right : (l : Lent (List ℕ)) → ran l .answer .number ≡ 0 → length (ran l .registers) ≡ 100 → wrongModes (modesOf (ran l .registers)) ≡ false
+modes-right l z n =
+    ap (λ (x : List ℕ). wrongModes (modesOf x)) left
+    ∙ ap wrongModes (modes-bytes (s .regs) (sym (ap length left) ∙ n) ∙ modes-ran (l .list) (l .items) (begun l (registersOf (l .registers))) k)
+    ∙ right-after (l .list) (modesOf (l .registers)) k (run-modes (runLengths l) (modesOf (l .registers)) (l .list) done)
+  where
+    k : ℕ
+    k = length (l .list) / 8
+
+    s : State
+    s = ranAll l (registersOf (l .registers))
+
+    done : judged (runLengths l) (modesOf (l .registers)) (l .list) .number ≡ 0
+    done = sym (ap (λ (a : Answer). a .number) (ran-answer l)) ∙ z
+
+    left : ran l .registers ≡ bytesOf (s .regs)
+    left =
+        sym (ap (λ (x : Left (List ℕ) Answer). x .registers)
+        (ran-done l (judged (runLengths l) (modesOf (l .registers)) (l .list)) refl done (registersOf (l .registers)) s (bytesOf (s .regs)) refl refl refl))

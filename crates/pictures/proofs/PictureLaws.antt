@@ -1,39 +1,93 @@
 -- Laws of a picture: what its tests say, its content eight words at a time, and that plain words and scrambled memory are each other's inverse behind it. Assumes nothing.
-use mathlib.Core.Path.{_≡_, sym, ap, ap₂, _∙_}
-use mathlib.Core.Bool.{true, _&&_}
+use mathlib.Core.Path.{_≡_, refl, sym, ap, ap₂, _∙_}
+use mathlib.Core.Bool.{Bool, true, false, cond, _&&_, _||_}
 use mathlib.Core.List.{List, _++_}
+use mathlib.Core.Logic.{_⊎_, inl, inr}
 use Prim.Native.Nat.{ℕ, _+_, _*_, _<_, _≤_}
 use native.Mathlib.Decide.{decLt}
 use native.Mathlib.Omega.{arith}
 use lib.Dec.{eqb}
 use lib.ListN.{length, take, drop, getD, length-append, length-drop, length-take, List·getD-eq-default, take-append-drop}
-use lib.Seq.{take-all, take-add, length-take-le, getD-take}
-use borrow.Author.Tests.{eqb-true}
+use lib.Seq.{drop-at, take-all, take-add, length-take-le, getD-take}
+use borrow.Author.Tests.{eq-eqb, eqb-true}
 use Rattle.bits.specs.Steps.{putAt}
 use Rattle.bits.proofs.Puts.{put-nil, put-put, put-all, length-put, put-bytes}
 use Rattle.bits.proofs.Rows.{and-left, and-right}
 use Rattle.words.proofs.PlainLaws.{length-plain, plain-bytes, scrambled-front, plain-scrambled, scrambled-plain}
 use Rattle.contents.specs.declared.Moved.{Moved}
-use Rattle.contents.specs.File.{done, contentOf, sizeFits, fileJudged, blockCount, blocksOf}
+use Rattle.contents.specs.File.{isPicture, done, contentOf, kindRight, sizeFits, fileJudged, blockCount, blocksOf}
 use Rattle.contents.specs.Content.{over, changed}
 use Rattle.contents.specs.Payloads.{payloads, laid}
 use Rattle.contents.proofs.FileLaws.{file-stands, Stands}
 use Rattle.contents.proofs.AnswerLaws.{changed-not, changed-done}
 use Rattle.contents.proofs.PayloadLaws.{laid-more, laid-sealed}
-use Rattle.pictures.specs.Picture.{plainWords, pictureOf, scrambled, pictureFits, PictureLeft}
+use Rattle.contents.proofs.RoundTrip.{trip}
+use Rattle.pictures.specs.Picture.{plainWords, pictureRegisters, pictureOf, scrambled, pictureFits, PictureLeft}
 
 -- ---- what the tests of a picture say
 
-pub fits-are : (kind m r : ℕ) → pictureFits kind m r ≡ true → (kind ≡ 1) × (m ≡ 8192) × (r ≡ 96)
-fits-are kind m r e =
-    let both = and-left (eqb kind 1 && eqb m 8192) (eqb r 96) e in
-    (eqb-true kind 1 (and-left (eqb kind 1) (eqb m 8192) both), eqb-true m 8192 (and-right (eqb kind 1) (eqb m 8192) both), eqb-true r 96 (and-right (eqb kind 1 && eqb m 8192) (eqb r 96) e))
+-- the two kinds
+pub picture-kinds : (kind : ℕ) → isPicture kind ≡ true → (kind ≡ 1) ⊎ (kind ≡ 4)
+picture-kinds kind e = go (eqb kind 1) refl e
+  where
+    go : (t : Bool) → eqb kind 1 ≡ t → (t || eqb kind 4) ≡ true → (kind ≡ 1) ⊎ (kind ≡ 4)
+    go true h e = inl (eqb-true kind 1 h)
+    go false h e = inr (eqb-true kind 4 e)
 
-pub picture-judged : (kind : ℕ) (bytes : List ℕ) → kind ≡ 1 → fileJudged kind bytes .number ≡ 0 → fileJudged 1 bytes ≡ done 8288
+-- how many bytes of registers either has
+pub registers-few : (kind : ℕ) → (96 ≤ pictureRegisters kind) × (pictureRegisters kind ≤ 100)
+registers-few kind = go (eqb kind 4)
+  where
+    go : (t : Bool) → (96 ≤ cond t 100 96) × (cond t 100 96 ≤ 100)
+    go true = (omega arith, omega arith)
+    go false = (omega arith, omega arith)
+
+pub fits-are : (kind m r : ℕ) → pictureFits kind m r ≡ true → (isPicture kind ≡ true) × (m ≡ 8192) × (r ≡ pictureRegisters kind)
+fits-are kind m r e =
+    let both = and-left (isPicture kind && eqb m 8192) (eqb r (pictureRegisters kind)) e in (
+      and-left (isPicture kind) (eqb m 8192) both,
+      eqb-true m 8192 (and-right (isPicture kind) (eqb m 8192) both),
+      eqb-true r (pictureRegisters kind) (and-right (isPicture kind && eqb m 8192) (eqb r (pictureRegisters kind)) e),
+    )
+
+pub are-fits : (kind m r : ℕ) → isPicture kind ≡ true → m ≡ 8192 → r ≡ pictureRegisters kind → pictureFits kind m r ≡ true
+are-fits kind m r p em er = ap₂ _&&_ (ap₂ _&&_ p (eq-eqb m 8192 em)) (eq-eqb r (pictureRegisters kind) er)
+
+-- a picture's size
+size-right : (kind size : ℕ) → isPicture kind ≡ true → size ≡ 8192 + pictureRegisters kind → sizeFits kind size ≡ true
 unfolding sizeFits
-picture-judged kind bytes k z =
-    let s = file-stands 1 bytes (sym (ap (λ (x : ℕ). fileJudged x bytes .number) k) ∙ z) in
-    s .answer ∙ ap done (eqb-true (length (contentOf bytes)) 8288 (s .sizes))
+size-right kind size p e = go (picture-kinds kind p)
+  where
+    go : (kind ≡ 1) ⊎ (kind ≡ 4) → sizeFits kind size ≡ true
+    go (inl k) = ap (λ (x : ℕ). sizeFits x size) k ∙ eq-eqb size 8288 (e ∙ ap (λ (x : ℕ). 8192 + pictureRegisters x) k)
+    go (inr k) = ap (λ (x : ℕ). sizeFits x size) k ∙ eq-eqb size 8292 (e ∙ ap (λ (x : ℕ). 8192 + pictureRegisters x) k)
+
+right-size : (kind size : ℕ) → isPicture kind ≡ true → sizeFits kind size ≡ true → size ≡ 8192 + pictureRegisters kind
+unfolding sizeFits
+right-size kind size p e = go (picture-kinds kind p)
+  where
+    go : (kind ≡ 1) ⊎ (kind ≡ 4) → size ≡ 8192 + pictureRegisters kind
+    go (inl k) = eqb-true size 8288 (sym (ap (λ (x : ℕ). sizeFits x size) k) ∙ e) ∙ sym (ap (λ (x : ℕ). 8192 + pictureRegisters x) k)
+    go (inr k) = eqb-true size 8292 (sym (ap (λ (x : ℕ). sizeFits x size) k) ∙ e) ∙ sym (ap (λ (x : ℕ). 8192 + pictureRegisters x) k)
+
+pub picture-judged : (kind : ℕ) (bytes : List ℕ) → isPicture kind ≡ true → fileJudged kind bytes .number ≡ 0 → fileJudged kind bytes ≡ done (8192 + pictureRegisters kind)
+picture-judged kind bytes p z =
+    let s = file-stands kind bytes z in
+    s .answer ∙ ap done (right-size kind (length (contentOf bytes)) p (s .sizes))
+
+-- either kind may be asked for
+pub picture-right : (kind : ℕ) → isPicture kind ≡ true → kindRight kind ≡ true
+unfolding kindRight
+picture-right kind p = go (picture-kinds kind p)
+  where
+    go : (kind ≡ 1) ⊎ (kind ≡ 4) → kindRight kind ≡ true
+    go (inl k) = ap kindRight k
+    go (inr k) = ap kindRight k
+
+-- the blocks of a picture's content stand, of either kind
+pub written-judged : (kind : ℕ) (content : List ℕ) → isPicture kind ≡ true → length content ≡ 8192 + pictureRegisters kind
+    → fileJudged kind (blocksOf kind content) ≡ done (length content)
+written-judged kind content p n = trip kind content (picture-right kind p) (size-right kind (length content) p n)
 
 -- ---- what is left, where the answer r is a: on a refusal the buffers as they were, else the new content of both
 
@@ -68,25 +122,33 @@ module _ (r a : Moved) (new old new′ old′ : List ℕ) where
 
 -- ---- a picture that stands
 
-module _ (bytes : List ℕ) (q : fileJudged 1 bytes ≡ done 8288) where
-  pub picture-stands : Stands 1 bytes
-  picture-stands = file-stands 1 bytes (ap (λ (x : Moved). x .number) q)
+module _ (kind : ℕ) (bytes : List ℕ) (n : ℕ) (q : fileJudged kind bytes ≡ done n) where
+  pub picture-stands : Stands kind bytes
+  picture-stands = file-stands kind bytes (ap (λ (x : Moved). x .number) q)
 
-  pub picture-size : length (contentOf bytes) ≡ 8288
+  pub picture-size : length (contentOf bytes) ≡ n
   picture-size = ap (λ (x : Moved). x .bytes) (sym (picture-stands .answer) ∙ q)
 
 -- its words are its first 8,192 bytes, and its registers the others
-words-front : (content : List ℕ) → 8192 ≤ length content → scrambled (take 8192 content) ≡ scrambled content
+pub words-front : (content : List ℕ) → 8192 ≤ length content → scrambled (take 8192 content) ≡ scrambled content
 words-front content h =
     sym (scrambled-front (take 8192 content) (drop 8192 content) (length-take-le 8192 content h)) ∙ ap scrambled (take-append-drop 8192 content)
 
-pub registers-rest : (content : List ℕ) → length content ≡ 8288 → take 96 (drop 8192 content) ≡ drop 8192 content
-registers-rest content e = take-all 96 (drop 8192 content) (omega (arith, length-drop 8192 content))
+pub registers-rest : (content : List ℕ) (n : ℕ) → length content ≡ 8192 + n → take n (drop 8192 content) ≡ drop 8192 content
+registers-rest content n e = take-all n (drop 8192 content) (omega (arith, length-drop 8192 content))
 
 -- ---- the content that is written
 
-pub length-picture : (mem regs : List ℕ) → length regs ≡ 96 → length (pictureOf mem regs) ≡ 8288
-length-picture mem regs h = omega (arith, length-append (plainWords mem) regs, length-plain mem)
+pub length-picture : (mem regs : List ℕ) → length (pictureOf mem regs) ≡ 8192 + length regs
+length-picture mem regs = omega (arith, length-append (plainWords mem) regs, length-plain mem)
+
+-- the registers stand behind the words
+pub picture-rest : (mem regs : List ℕ) → drop 8192 (pictureOf mem regs) ≡ regs
+picture-rest mem regs = drop-at (plainWords mem) regs 8192 (length-plain mem)
+
+-- of either kind it takes 17 blocks
+pub picture-blocks : (kind n : ℕ) → n ≡ 8192 + pictureRegisters kind → 512 * blockCount n ≡ 8704
+picture-blocks kind n e = omega (arith, registers-few kind)
 
 -- ---- eight words more of a content
 
@@ -110,12 +172,12 @@ module _ (mem regs out : List ℕ) where
       ap (λ (l : List ℕ). laid regs 8192 (laid l 0 out)) (take-all 8192 (plainWords mem) (omega (arith, length-plain mem)))
       ∙ laid-more (plainWords mem) regs out 8192 (sym (length-plain mem))
 
-  pub picture-sealed : length regs ≡ 96 → 8704 ≤ length out → (o : List ℕ) → o ≡ laid (pictureOf mem regs) 0 out
-      → over (blocksOf 1 (payloads o 0 8288)) o ≡ over (blocksOf 1 (pictureOf mem regs)) out
-  picture-sealed h room o e =
-      let n = length-picture mem regs h in
-      ap₂ (λ (l : List ℕ) (k : ℕ). over (blocksOf 1 (payloads l 0 k)) l) e (sym n)
-      ∙ laid-sealed (pictureOf mem regs) out (omega (arith, ap blockCount n)) 1
+  pub picture-sealed : (kind : ℕ) → length regs ≡ pictureRegisters kind → 8704 ≤ length out → (o : List ℕ) → o ≡ laid (pictureOf mem regs) 0 out
+      → over (blocksOf kind (payloads o 0 (8192 + length regs))) o ≡ over (blocksOf kind (pictureOf mem regs)) out
+  picture-sealed kind h room o e =
+      let n = length-picture mem regs in
+      ap₂ (λ (l : List ℕ) (k : ℕ). over (blocksOf kind (payloads l 0 k)) l) e (sym n)
+      ∙ laid-sealed (pictureOf mem regs) out (omega (arith, picture-blocks kind (length (pictureOf mem regs)) (omega arith))) kind
 
 -- a part of bytes is one of bytes
 front-bytes : (l : List ℕ) (n : ℕ) → ((i : ℕ) → getD l i 0 < 256) → (i : ℕ) → getD (take n l) i 0 < 256

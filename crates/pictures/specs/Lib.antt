@@ -1,2 +1,3 @@
 -- Pictures: what the contracts of this crate cite, beside those of contents.
 pub mod Picture
+pub mod Conversion

@@ -1,117 +1,12 @@
-// The program: reads before.pic, run.lst and in.itm of the folder that it is started in, runs, writes after.pic and prints. Document 01, The program.
-//
-// What is printed and written is `session::session`, which is proved; here are the system's calls alone.
-use libc::STDOUT_FILENO;
-use session::Found;
+// The program: a run in the folder that it is started in, or, with words behind its name, a picture's file converted.
+mod convert;
+mod files;
+mod folder;
 
-// Reads an open file to its end, or until the buffer is full: whoever lends one byte more than a file may have sees that it is too long, and reads no further.
-fn fill(fd: i32, name: &[u8], buffer: &mut [u8]) -> Found {
-    let mut done: usize = 0;
-    while done < buffer.len() {
-        let got = libc::read(fd, &mut buffer[done..]);
-        if got < 0 {
-            os::fail(name);
-            return Found::Failed;
-        }
-        let more = io::count(got, &buffer[done..]);
-        if more == 0 {
-            return Found::Bytes(done);
-        }
-        done += more;
-    }
-    Found::Bytes(done)
-}
-
-// Absent is a file of which the system says that there is none. Any other that cannot be opened or read has failed, and the system's reason goes to standard error.
-fn load(name: &[u8], buffer: &mut [u8]) -> Found {
-    let fd = os::open_read(name);
-    if fd < 0 {
-        if os::errno() == libc::ENOENT {
-            return Found::Absent;
-        }
-        os::fail(name);
-        return Found::Failed;
-    }
-    let found = fill(fd, name, buffer);
-    libc::close(fd);
-    found
-}
-
-// One of sixteen letters.
-fn letter(x: u8) -> u8 {
-    b'a' + x % 16
-}
-
-// The name of a run's own new file: after.pic.new, a dot and sixteen letters, two for each random byte.
-fn own_name(random: &[u8; 8]) -> [u8; 30] {
-    let mut name = *b"after.pic.new.................";
-    let mut i: usize = 0;
-    while i < 8 {
-        name[14 + 2 * i] = letter(random[i] / 16);
-        name[15 + 2 * i] = letter(random[i]);
-        i += 1;
-    }
-    name
-}
-
-// All of the picture, through to the device, and the file closed.
-fn put(fd: i32, picture: &[u8]) -> bool {
-    let mut whole = io::write_all(fd, picture);
-    if whole {
-        whole = libc::fsync(fd) >= 0;
-    }
-    if !whole {
-        os::fail(b"after.pic.new");
-    }
-    if libc::close(fd) < 0 {
-        os::fail(b"after.pic.new");
-        return false;
-    }
-    whole
-}
-
-// after.pic is the whole picture, or as it was: a new file of this run's own takes its name only once it is complete, and is removed where it cannot. Other runs in the folder have others, and none touches a file that it has not made.
-fn replace(picture: &[u8]) -> bool {
-    let mut random = [0u8; 8];
-    if libc::getentropy(&mut random) < 0 {
-        os::fail(b"after.pic.new");
-        return false;
-    }
-    let name = own_name(&random);
-    let fd = os::create(&name);
-    if fd < 0 {
-        os::fail(b"after.pic.new");
-        return false;
-    }
-    if put(fd, picture) {
-        if os::rename(&name, b"after.pic") == 0 {
-            return true;
-        }
-        os::fail(b"after.pic");
-    }
-    os::unlink(&name);
-    false
-}
-
-// Nothing is printed where after.pic is to be written and cannot be.
 fn main() {
-    let mut picture = [0u8; 8705];
-    let mut list = [0u8; 8193];
-    let mut items = [0u8; 8193];
-    let p = load(b"before.pic", &mut picture);
-    let l = load(b"run.lst", &mut list);
-    let i = load(b"in.itm", &mut items);
-    let mut after = [0u8; 8704];
-    let mut text = [0u8; 16708];
-    let counts = session::session(p, l, i, &picture, &list, &items, &mut after, &mut text);
-    let size = counts.after;
-    if size > 0 {
-        if !replace(&after[..size]) {
-            return;
-        }
-    }
-    let printed = counts.text;
-    if !io::write_all(STDOUT_FILENO, &text[..printed]) {
-        os::fail(b"standard output");
+    if os::arg_count() > 1 {
+        convert::convert();
+    } else {
+        folder::run();
     }
 }

@@ -3,7 +3,7 @@ use mathlib.Core.Path.{_≡_, refl, sym, ap, subst, subst₂, _∙_}
 use mathlib.Core.Bool.{Bool, true, false}
 use mathlib.Core.List.{List, [], _∷_}
 use mathlib.Core.Logic.{_↔_, _≢_}
-use Prim.Native.Nat.{ℕ}
+use Prim.Native.Nat.{ℕ, _*_}
 use lib.ListN.{length, drop}
 use Rattle.bits.specs.Rows.{Row, FirstRow}
 use Rattle.bits.proofs.Rows.{numbered, among}
@@ -36,15 +36,16 @@ use Rattle.closing.proofs.Lengths.{closing-length, closing-items-length, spread
 use Rattle.closing.proofs.Refusals.{moving-row, moving-sound, moving-no-fault}
 use Rattle.builders.proofs.SearchRefusals.{search-row, search-sound, search-no-fault, greatest-row, greatest-sound, greatest-no-fault}
 use Rattle.contents.specs.declared.Moved.{Moved}
-use Rattle.contents.specs.File.{contentOf, blocksOf}
-use Rattle.contents.specs.Content.{readAnswer, writeAnswer, changed, over, targetFits, contentFits, ContentLeft, contentRead, contentWritten}
+use Rattle.contents.specs.File.{contentOf, blockCount, blocksOf}
+use Rattle.contents.specs.Content.{answered, readAnswer, changed, over, targetFits, contentFits, readRows, writeRows, ContentLeft, contentRead, contentWritten}
 use Rattle.contents.proofs.AnswerLaws.{changed-not, left-parts}
 use Rattle.contents.proofs.Numbers as blocks
-use Rattle.pictures.specs.Picture.{pictureOf, scrambled, pictureFits, pictureRead, pictureWritten}
+use Rattle.pictures.specs.Picture.{pictureOf, scrambled, contentModes, pictureFits, pictureReadRows, pictureRead, pictureWriteRows, pictureWritten}
+use Rattle.pictures.specs.Conversion.{newContent, oldContent, toNewRows, toOldRows, toNew, toOld}
 use Rattle.pictures.proofs.PictureLaws.{both-parts}
-use Rattle.library.specs.Left.{six, three, runLeft, stepLeft, PassLeft, passLeft, BufferLeft, sumLeft, differenceLeft, TwoLeft, builtTwoLeft, equalLeft, lessLeft, greatestLeft, closingLeft, spreadingLeft, readLeft, writeLeft, writePictureLeft, TargetsLeft, readPictureLeft}
-use Rattle.promises.specs.Clauses.{Run, Step, SumList, DifferenceList, GreatestList, ClosingList, SpreadingList, ReadContent, WriteContent, ReadPicture, WritePicture, LibraryRun, LibraryStep, LibraryPass, LibraryBuffer, LibraryTwo, LibraryReadPicture}
-use Rattle.promises.specs.DemandOne.{AnswerTable, RunTable, StepTable, PassTable, ListTable, TwoTable, FieldsTable, SearchTable, GreatestTable, MovingTable, ClosingTable, SpreadingTable, ReadTable, WriteTable, Kept, AllKept, DemandOne}
+use Rattle.library.specs.Left.{six, three, runLeft, stepLeft, PassLeft, passLeft, BufferLeft, sumLeft, differenceLeft, TwoLeft, builtTwoLeft, equalLeft, lessLeft, greatestLeft, closingLeft, spreadingLeft, readLeft, writeLeft, writePictureLeft, toNewLeft, toOldLeft, TargetsLeft, readPictureLeft}
+use Rattle.promises.specs.Clauses.{Run, Step, SumList, DifferenceList, GreatestList, ClosingList, SpreadingList, ReadContent, WriteContent, ReadPicture, WritePicture, ToNew, ToOld, LibraryRun, LibraryStep, LibraryPass, LibraryBuffer, LibraryTwo, LibraryReadPicture}
+use Rattle.promises.specs.DemandOne.{AnswerTable, RunTable, StepTable, PassTable, ListTable, TwoTable, FieldsTable, SearchTable, GreatestTable, MovingTable, ClosingTable, SpreadingTable, ReadTable, WriteTable, ReadContentTable, WriteContentTable, ReadPictureTable, WritePictureTable, ToNewTable, ToOldTable, Kept, AllKept, DemandOne}
 
 -- ---- the tables, from the laws
 
@@ -93,22 +94,22 @@ module _ (rows : List Row) (Good : Type 0) (fault : ℕ) (first : (m : ℕ) → 
             (ap (λ (l : Buffers). l .answer .list) w, ap (λ (l : Buffers). l .answer .items) w);
       }
 
-read-table : (kind : ℕ) (bytes : List ℕ) (fits : Bool) → ReadTable kind bytes fits (readAnswer kind bytes fits)
-read-table kind bytes fits =
+read-table : (kind : ℕ) (bytes : List ℕ) (rows : List Row) (put : ℕ) → numbered rows ≡ true → ReadTable kind bytes rows put (readAnswer kind bytes rows put)
+read-table kind bytes rows put t =
     record {
-      refused = blocks.read-refusals kind bytes fits;
-      row-0 = blocks.read-0 kind bytes fits;
-      done-is = λ z. blocks.read-all kind bytes fits (blocks.read-0 kind bytes fits .0 z);
-      refused-is = blocks.read-no-bytes kind bytes fits;
+      refused = blocks.read-refusals kind bytes rows put;
+      row-0 = blocks.read-0 kind bytes rows put t;
+      done-is = λ z. blocks.read-all kind bytes rows put (blocks.read-0 kind bytes rows put t .0 z);
+      refused-is = blocks.read-no-bytes kind bytes rows put;
     }
 
-write-table : (kind : ℕ) (fits : Bool) (size room : ℕ) → WriteTable kind fits size room (writeAnswer kind fits size room)
-write-table kind fits size room =
+write-table : (rows : List Row) (put : ℕ) → numbered rows ≡ true → WriteTable rows put (answered rows put)
+write-table rows put t =
     record {
-      refused = blocks.write-refusals kind fits size room;
-      row-0 = blocks.write-0 kind fits size room;
-      done-is = λ z. blocks.write-all kind fits size room (blocks.write-0 kind fits size room .0 z);
-      refused-is = blocks.write-no-bytes kind fits size room;
+      refused = blocks.answered-refusals rows put;
+      row-0 = blocks.answered-row-0 rows put t;
+      done-is = blocks.answered-done rows put;
+      refused-is = blocks.answered-no-bytes rows put;
     }
 
 -- ---- from the promises
@@ -244,38 +245,50 @@ module _ (r a : Moved) (new old after : List ℕ) where
       (subst Table (sym (p .0)) t, λ u. p .1 ∙ sym (changed-not r new old u))
 
 read-meets : (kind : ℕ) (bytes target target′ : List ℕ) (r : Moved) → ReadContent kind bytes target target′ r
-    → ReadTable kind bytes (targetFits kind bytes target) r × Kept (r .number) target target′
+    → ReadContentTable kind bytes target r × Kept (r .number) target target′
 unfolding contentRead
 read-meets kind bytes target target′ r h =
-    let fits = targetFits kind bytes target in
-    moved r _ (over (contentOf bytes) target) target target′ (ReadTable kind bytes fits) (read-table kind bytes fits) h
+    moved r _ (over (contentOf bytes) target) target target′ (ReadContentTable kind bytes target)
+    (read-table kind bytes (readRows (targetFits kind bytes target)) (length (contentOf bytes)) refl) h
 
 write-meets : (kind : ℕ) (content out out′ : List ℕ) (r : Moved) → WriteContent kind content out out′ r
-    → WriteTable kind (contentFits kind content) (length content) (length out) r × Kept (r .number) out out′
+    → WriteContentTable kind content out r × Kept (r .number) out out′
 unfolding contentWritten
 write-meets kind content out out′ r h =
-    let fits = contentFits kind content in
-    moved r _ (over (blocksOf kind content) out) out out′ (WriteTable kind fits (length content) (length out)) (write-table kind fits (length content) (length out)) h
+    let need = 512 * blockCount (length content) in
+    moved r _ (over (blocksOf kind content) out) out out′ (WriteContentTable kind content out)
+    (write-table (writeRows kind (contentFits kind content) need (length out)) need refl) h
 
 read-picture-meets : (kind : ℕ) (bytes memory registers memory′ registers′ : List ℕ) (r : Moved) → ReadPicture kind bytes memory registers memory′ registers′ r
-    → ReadTable kind bytes (pictureFits kind (length memory) (length registers)) r × Kept (r .number) memory memory′ × Kept (r .number) registers registers′
+    → ReadPictureTable kind bytes memory registers r × Kept (r .number) memory memory′ × Kept (r .number) registers registers′
 unfolding pictureRead
 read-picture-meets kind bytes memory registers memory′ registers′ r h =
-    let fits = pictureFits kind (length memory) (length registers) in
+    let rows = pictureReadRows (pictureFits kind (length memory) (length registers)) (contentModes (contentOf bytes)) in
     let new = scrambled (contentOf bytes) in
     let new′ = drop 8192 (contentOf bytes) in
     let p = both-parts r _ new memory new′ registers memory′ registers′ h in (
-      subst (ReadTable kind bytes fits) (sym (p .0)) (read-table kind bytes fits),
+      subst (ReadPictureTable kind bytes memory registers) (sym (p .0)) (read-table kind bytes rows (length (contentOf bytes)) refl),
       λ u. p .1 ∙ sym (changed-not r new memory u),
       λ u. p .2 ∙ sym (changed-not r new′ registers u),
     )
 
 write-picture-meets : (kind : ℕ) (memory registers out out′ : List ℕ) (r : Moved) → WritePicture kind memory registers out out′ r
-    → WriteTable kind (pictureFits kind (length memory) (length registers)) 8288 (length out) r × Kept (r .number) out out′
+    → WritePictureTable kind memory registers out r × Kept (r .number) out out′
 unfolding pictureWritten
 write-picture-meets kind memory registers out out′ r h =
-    let fits = pictureFits kind (length memory) (length registers) in
-    moved r _ (over (blocksOf kind (pictureOf memory registers)) out) out out′ (WriteTable kind fits 8288 (length out)) (write-table kind fits 8288 (length out)) h
+    moved r _ (over (blocksOf kind (pictureOf memory registers)) out) out out′ (WritePictureTable kind memory registers out)
+    (write-table (pictureWriteRows kind (pictureFits kind (length memory) (length registers)) (modesOf registers) (length out)) 8704 refl) h
+
+to-new-meets : (bytes out out′ : List ℕ) (r : Moved) → ToNew bytes out out′ r → ToNewTable bytes out r × Kept (r .number) out out′
+unfolding toNew
+to-new-meets bytes out out′ r h =
+    moved r _ (over (blocksOf 4 (newContent (contentOf bytes))) out) out out′ (ToNewTable bytes out) (read-table 1 bytes (toNewRows (length out)) 8704 refl) h
+
+to-old-meets : (bytes out out′ : List ℕ) (r : Moved) → ToOld bytes out out′ r → ToOldTable bytes out r × Kept (r .number) out out′
+unfolding toOld
+to-old-meets bytes out out′ r h =
+    moved r _ (over (blocksOf 1 (oldContent (contentOf bytes))) out) out out′ (ToOldTable bytes out)
+    (read-table 4 bytes (toOldRows (contentModes (contentOf bytes)) (length out)) 8704 refl) h
 
 -- ---- a function of the library: what it leaves is what the entry leaves, and the numbers of the entry's answer
 
@@ -358,7 +371,7 @@ module _ (a s n : ℕ) (marks list items list′ items′ answer′ : List ℕ) 
       (r, ap (λ (l : TwoLeft). l .answer) h, m .0, m .1, m .2)
 
 library-read : (kind : ℕ) (bytes target target′ answer′ : List ℕ) → LibraryBuffer (readLeft kind bytes target) target′ answer′
-    → (r : Moved) × (answer′ ≡ three r) × ReadTable kind bytes (targetFits kind bytes target) r × Kept (r .number) target target′
+    → (r : Moved) × (answer′ ≡ three r) × ReadContentTable kind bytes target r × Kept (r .number) target target′
 unfolding readLeft
 library-read kind bytes target target′ answer′ h =
     let r = contentRead kind bytes target .answer in
@@ -366,7 +379,7 @@ library-read kind bytes target target′ answer′ h =
     (r, ap (λ (l : BufferLeft). l .answer) h, m .0, m .1)
 
 library-write : (kind : ℕ) (content out out′ answer′ : List ℕ) → LibraryBuffer (writeLeft kind content out) out′ answer′
-    → (r : Moved) × (answer′ ≡ three r) × WriteTable kind (contentFits kind content) (length content) (length out) r × Kept (r .number) out out′
+    → (r : Moved) × (answer′ ≡ three r) × WriteContentTable kind content out r × Kept (r .number) out out′
 unfolding writeLeft
 library-write kind content out out′ answer′ h =
     let r = contentWritten kind content out .answer in
@@ -375,7 +388,7 @@ library-write kind content out out′ answer′ h =
 
 library-read-picture : (kind : ℕ) (bytes memory registers memory′ registers′ answer′ : List ℕ)
     → LibraryReadPicture kind bytes memory registers memory′ registers′ answer′
-    → (r : Moved) × (answer′ ≡ three r) × ReadTable kind bytes (pictureFits kind (length memory) (length registers)) r
+    → (r : Moved) × (answer′ ≡ three r) × ReadPictureTable kind bytes memory registers r
     × Kept (r .number) memory memory′ × Kept (r .number) registers registers′
 unfolding readPictureLeft
 library-read-picture kind bytes memory registers memory′ registers′ answer′ h =
@@ -384,12 +397,28 @@ library-read-picture kind bytes memory registers memory′ registers′ answer�
     (r, ap (λ (l : TargetsLeft). l .answer) h, m .0, m .1, m .2)
 
 library-write-picture : (kind : ℕ) (memory registers out out′ answer′ : List ℕ) → LibraryBuffer (writePictureLeft kind memory registers out) out′ answer′
-    → (r : Moved) × (answer′ ≡ three r) × WriteTable kind (pictureFits kind (length memory) (length registers)) 8288 (length out) r
+    → (r : Moved) × (answer′ ≡ three r) × WritePictureTable kind memory registers out r
     × Kept (r .number) out out′
 unfolding writePictureLeft
 library-write-picture kind memory registers out out′ answer′ h =
     let r = pictureWritten kind memory registers out .answer in
     let m = write-picture-meets kind memory registers out out′ r (λ t. record { answer = r; buffer = h t .buffer }) in
+    (r, ap (λ (l : BufferLeft). l .answer) h, m .0, m .1)
+
+library-to-new : (bytes out out′ answer′ : List ℕ) → LibraryBuffer (toNewLeft bytes out) out′ answer′
+    → (r : Moved) × (answer′ ≡ three r) × ToNewTable bytes out r × Kept (r .number) out out′
+unfolding toNewLeft
+library-to-new bytes out out′ answer′ h =
+    let r = toNew bytes out .answer in
+    let m = to-new-meets bytes out out′ r (λ t. record { answer = r; buffer = h t .buffer }) in
+    (r, ap (λ (l : BufferLeft). l .answer) h, m .0, m .1)
+
+library-to-old : (bytes out out′ answer′ : List ℕ) → LibraryBuffer (toOldLeft bytes out) out′ answer′
+    → (r : Moved) × (answer′ ≡ three r) × ToOldTable bytes out r × Kept (r .number) out out′
+unfolding toOldLeft
+library-to-old bytes out out′ answer′ h =
+    let r = toOld bytes out .answer in
+    let m = to-old-meets bytes out out′ r (λ t. record { answer = r; buffer = h t .buffer }) in
     (r, ap (λ (l : BufferLeft). l .answer) h, m .0, m .1)
 
 pub demand-one : DemandOne
@@ -413,6 +442,8 @@ demand-one =
       writeContent = write-meets;
       readPicture = read-picture-meets;
       writePicture = write-picture-meets;
+      toNew = to-new-meets;
+      toOld = to-old-meets;
       libraryPass = library-pass;
       libraryRun = library-run;
       libraryStep = library-step;
@@ -427,5 +458,7 @@ demand-one =
       libraryWriteContent = library-write;
       libraryReadPicture = library-read-picture;
       libraryWritePicture = library-write-picture;
+      libraryToNew = library-to-new;
+      libraryToOld = library-to-old;
       libraryVersion = λ r h. h;
     }

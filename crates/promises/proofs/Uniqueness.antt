@@ -19,7 +19,7 @@ use Rattle.report.specs.Report.{printed}
 use Rattle.session.specs.declared.Counts.{Counts}
 use Rattle.session.specs.Session.{Outcome}
 use Rattle.session.specs.Shown.{Shown}
-use Rattle.promises.specs.Uniqueness.{Sight, OneOutcome, Same, Entries, Library, Program, OfBits, OfMemory, OfWords, OfNetwork, OfRegisters, OfJudge, OfBuilders, OfBlocks, OfContents, Uniqueness}
+use Rattle.promises.specs.Uniqueness.{Sight, OneOutcome, Same, Entries, Library, Program, OfBits, OfMemory, OfWords, OfNetwork, OfRegisters, OfJudge, OfBuilders, OfBlocks, OfContents, OfPictures, Uniqueness}
 
 -- ---- the laws
 
@@ -87,6 +87,8 @@ module _ {M : Type 1} (𝓤 : URA M) (H : Heap 𝓤) (A : Atoms 𝓤) (memory : 
         writeContent = equation 𝓤 _ (λ κs a g r e. refl);
         readPicture = equation 𝓤 _ (λ κs a g r e. refl);
         writePicture = equation 𝓤 _ (λ κs a g r e. refl);
+        toNew = equation 𝓤 _ (λ κs a g r e. refl);
+        toOld = equation 𝓤 _ (λ κs a g r e. refl);
       }
 
   library : Library 𝓤 H A memory runs
@@ -107,6 +109,8 @@ module _ {M : Type 1} (𝓤 : URA M) (H : Heap 𝓤) (A : Atoms 𝓤) (memory : 
         writeContent = equation 𝓤 _ (λ κs a g r e. refl);
         readPicture = equation 𝓤 _ (λ κs a g r e. refl);
         writePicture = equation 𝓤 _ (λ κs a g r e. refl);
+        toNew = equation 𝓤 _ (λ κs a g r e. refl);
+        toOld = equation 𝓤 _ (λ κs a g r e. refl);
         version = equation 𝓤 _ (λ κs a g r e. refl);
       }
 
@@ -173,6 +177,7 @@ module _ {M : Type 1} (𝓤 : URA M) (H : Heap 𝓤) (A : Atoms 𝓤) (memory : 
         logic = equation 𝓤 _ (λ κs a g r e. refl);
         modesOf = equation 𝓤 _ (λ κs a g r e. refl);
         wrongModes = equation 𝓤 _ (λ κs a g r e. refl);
+        anySet = equation 𝓤 _ (λ κs a g r e. refl);
         resolve = equation 𝓤 _ (λ κs a g r e. refl);
         registersOf = equation 𝓤 _ (λ κs a g r e. refl);
         writeRegisters = equation 𝓤 _ (λ κs a g r e. refl);
@@ -218,11 +223,15 @@ module _ {M : Type 1} (𝓤 : URA M) (H : Heap 𝓤) (A : Atoms 𝓤) (memory : 
         refused = equation 𝓤 _ (λ κs a g r e. refl);
         done = equation 𝓤 _ (λ κs a g r e. refl);
         kindRight = equation 𝓤 _ (λ κs a g r e. refl);
+        isPicture = equation 𝓤 _ (λ κs a g r e. refl);
         judgeFile = equation 𝓤 _ (λ κs a g r e. refl);
         partOf = equation 𝓤 _ (λ κs a g r e. refl);
         putPart = equation 𝓤 _ (λ κs a g r e. refl);
         sealAll = equation 𝓤 _ (λ κs a g r e. refl);
       }
+
+  of-pictures : OfPictures 𝓤 H A memory runs
+  of-pictures = record { registersBytes = equation 𝓤 _ (λ κs a g r e. refl) }
 
   pub uniqueness : Uniqueness 𝓤 H A memory runs
   uniqueness =
@@ -240,4 +249,5 @@ module _ {M : Type 1} (𝓤 : URA M) (H : Heap 𝓤) (A : Atoms 𝓤) (memory : 
         ofBuilders = of-builders;
         ofBlocks = of-blocks;
         ofContents = of-contents;
+        ofPictures = of-pictures;
       }

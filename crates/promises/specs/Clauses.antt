@@ -16,6 +16,7 @@ use Rattle.builders.specs.Building.{BuiltLeft as Buffer, BuiltTwoLeft as Buffer
 use Rattle.contents.specs.declared.Moved.{Moved}
 use Rattle.contents.specs.Content.{ContentLeft, contentRead, contentWritten}
 use Rattle.pictures.specs.Picture.{PictureLeft, pictureRead, pictureWritten}
+use Rattle.pictures.specs.Conversion.{toNew, toOld}
 use Rattle.library.specs.Left.{runLeft, stepLeft, PassLeft, passLeft, BufferLeft, TwoLeft, TargetsLeft, readPictureLeft, version}
 
 -- ---- the array
@@ -91,6 +92,13 @@ abbrev pub WritePicture : (kind : ℕ) (memory registers out out′ : List ℕ) 
 WritePicture kind memory registers out out′ r =
     _≡_ {A = ContentLeft} (record { answer = r; buffer = out′ }) (pictureWritten kind memory registers out)
 
+-- `pictures::convert::to_new` and `pictures::convert::to_old`
+abbrev pub ToNew : (bytes out out′ : List ℕ) → Moved → Type 0
+ToNew bytes out out′ r = _≡_ {A = ContentLeft} (record { answer = r; buffer = out′ }) (toNew bytes out)
+
+abbrev pub ToOld : (bytes out out′ : List ℕ) → Moved → Type 0
+ToOld bytes out out′ r = _≡_ {A = ContentLeft} (record { answer = r; buffer = out′ }) (toOld bytes out)
+
 -- ---- the library for C: each contract is one equation of all that a function leaves, its answer's numbers included
 
 -- `staran_run_4`
@@ -105,7 +113,7 @@ LibraryStep l u = u ≡ stepLeft l
 abbrev pub LibraryPass : (item : List ℕ) (flip code : ℕ) (passed′ answer′ : List ℕ) → Type 0
 LibraryPass item flip code passed′ answer′ = _≡_ {A = PassLeft} (record { passed = passed′; answer = answer′ }) (passLeft item flip code)
 
--- `staran_sum_list`, `staran_difference_list`, `staran_greatest_list`, `staran_read_content`, `staran_write_content` and `staran_write_picture`, which write one buffer: l is what the function leaves
+-- `staran_sum_list`, `staran_difference_list`, `staran_greatest_list`, `staran_read_content`, `staran_write_content`, `staran_write_picture`, `staran_picture_to_new` and `staran_picture_to_old`, which write one buffer: l is what the function leaves
 abbrev pub LibraryBuffer : BufferLeft → (buffer′ answer′ : List ℕ) → Type 0
 LibraryBuffer l buffer′ answer′ = _≡_ {A = BufferLeft} (record { buffer = buffer′; answer = answer′ }) l
 
@@ -118,6 +126,6 @@ abbrev pub LibraryReadPicture : (kind : ℕ) (bytes memory registers memory′ r
 LibraryReadPicture kind bytes memory registers memory′ registers′ answer′ =
     _≡_ {A = TargetsLeft} (record { memory = memory′; registers = registers′; answer = answer′ }) (readPictureLeft kind bytes memory registers)
 
--- `staran_version`: 5.0
+-- `staran_version`: 5.1
 abbrev pub LibraryVersion : ℕ → Type 0
-LibraryVersion r = r ≡ version 5 0
+LibraryVersion r = r ≡ version 5 1

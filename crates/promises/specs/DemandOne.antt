@@ -1,8 +1,8 @@
--- Demand 1, on a page: "Every public entry takes arbitrary bytes and lengths, and ends. A list is judged whole before its first instruction acts. A refusal gives the number and place that document 01 fixes, exactly when it says, and no lent byte has changed." Document 02, Six: "Demand 1 reads with the finer table", and a run's or step's refusal gives the offending byte; Seven adds 14 and 15.
+-- Demand 1, on a page: "Every public entry takes arbitrary bytes and lengths, and ends. A list is judged whole before its first instruction acts. A refusal gives the number and place that document 01 fixes, exactly when it says, and no lent byte has changed." Document 02, Six: "Demand 1 reads with the finer table", and a run's or step's refusal gives the offending byte; Seven adds 14 and 15, Eight 28 and 15 in pictures.
 -- A record states each table of document 01; `DemandOne`, below them, has a field for each public entry and for each function of the library. A table is a list of rows with their numbers, in the order in which they are judged; `FirstRow rows n` says that row n is the first that holds, and `FirstByteRow rows n b` also that its condition about byte b is the first of its conditions that does. The names are those of specs/. It is proved in proofs/DemandOne.antt, and assumes nothing.
 -- What is lent is any list of bytes, and a kind, a start or a width any number: no contract of an entry has a `requires`, so no field has a condition on them. That an entry ends is part of every check. A name with ′ is what a buffer lent for writing holds afterwards; one lent for reading cannot change. What stands before a field's last arrow is the entry's promise, its contract's clauses as specs/Clauses.antt has them.
 use mathlib.Core.Path.{_≡_}
-use mathlib.Core.Bool.{Bool, true, false}
+use mathlib.Core.Bool.{true, false}
 use mathlib.Core.List.{List, [], _∷_}
 use mathlib.Core.Logic.{_↔_, _≢_}
 use Prim.Native.Nat.{ℕ, _*_, _^_, _<_, _≤_}
@@ -30,12 +30,13 @@ use Rattle.builders.specs.Searches.{searchLength, itemsLength, greatestLength, 
 use Rattle.closing.specs.Closing.{closingLength, closingItemsLength, spreadingLength, spreadingItemsLength, movingRows, FieldsApart}
 use Rattle.blocks.specs.Block.{blockBytes}
 use Rattle.contents.specs.declared.Moved.{Moved}
-use Rattle.contents.specs.File.{pictureBytes, contentOf, kindRight, sizeFits, blockCount}
-use Rattle.contents.specs.Content.{targetFits, contentFits}
-use Rattle.contents.specs.Numbers.{Answers, Sound, ReadRefused, writeRows}
-use Rattle.pictures.specs.Picture.{pictureFits}
-use Rattle.library.specs.Left.{six, three, sumLeft, differenceLeft, equalLeft, lessLeft, greatestLeft, closingLeft, spreadingLeft, readLeft, writeLeft, writePictureLeft}
-use Rattle.promises.specs.Clauses.{Run, Step, Pass, SumList, DifferenceList, EqualList, LessList, GreatestList, ClosingList, SpreadingList, ReadContent, WriteContent, ReadPicture, WritePicture, LibraryRun, LibraryStep, LibraryPass, LibraryBuffer, LibraryTwo, LibraryReadPicture, LibraryVersion}
+use Rattle.contents.specs.File.{pictureKind, modesPictureKind, contentOf, sizeFits, blockCount}
+use Rattle.contents.specs.Content.{targetFits, contentFits, readRows, writeRows}
+use Rattle.contents.specs.Numbers.{Answers, Sound, ReadRefused}
+use Rattle.pictures.specs.Picture.{pictureFile, contentModes, pictureFits, pictureReadRows, pictureWriteRows}
+use Rattle.pictures.specs.Conversion.{toNewRows, toOldRows}
+use Rattle.library.specs.Left.{six, three, sumLeft, differenceLeft, equalLeft, lessLeft, greatestLeft, closingLeft, spreadingLeft, readLeft, writeLeft, writePictureLeft, toNewLeft, toOldLeft}
+use Rattle.promises.specs.Clauses.{Run, Step, Pass, SumList, DifferenceList, EqualList, LessList, GreatestList, ClosingList, SpreadingList, ReadContent, WriteContent, ReadPicture, WritePicture, ToNew, ToOld, LibraryRun, LibraryStep, LibraryPass, LibraryBuffer, LibraryTwo, LibraryReadPicture, LibraryVersion}
 
 -- ---- Network: "a zero item where byte 6 is none of the 37, and otherwise 0 and the passed item"; document 02, Six: "16, group over 256 lines; 17, m not below p in a byte 6 that is not 0", in this order
 pub record PassTable (lines : List ℕ) (flip code : ℕ) (r : Passed) : Type 0 where
@@ -107,21 +108,45 @@ SpreadingTable a s n marks list items = MovingTable a s n marks list items (spre
 
 -- ---- Blocks on disk: "Place is the block for 21 to 24, else 0"
 
--- Reading: `ReadRefused` has the tables and their order, the rows of a block are `blockRows`; `fits` says whether the targets have the room, or for a picture the lengths, that 26 asks for.
-pub record ReadTable (kind : ℕ) (bytes : List ℕ) (fits : Bool) (r : Moved) : Type 0 where
-  pub refused : (n k : ℕ) → n ≢ 0 → Answers r n k ↔ ReadRefused kind bytes fits n k
+-- Reading, and converting: `ReadRefused` has the tables and their order, the rows of a block are `blockRows`; `rows` are what is asked of a file that stands, and `put` the bytes that are put out.
+pub record ReadTable (kind : ℕ) (bytes : List ℕ) (rows : List Row) (put : ℕ) (r : Moved) : Type 0 where
+  pub refused : (n k : ℕ) → n ≢ 0 → Answers r n k ↔ ReadRefused kind bytes rows n k
   -- "Success gives 0, place 0 and the number of bytes put out; a refusal gives 0 bytes"
-  pub row-0 : (r .number ≡ 0) ↔ Sound kind bytes × (sizeFits kind (length (contentOf bytes)) ≡ true) × (fits ≡ true)
-  pub done-is : r .number ≡ 0 → r ≡ record { number = 0; place = 0; bytes = length (contentOf bytes) }
+  pub row-0 : (r .number ≡ 0) ↔ Sound kind bytes × (sizeFits kind (length (contentOf bytes)) ≡ true) × NoRow rows
+  pub done-is : r .number ≡ 0 → r ≡ record { number = 0; place = 0; bytes = put }
   pub refused-is : r .number ≢ 0 → r .bytes ≡ 0
 
--- Writing a content of `size` bytes to an output of `room`; `fits` says whether the content has the right size.
-pub record WriteTable (kind : ℕ) (fits : Bool) (size room : ℕ) (r : Moved) : Type 0 where
-  -- 22 of the kind asked, "before all else, in reading and writing"; "26 content of wrong size"; "27 output too short"
-  pub refused : (n k : ℕ) → n ≢ 0 → Answers r n k ↔ (k ≡ 0) × FirstRow (writeRows kind fits size room) n
-  pub row-0 : (r .number ≡ 0) ↔ (kindRight kind ≡ true) × (fits ≡ true) × (blockBytes * blockCount size ≤ room)
-  pub done-is : r .number ≡ 0 → r ≡ record { number = 0; place = 0; bytes = blockBytes * blockCount size }
+-- Writing: every number is at place 0.
+pub record WriteTable (rows : List Row) (put : ℕ) (r : Moved) : Type 0 where
+  pub refused : (n k : ℕ) → n ≢ 0 → Answers r n k ↔ (k ≡ 0) × FirstRow rows n
+  pub row-0 : (r .number ≡ 0) ↔ NoRow rows
+  pub done-is : r .number ≡ 0 → r ≡ record { number = 0; place = 0; bytes = put }
   pub refused-is : r .number ≢ 0 → r .bytes ≡ 0
+
+-- A list or items that is read: 26 behind the file. One that is written: 22 of the kind asked, "before all else, in reading and writing"; "26 content of wrong size"; "27 output too short".
+abbrev pub ReadContentTable : (kind : ℕ) (bytes target : List ℕ) → Moved → Type 0
+ReadContentTable kind bytes target = ReadTable kind bytes (readRows (targetFits kind bytes target)) (length (contentOf bytes))
+
+abbrev pub WriteContentTable : (kind : ℕ) (content out : List ℕ) → Moved → Type 0
+WriteContentTable kind content out =
+    let need = blockBytes * blockCount (length content) in
+    WriteTable (writeRows kind (contentFits kind content) need (length out)) need
+
+-- A picture, of either kind. Document 02, Eight: "Refusals: as in document 01; then 15 for bad flags, in writing too; then 28, new to old with a register set; 27 last."
+abbrev pub ReadPictureTable : (kind : ℕ) (bytes memory registers : List ℕ) → Moved → Type 0
+ReadPictureTable kind bytes memory registers =
+    ReadTable kind bytes (pictureReadRows (pictureFits kind (length memory) (length registers)) (contentModes (contentOf bytes))) (length (contentOf bytes))
+
+abbrev pub WritePictureTable : (kind : ℕ) (memory registers out : List ℕ) → Moved → Type 0
+WritePictureTable kind memory registers out =
+    WriteTable (pictureWriteRows kind (pictureFits kind (length memory) (length registers)) (modesOf registers) (length out)) pictureFile
+
+-- Its conversions, whose file is judged as in reading.
+abbrev pub ToNewTable : (bytes out : List ℕ) → Moved → Type 0
+ToNewTable bytes out = ReadTable pictureKind bytes (toNewRows (length out)) pictureFile
+
+abbrev pub ToOldTable : (bytes out : List ℕ) → Moved → Type 0
+ToOldTable bytes out = ReadTable modesPictureKind bytes (toOldRows (contentModes (contentOf bytes)) (length out)) pictureFile
 
 -- ---- the entries
 
@@ -173,20 +198,23 @@ pub record DemandOne : Type 0 where
   -- `read_content`, of a list or items
   pub readContent : (kind : ℕ) (bytes target target′ : List ℕ) (r : Moved)
       → ReadContent kind bytes target target′ r
-      → ReadTable kind bytes (targetFits kind bytes target) r × Kept (r .number) target target′
+      → ReadContentTable kind bytes target r × Kept (r .number) target target′
   -- `write_content`
   pub writeContent : (kind : ℕ) (content out out′ : List ℕ) (r : Moved)
       → WriteContent kind content out out′ r
-      → WriteTable kind (contentFits kind content) (length content) (length out) r × Kept (r .number) out out′
+      → WriteContentTable kind content out r × Kept (r .number) out out′
   -- `read_picture`
   pub readPicture : (kind : ℕ) (bytes memory registers memory′ registers′ : List ℕ) (r : Moved)
       → ReadPicture kind bytes memory registers memory′ registers′ r
-      → ReadTable kind bytes (pictureFits kind (length memory) (length registers)) r
+      → ReadPictureTable kind bytes memory registers r
       × Kept (r .number) memory memory′ × Kept (r .number) registers registers′
   -- `write_picture`
   pub writePicture : (kind : ℕ) (memory registers out out′ : List ℕ) (r : Moved)
       → WritePicture kind memory registers out out′ r
-      → WriteTable kind (pictureFits kind (length memory) (length registers)) pictureBytes (length out) r × Kept (r .number) out out′
+      → WritePictureTable kind memory registers out r × Kept (r .number) out out′
+  -- `to_new` and `to_old`
+  pub toNew : (bytes out out′ : List ℕ) (r : Moved) → ToNew bytes out out′ r → ToNewTable bytes out r × Kept (r .number) out out′
+  pub toOld : (bytes out out′ : List ℕ) (r : Moved) → ToOld bytes out out′ r → ToOldTable bytes out r × Kept (r .number) out out′
   -- ---- the library for C: the numbers in its answer array are those of the same tables, and a refusal leaves every other lent byte as it was
 
   -- `staran_pass` and `staran_wired_pass`: a refusal gives a zero item, so the item is always written
@@ -221,18 +249,23 @@ pub record DemandOne : Type 0 where
       × Kept (r .number) list list′ × Kept (r .number) items items′
   -- `staran_read_content`
   pub libraryReadContent : (kind : ℕ) (bytes target target′ answer′ : List ℕ) → LibraryBuffer (readLeft kind bytes target) target′ answer′
-      → (r : Moved) × (answer′ ≡ three r) × ReadTable kind bytes (targetFits kind bytes target) r × Kept (r .number) target target′
+      → (r : Moved) × (answer′ ≡ three r) × ReadContentTable kind bytes target r × Kept (r .number) target target′
   -- `staran_write_content`
   pub libraryWriteContent : (kind : ℕ) (content out out′ answer′ : List ℕ) → LibraryBuffer (writeLeft kind content out) out′ answer′
-      → (r : Moved) × (answer′ ≡ three r) × WriteTable kind (contentFits kind content) (length content) (length out) r × Kept (r .number) out out′
+      → (r : Moved) × (answer′ ≡ three r) × WriteContentTable kind content out r × Kept (r .number) out out′
   -- `staran_read_picture`
   pub libraryReadPicture : (kind : ℕ) (bytes memory registers memory′ registers′ answer′ : List ℕ)
       → LibraryReadPicture kind bytes memory registers memory′ registers′ answer′
-      → (r : Moved) × (answer′ ≡ three r) × ReadTable kind bytes (pictureFits kind (length memory) (length registers)) r
+      → (r : Moved) × (answer′ ≡ three r) × ReadPictureTable kind bytes memory registers r
       × Kept (r .number) memory memory′ × Kept (r .number) registers registers′
   -- `staran_write_picture`
   pub libraryWritePicture : (kind : ℕ) (memory registers out out′ answer′ : List ℕ) → LibraryBuffer (writePictureLeft kind memory registers out) out′ answer′
-      → (r : Moved) × (answer′ ≡ three r) × WriteTable kind (pictureFits kind (length memory) (length registers)) pictureBytes (length out) r
+      → (r : Moved) × (answer′ ≡ three r) × WritePictureTable kind memory registers out r
       × Kept (r .number) out out′
-  -- `staran_version` has no number of the tables: 5.0, and nothing else
-  pub libraryVersion : (r : ℕ) → LibraryVersion r → r ≡ 327680
+  -- `staran_picture_to_new` and `staran_picture_to_old`
+  pub libraryToNew : (bytes out out′ answer′ : List ℕ) → LibraryBuffer (toNewLeft bytes out) out′ answer′
+      → (r : Moved) × (answer′ ≡ three r) × ToNewTable bytes out r × Kept (r .number) out out′
+  pub libraryToOld : (bytes out out′ answer′ : List ℕ) → LibraryBuffer (toOldLeft bytes out) out′ answer′
+      → (r : Moved) × (answer′ ≡ three r) × ToOldTable bytes out r × Kept (r .number) out out′
+  -- `staran_version` has no number of the tables: 5.1, and nothing else
+  pub libraryVersion : (r : ℕ) → LibraryVersion r → r ≡ 327681

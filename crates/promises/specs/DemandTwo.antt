@@ -29,9 +29,9 @@ use Rattle.judge.specs.Judge.{done, faultOf, judged}
 use Rattle.module.specs.Act.{State, partAt, putPart, sourceItem, passedBy, acted}
 use Rattle.module.specs.Run.{Lent, unmoved, runLengths, begun, ranBy, ran}
 use Rattle.blocks.specs.Sums.{at}
-use Rattle.contents.specs.File.{pictureKind, pictureBytes, done as put}
+use Rattle.contents.specs.File.{done as put}
 use Rattle.contents.specs.Content.{over, contentRead, contentWritten}
-use Rattle.pictures.specs.Picture.{pictureWords, pictureRegisters, pictureRead, pictureWritten}
+use Rattle.pictures.specs.Picture.{pictureWords, pictureRead, pictureWritten}
 
 -- ---- storage, access, and the unscrambled table
 
@@ -171,16 +171,17 @@ pub record Returns : Type 0 where
       → (let r = contentRead kind bytes target in
       contentWritten kind (take (r .answer .bytes) (r .buffer)) out
       ≡ record { answer = put (length bytes); buffer = over bytes out })
+  -- document 02, Eight: "demand 2's round trip, now run to 4"
   pub picture : (kind : ℕ) (memory registers out memory′ registers′ : List ℕ) → ((k : ℕ) → at memory k < 256)
       → pictureWritten kind memory registers out .answer .number ≡ 0
-      → length memory′ ≡ pictureWords → length registers′ ≡ pictureRegisters
+      → length memory′ ≡ pictureWords → length registers′ ≡ length registers
       → (let w = pictureWritten kind memory registers out in
-      pictureRead pictureKind (take (w .answer .bytes) (w .buffer)) memory′ registers′
-      ≡ record { answer = put pictureBytes; memory = memory; registers = registers })
+      pictureRead kind (take (w .answer .bytes) (w .buffer)) memory′ registers′
+      ≡ record { answer = put (pictureWords + length registers); memory = memory; registers = registers })
   pub pictureAgain : (kind : ℕ) (bytes memory registers out : List ℕ) → ((k : ℕ) → at bytes k < 256)
       → pictureRead kind bytes memory registers .answer .number ≡ 0 → length bytes ≤ length out
       → (let r = pictureRead kind bytes memory registers in
-      pictureWritten pictureKind (r .memory) (r .registers) out ≡ record { answer = put (length bytes); buffer = over bytes out })
+      pictureWritten kind (r .memory) (r .registers) out ≡ record { answer = put (length bytes); buffer = over bytes out })
 
 -- ---- the demand
 

@@ -3,6 +3,7 @@ pub mod Clauses
 pub mod DemandOne
 pub mod DemandTwo
 pub mod DemandModes
+pub mod DemandPictures
 pub mod DemandThree
 pub mod DemandSearch
 pub mod DemandClosing

@@ -49,6 +49,7 @@ use Rattle.registers.proofs.with_modes as with_modes
 use Rattle.registers.proofs.logic as logic
 use Rattle.registers.proofs.mode_bytes.modes_of as modes_of
 use Rattle.registers.proofs.mode_bytes.wrong_modes as wrong_modes
+use Rattle.registers.proofs.mode_bytes.any_set as any_set
 use Rattle.registers.proofs.resolver.resolve as resolve
 use Rattle.registers.proofs.rows.registers_of as registers_of
 use Rattle.registers.proofs.rows.write_registers as write_registers
@@ -89,6 +90,7 @@ use Rattle.contents.specs.Content.{ContentLeft}
 use Rattle.contents.proofs.refused as refused
 use Rattle.contents.proofs.done as done
 use Rattle.contents.proofs.kind_right as kind_right
+use Rattle.contents.proofs.is_picture as is_picture
 use Rattle.contents.proofs.judge_file as judge_file
 use Rattle.contents.proofs.part_of as part_of
 use Rattle.contents.proofs.put_part as put_part
@@ -98,6 +100,9 @@ use Rattle.contents.proofs.write_content as write_content
 use Rattle.pictures.specs.Picture.{PictureLeft}
 use Rattle.pictures.proofs.read_picture as read_picture
 use Rattle.pictures.proofs.write_picture as write_picture
+use Rattle.pictures.proofs.registers_bytes as registers_bytes
+use Rattle.pictures.proofs.convert.to_new as to_new
+use Rattle.pictures.proofs.convert.to_old as to_old
 use Rattle.library.specs.Left.{PassLeft, BufferLeft, TwoLeft, TargetsLeft}
 use Rattle.library.proofs.staran_run_4 as library_run
 use Rattle.library.proofs.staran_step_5 as library_step
@@ -114,6 +119,8 @@ use Rattle.library.proofs.staran_read_content as staran_read_content
 use Rattle.library.proofs.staran_write_content as staran_write_content
 use Rattle.library.proofs.staran_read_picture as staran_read_picture
 use Rattle.library.proofs.staran_write_picture as staran_write_picture
+use Rattle.library.proofs.staran_picture_to_new as staran_picture_to_new
+use Rattle.library.proofs.staran_picture_to_old as staran_picture_to_old
 use Rattle.library.proofs.staran_version as staran_version
 use Rattle.report.proofs.report as report
 use Rattle.session.specs.declared.Counts.{Counts}
@@ -171,6 +178,9 @@ module _ {M : Type 1} (𝓤 : URA M) (H : Heap 𝓤) (A : Atoms 𝓤) (memory : 
     pub readPicture : OneOutcome 𝓤 read_picture.ended (read_picture.clauses 𝓤 H A memory runs) {O = PictureLeft} (λ κs r e. record { answer = r; memory = now (e .1 .1 .0); registers = now (e .1 .1 .1 .0) })
     -- `pictures::write_picture`
     pub writePicture : OneOutcome 𝓤 write_picture.ended (write_picture.clauses 𝓤 H A memory runs) {O = ContentLeft} (λ κs r e. record { answer = r; buffer = now (e .1 .1 .1 .0) })
+    -- `pictures::convert::to_new` and `pictures::convert::to_old`
+    pub toNew : OneOutcome 𝓤 to_new.ended (to_new.clauses 𝓤 H A memory runs) {O = ContentLeft} (λ κs r e. record { answer = r; buffer = now (e .1 .0) })
+    pub toOld : OneOutcome 𝓤 to_old.ended (to_old.clauses 𝓤 H A memory runs) {O = ContentLeft} (λ κs r e. record { answer = r; buffer = now (e .1 .0) })
 
   -- ---- the library for C
 
@@ -190,6 +200,8 @@ module _ {M : Type 1} (𝓤 : URA M) (H : Heap 𝓤) (A : Atoms 𝓤) (memory : 
     pub writeContent : OneOutcome 𝓤 staran_write_content.ended (staran_write_content.clauses 𝓤 H A memory runs) {O = BufferLeft} (λ κs r e. record { buffer = now (e .1 .1 .0); answer = now (e .1 .1 .1 .0) })
     pub readPicture : OneOutcome 𝓤 staran_read_picture.ended (staran_read_picture.clauses 𝓤 H A memory runs) {O = TargetsLeft} (λ κs r e. record { memory = now (e .1 .1 .0); registers = now (e .1 .1 .1 .0); answer = now (e .1 .1 .1 .1 .0) })
     pub writePicture : OneOutcome 𝓤 staran_write_picture.ended (staran_write_picture.clauses 𝓤 H A memory runs) {O = BufferLeft} (λ κs r e. record { buffer = now (e .1 .1 .1 .0); answer = now (e .1 .1 .1 .1 .0) })
+    pub toNew : OneOutcome 𝓤 staran_picture_to_new.ended (staran_picture_to_new.clauses 𝓤 H A memory runs) {O = BufferLeft} (λ κs r e. record { buffer = now (e .1 .0); answer = now (e .1 .1 .0) })
+    pub toOld : OneOutcome 𝓤 staran_picture_to_old.ended (staran_picture_to_old.clauses 𝓤 H A memory runs) {O = BufferLeft} (λ κs r e. record { buffer = now (e .1 .0); answer = now (e .1 .1 .0) })
     pub version : OneOutcome 𝓤 staran_version.ended (staran_version.clauses 𝓤 H A memory runs) {O = ℕ} (λ κs r e. r)
 
   -- ---- the program: all of it but the system's calls, and its printed lines
@@ -247,6 +259,7 @@ module _ {M : Type 1} (𝓤 : URA M) (H : Heap 𝓤) (A : Atoms 𝓤) (memory : 
     pub logic : OneOutcome 𝓤 logic.ended (logic.clauses 𝓤 H A memory runs) (λ κs r e. r)
     pub modesOf : OneOutcome 𝓤 modes_of.ended (modes_of.clauses 𝓤 H A memory runs) (λ κs r e. r)
     pub wrongModes : OneOutcome 𝓤 wrong_modes.ended (wrong_modes.clauses 𝓤 H A memory runs) (λ κs r e. r)
+    pub anySet : OneOutcome 𝓤 any_set.ended (any_set.clauses 𝓤 H A memory runs) (λ κs r e. r)
     pub resolve : OneOutcome 𝓤 resolve.ended (resolve.clauses 𝓤 H A memory runs) (λ κs r e. r)
     pub registersOf : OneOutcome 𝓤 registers_of.ended (registers_of.clauses 𝓤 H A memory runs) (λ κs r e. r)
     pub writeRegisters : OneOutcome 𝓤 write_registers.ended (write_registers.clauses 𝓤 H A memory runs) (λ κs r e. now (e .0))
@@ -284,10 +297,15 @@ module _ {M : Type 1} (𝓤 : URA M) (H : Heap 𝓤) (A : Atoms 𝓤) (memory : 
     pub refused : OneOutcome 𝓤 refused.ended (refused.clauses 𝓤 H A memory runs) (λ κs r e. r)
     pub done : OneOutcome 𝓤 done.ended (done.clauses 𝓤 H A memory runs) (λ κs r e. r)
     pub kindRight : OneOutcome 𝓤 kind_right.ended (kind_right.clauses 𝓤 H A memory runs) (λ κs r e. r)
+    pub isPicture : OneOutcome 𝓤 is_picture.ended (is_picture.clauses 𝓤 H A memory runs) (λ κs r e. r)
     pub judgeFile : OneOutcome 𝓤 judge_file.ended (judge_file.clauses 𝓤 H A memory runs) (λ κs r e. r)
     pub partOf : OneOutcome 𝓤 part_of.ended (part_of.clauses 𝓤 H A memory runs) (λ κs r e. now (e .1 .1 .0))
     pub putPart : OneOutcome 𝓤 put_part.ended (put_part.clauses 𝓤 H A memory runs) (λ κs r e. now (e .1 .1 .0))
     pub sealAll : OneOutcome 𝓤 seal_all.ended (seal_all.clauses 𝓤 H A memory runs) (λ κs r e. now (e .1 .1 .1 .0))
+
+  -- `pictures`
+  pub record OfPictures : Type 2 where
+    pub registersBytes : OneOutcome 𝓤 registers_bytes.ended (registers_bytes.clauses 𝓤 H A memory runs) (λ κs r e. r)
 
   -- ---- all of them
 
@@ -306,3 +324,4 @@ module _ {M : Type 1} (𝓤 : URA M) (H : Heap 𝓤) (A : Atoms 𝓤) (memory : 
     pub ofBuilders : OfBuilders
     pub ofBlocks : OfBlocks
     pub ofContents : OfContents
+    pub ofPictures : OfPictures

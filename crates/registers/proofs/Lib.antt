@@ -2,4 +2,5 @@
 pub mod LogicLaws
 pub mod ResolverLaws
 pub mod Examples
+pub mod ModeLaws
 pub mod RowLaws

@@ -1,14 +1,15 @@
 -- The register set as its three parts of 32 bytes and its four bytes of modes. Assumes nothing.
 use mathlib.Core.Path.{_≡_, refl, sym, ap, ap₂, _∙_}
-use mathlib.Core.List.{List, [], _∷_, _++_, append-assoc, append-nil}
+use mathlib.Core.List.{List, [], _++_, append-assoc, append-nil}
 use Prim.Native.Nat.{ℕ, _+_}
 use native.Mathlib.Omega.{arith}
-use lib.ListN.{length, getD, take, drop, length-append, length-drop, drop-of-length-le, take-append-drop}
-use lib.Seq.{take-at, drop-at, drop-drop, getD-drop}
+use lib.ListN.{length, take, drop, length-append, length-drop, drop-of-length-le, take-append-drop}
+use lib.Seq.{take-at, drop-at, drop-drop}
 use borrow.Rule.Slice.PartMut.{putMid}
 use Rattle.registers.specs.declared.Registers.{Registers}
 use Rattle.registers.specs.Modes.{modesOf, modeBytes}
 use Rattle.registers.specs.Rows.{registersOf, bytesOf}
+use Rattle.registers.proofs.ModeLaws.{modes-behind, modes-last}
 
 -- k bytes more, behind the n that are written
 put-more : (p d b : List ℕ) (n k : ℕ) → length p ≡ n → putMid n k (p ++ d) b ≡ (p ++ b) ++ drop k d
@@ -37,12 +38,14 @@ put-four l a b c d r hl hm hx hy ea eb ec ed =
     ∙ ap₂ (λ (x y : List ℕ). x ++ (y ++ (c ++ d))) ea eb
     ∙ ap₂ (λ (x y : List ℕ). r .m ++ (r .x ++ (x ++ y))) ec ed
 
--- the modes of bytes are those at the front of what stands behind the first 96
-modes-behind : (l z : List ℕ) → drop 96 l ≡ z
-    → modesOf l ≡ record { a = record { set = getD z 0 0; mode = getD z 1 0 }; b = record { set = getD z 2 0; mode = getD z 3 0 } }
-modes-behind l z e =
-    let byte : (k : ℕ) → getD l (96 + k) 0 ≡ getD z k 0 = λ k. sym (getD-drop 96 l k 0) ∙ ap (λ (x : List ℕ). getD x k 0) e in
-    λ j. record { a = record { set = byte 0 j; mode = byte 1 j }; b = record { set = byte 2 j; mode = byte 3 j } }
+-- the mode registers of a record come back from its 100 bytes, whatever the lengths of its parts
+pub modes-bytes : (r : Registers) → length (bytesOf r) ≡ 100 → modesOf (bytesOf r) ≡ r .modes
+modes-bytes r h =
+    let last = modeBytes (r .modes) in
+    let front = (r .m ++ r .x) ++ r .y in
+    let e : bytesOf r ≡ front ++ last = sym (append-assoc (r .m) (r .x) (r .y ++ last)) ∙ sym (append-assoc (r .m ++ r .x) (r .y) last) in
+    let n : length front ≡ 96 = omega (arith, sym (ap length e) ∙ h, length-append front last) in
+    modes-behind (bytesOf r) last (ap (drop 96) e ∙ drop-at front last 96 n)
 
 -- a record comes back from its bytes
 pub registers-bytes : (r : Registers) → length (r .m) ≡ 32 → length (r .x) ≡ 32 → length (r .y) ≡ 32 → registersOf (bytesOf r) ≡ r
@@ -58,19 +61,10 @@ registers-bytes r hm hx hy =
       modes = modes-behind (bytesOf r) last f j;
     }
 
-four : (z : List ℕ) → length z ≡ 4 → getD z 0 0 ∷ getD z 1 0 ∷ getD z 2 0 ∷ getD z 3 0 ∷ [] ≡ z
-four [] h = absurd (omega arith)
-four (a ∷ []) h = absurd (omega arith)
-four (a ∷ b ∷ []) h = absurd (omega arith)
-four (a ∷ b ∷ c ∷ []) h = absurd (omega arith)
-four (a ∷ b ∷ c ∷ d ∷ []) h = refl
-four (a ∷ b ∷ c ∷ d ∷ e ∷ z) h = absurd (omega arith)
-
 -- and 100 bytes from their record
 pub bytes-registers : (l : List ℕ) → length l ≡ 100 → bytesOf (registersOf l) ≡ l
 bytes-registers l h =
-    let last : modeBytes (modesOf l) ≡ drop 96 l = ap modeBytes (modes-behind l (drop 96 l) refl) ∙ four (drop 96 l) (length-drop 96 l ∙ omega arith) in
-    ap (λ (z : List ℕ). take 32 l ++ (take 32 (drop 32 l) ++ (take 32 (drop 64 l) ++ z))) (last ∙ sym (drop-drop 32 64 l))
+    ap (λ (z : List ℕ). take 32 l ++ (take 32 (drop 32 l) ++ (take 32 (drop 64 l) ++ z))) (modes-last l h ∙ sym (drop-drop 32 64 l))
     ∙ ap (λ (z : List ℕ). take 32 l ++ (take 32 (drop 32 l) ++ z)) (take-append-drop 32 (drop 64 l) ∙ sym (drop-drop 32 32 l))
     ∙ ap (λ (z : List ℕ). take 32 l ++ z) (take-append-drop 32 (drop 32 l))
     ∙ take-append-drop 32 l

@@ -1,4 +1,4 @@
--- The two access mode registers as bytes of the register set, and which bytes stand. Document 02, Seven.
+-- The two access mode registers as bytes of the register set, and which bytes stand. Document 02, Seven and Eight.
 use mathlib.Core.Bool.{Bool, not, _&&_, _||_}
 use mathlib.Core.List.{List, [], _∷_}
 use Prim.Native.Nat.{ℕ}
@@ -11,7 +11,7 @@ use Rattle.registers.specs.declared.Modes.{Modes}
 abbrev pub modesOf : List ℕ → Modes
 modesOf l = record { a = record { set = getD l 96 0; mode = getD l 97 0 }; b = record { set = getD l 98 0; mode = getD l 99 0 } }
 
--- Both unset, as the program starts.
+-- Both unset: as the program starts from a picture of kind 1.
 abbrev pub noneSet : Modes
 noneSet = record { a = record { set = 0; mode = 0 }; b = record { set = 0; mode = 0 } }
 
@@ -24,3 +24,7 @@ wrongRegister r = ltb 1 (r .set) || (eqb (r .set) 0 && not (eqb (r .mode) 0))
 
 unfoldable pub wrongModes : Modes → Bool
 wrongModes m = wrongRegister (m .a) || wrongRegister (m .b)
+
+-- "A register set": one of the two flags is 1.
+abbrev pub anySet : Modes → Bool
+anySet m = eqb (m .a .set) 1 || eqb (m .b .set) 1

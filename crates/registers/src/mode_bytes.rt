@@ -1,9 +1,9 @@
-// The mode registers as the last four bytes of the register set, and whether 15 refuses them. Document 02, Seven.
+// The mode registers as the last four bytes of the register set, whether 15 refuses them and whether one is set. Document 02, Seven and Eight.
 use crate::ModeRegister;
 use crate::Modes;
 ghost use mathlib.Core.Path.{_≡_};
 ghost use lib.ListN.{getD};
-ghost use Rattle.registers.specs.Modes.{modesOf, wrongRegister, wrongModes};
+ghost use Rattle.registers.specs.Modes.{modesOf, wrongRegister, wrongModes, anySet};
 
 // Byte `k`, 0 where there is none.
 fn byte_or_zero(bytes: &[u8], k: usize) -> u8
@@ -44,4 +44,13 @@ pub fn wrong_modes(m: Modes) -> bool
     let a = m.a;
     let b = m.b;
     wrong_register(a) | wrong_register(b)
+}
+
+// Is either set?
+pub fn any_set(m: Modes) -> bool
+    ensures { λ r. ⌜ r ≡ anySet m ⌝ }
+{
+    let a = m.a;
+    let b = m.b;
+    (a.set == 1) | (b.set == 1)
 }

@@ -1,141 +1,168 @@
--- What each way of taking a file answers and leaves, and that its place is small. Assumes nothing.
+-- What each way of taking a file answers and leaves, the kind that before.pic is taken for, and that a place is small. Assumes nothing.
 use mathlib.Core.Path.{_≡_, refl, sym, ap, ap₂, subst, _∙_}
 use mathlib.Core.Bool.{Bool, true, false, cond, not, _&&_}
-use mathlib.Core.List.{List}
-use Prim.Native.Nat.{ℕ, zero, suc, _/_, _<_, _≤_}
+use mathlib.Core.List.{List, [], _∷_}
+use Prim.Native.Nat.{ℕ, _-_, _/_, _<_, _≤_}
+use native.Mathlib.Nat.{sub-zero}
 use native.Mathlib.Omega.{arith}
 use native.Mathlib.Decide.{ℕ-discrete}
-use lib.Dec.{eqb, ltb}
-use lib.ListN.{length, take, drop, length-append}
+use lib.Dec.{eqb, leb, ltb}
+use lib.ListN.{length, take, drop, length-append, length-drop}
 use lib.Seq.{take-at}
-use borrow.Author.Tests.{eq-eqb, lt-ltb, le-ltb, le-leb, ltb-false}
-use Rattle.blocks.specs.Block.{fault}
+use borrow.Author.Tests.{eq-eqb, ne-eqb, lt-ltb, le-ltb, le-leb, lt-leb, ltb-false}
+use borrow.Rule.Slice.PartMut.{midOf, putMid, mid-len}
+use Rattle.bits.specs.Rows.{row, numberOf}
+use Rattle.bits.proofs.Rows.{taken}
+use Rattle.bits.proofs.Puts.{part-put, put-front}
+use Rattle.registers.specs.Modes.{wrongModes}
+use Rattle.blocks.specs.Block.{twoAt}
 use Rattle.contents.specs.declared.Moved.{Moved}
-use Rattle.contents.specs.File.{done, refused, blockAt, contentOf, Verdict, good, bad, verdict, next, blocksJudged, kindRight, lengthRight, sizeFits, settled, fileJudged}
-use Rattle.contents.specs.Content.{readAnswer, changed, over, targetFits, ContentLeft, contentRead}
-use Rattle.pictures.specs.Picture.{scrambled, pictureFits, PictureLeft, pictureRead}
+use Rattle.contents.specs.File.{isPicture, done, refused, contentOf, fileJudged}
+use Rattle.contents.specs.Content.{answered, readAnswer, changed, over, targetFits, readRows, ContentLeft, contentRead}
+use Rattle.pictures.specs.Picture.{pictureRegisters, scrambled, contentModes, pictureFits, pictureReadRows, PictureLeft, pictureRead}
+use Rattle.contents.proofs.Bounds.{read-place, judged-place}
 use Rattle.contents.proofs.FileLaws.{Stands, file-stands}
 use Rattle.contents.proofs.OneForm.{size-is, count-is}
-use Rattle.contents.proofs.AnswerLaws.{read-refused, read-done, left-parts, changed-not, changed-done, refused-not}
-use Rattle.pictures.proofs.PictureLaws.{both-parts}
+use Rattle.contents.proofs.AnswerLaws.{answered-none, read-refused, read-rows, read-stands, left-parts, changed-done, refused-not}
+use Rattle.pictures.proofs.PictureLaws.{registers-few, are-fits, both-parts}
+use Rattle.pictures.proofs.ConversionLaws.{picture-bytes}
 use Rattle.session.specs.declared.Found.{Found}
 use Rattle.session.specs.declared.Found.the-variants.{Bytes}
-use Rattle.session.specs.Session.{File, absent, failed, bytes, fileOf, read, fileAnswer, pictureAnswer, contentAnswer, contentIn}
+use Rattle.session.specs.Session.{File, absent, failed, bytes, fileOf, read, fileAnswer, kindOf, pictureJudged, pictureAnswer, contentAnswer, contentIn, blankRegisters, startRegisters}
 
--- ---- a reader whose targets fit answers as the judge
+-- ---- a reader whose target fits answers as the judge
 
-pub read-fits : (kind : ℕ) (b : List ℕ) (fits : Bool) → (fileJudged kind b .number ≡ 0 → fits ≡ true) → readAnswer kind b fits ≡ fileJudged kind b
+read-fits : (kind : ℕ) (b : List ℕ) (fits : Bool) → (fileJudged kind b .number ≡ 0 → fits ≡ true)
+    → readAnswer kind b (readRows fits) (length (contentOf b)) ≡ fileJudged kind b
 read-fits kind b fits f =
-    elim (ℕ-discrete (fileJudged kind b .number) 0)
-    [ yes z ↦ sym (read-done kind b fits (fileJudged kind b) refl z (f z)) | no u ↦ sym (read-refused kind b fits (fileJudged kind b) refl u) ]
+    let n = length (contentOf b) in
+    elim (ℕ-discrete (fileJudged kind b .number) 0) [
+      | yes z ↦ sym (file-stands kind b z .answer ∙ answered-none (readRows fits) n (ap (λ (x : Bool). numberOf (readRows x)) (f z)) ∙ read-rows kind b (readRows fits) n (fileJudged kind b) refl z)
+      | no u ↦ sym (read-refused kind b (readRows fits) n (fileJudged kind b) refl u)
+    ]
 
 -- ---- by length
 
-read-long : (limit kind : ℕ) (b : List ℕ) → limit < length b → refused 20 0 ≡ read limit kind b
+read-long : (limit : ℕ) (judge : List ℕ → Moved) (b : List ℕ) → limit < length b → refused 20 0 ≡ read limit judge b
 unfolding read
-read-long limit kind b h = simp (lt-ltb limit (length b) h)
+read-long limit judge b h = sym (ap (λ (t : Bool). cond t (refused 20 0) (judge b)) (lt-ltb limit (length b) h))
 
-pub read-short : (limit kind : ℕ) (b : List ℕ) → length b ≤ limit → fileJudged kind b ≡ read limit kind b
+pub read-short : (limit : ℕ) (judge : List ℕ → Moved) (b : List ℕ) → length b ≤ limit → judge b ≡ read limit judge b
 unfolding read
-read-short limit kind b h = simp (le-ltb limit (length b) h)
+read-short limit judge b h = sym (ap (λ (t : Bool). cond t (refused 20 0) (judge b)) (le-ltb limit (length b) h))
 
 -- what was found, where x are its bytes at the start of buffer b
 pub found-bytes : {f : Found} {n : ℕ} {x : List ℕ} (b : List ℕ) → f ≡ Bytes n → x ≡ take n b → bytes x ≡ fileOf f b
 found-bytes b g e = ap bytes e ∙ sym (ap (λ (f : Found). fileOf f b) g)
 
-pub found-long : {f : Found} {n : ℕ} {x : List ℕ} (none : Moved) (limit kind : ℕ) (b : List ℕ) → f ≡ Bytes n → x ≡ take n b → limit < length x
-    → refused 20 0 ≡ fileAnswer none limit kind (fileOf f b)
-found-long {x = x} none limit kind b g e h = read-long limit kind x h ∙ ap (fileAnswer none limit kind) (found-bytes b g e)
+pub found-long : {f : Found} {n : ℕ} {x : List ℕ} (none : Moved) (limit : ℕ) (judge : List ℕ → Moved) (b : List ℕ) → f ≡ Bytes n → x ≡ take n b → limit < length x
+    → refused 20 0 ≡ fileAnswer none limit judge (fileOf f b)
+found-long {x = x} none limit judge b g e h = read-long limit judge x h ∙ ap (fileAnswer none limit judge) (found-bytes b g e)
 
 -- 16 blocks hold no more than 8,192 bytes
-pub content-fits : (kind : ℕ) (b : List ℕ) → Stands kind b → length b ≤ 8192 → length (contentOf b) ≤ 8192
+content-fits : (kind : ℕ) (b : List ℕ) → Stands kind b → length b ≤ 8192 → length (contentOf b) ≤ 8192
 content-fits kind b s h = omega (arith, size-is kind b s, count-is kind b s)
 
 -- ---- the place is that of a block
 
-bad-place : (kind : ℕ) (b : List ℕ) (count n c p : ℕ) → blocksJudged kind b count n ≡ bad c p → p < n
-unfolding blocksJudged
-bad-place kind b count zero c p e = absurd (let q : _≡_ {A = ℕ} 0 1 = cc in omega arith)
-bad-place kind b count (suc n) c p e = go (blocksJudged kind b count n) (bad-place kind b count n) refl e
-  where
-    one : (x : ℕ) (t : Bool) → cond t good (bad x n) ≡ bad c p → p < suc n
-    one x true f = absurd (let q : _≡_ {A = ℕ} 0 1 = cc in omega arith)
-    one x false f = let q : n ≡ p = cc in omega arith
+-- at most that of the last block that a file may have
+module _ (limit : ℕ) (judge : List ℕ → Moved) (inside : (b : List ℕ) → judge b .place ≤ length b / 512) (h : limit ≤ 8704) where
+  within : (b : List ℕ) → read limit judge b .place ≤ 17
+  unfolding read
+  within b = go (ltb limit (length b)) refl
+    where
+      go : (t : Bool) → ltb limit (length b) ≡ t → cond t (refused 20 0) (judge b) .place ≤ 17
+      go true e = omega arith
+      go false e = omega (arith, ltb-false limit (length b) e, inside b)
 
-    go : (v : Verdict) → ((c p : ℕ) → blocksJudged kind b count n ≡ bad c p → p < n) → blocksJudged kind b count n ≡ v
-        → next v (verdict (fault (blockAt b n) kind n count) n) ≡ bad c p → p < suc n
-    go good ih q f = one (fault (blockAt b n) kind n count) (eqb (fault (blockAt b n) kind n count) 0) f
-    go (bad x y) ih q f =
-        let l = ih x y q in
-        let r : y ≡ p = cc in
-        omega arith
+  file-place : (none : Moved) (f : File) → none .place ≡ 0 → fileAnswer none limit judge f .place ≤ 17
+  file-place none absent z = omega arith
+  file-place none failed z = omega arith
+  file-place none (bytes b) z = within b
 
-judged-place : (kind : ℕ) (b : List ℕ) → fileJudged kind b .place ≤ length b / 512
-unfolding fileJudged
-judged-place kind b = go (kindRight kind) (lengthRight (length b)) (blocksJudged kind b n n) refl
-  where
-    n : ℕ
-    n = length b / 512
-
-    size : ℕ
-    size = length (contentOf b)
-
-    fit : (t : Bool) → cond t (done size) (refused 25 0) .place ≤ n
-    fit true = omega arith
-    fit false = omega arith
-
-    go : (k l : Bool) (v : Verdict) → blocksJudged kind b n n ≡ v → (cond (not k) (refused 22 0) (cond (not l) (refused 20 0) (settled kind size v))) .place ≤ n
-    go true true good e = fit (sizeFits kind size)
-    go true true (bad c p) e = let h = bad-place kind b n n c p e in omega arith
-    go true false v e = omega arith
-    go false l v e = omega arith
-
-read-place : (limit kind : ℕ) (b : List ℕ) → limit ≤ 8704 → read limit kind b .place ≤ 17
-unfolding read
-read-place limit kind b h = go (ltb limit (length b)) refl
-  where
-    go : (t : Bool) → ltb limit (length b) ≡ t → cond t (refused 20 0) (fileJudged kind b) .place ≤ 17
-    go true e = omega arith
-    go false e = omega (arith, ltb-false limit (length b) e, judged-place kind b)
-
-file-place : (none : Moved) (limit kind : ℕ) (f : File) → none .place ≡ 0 → limit ≤ 8704 → fileAnswer none limit kind f .place ≤ 17
-file-place none limit kind absent z h = omega arith
-file-place none limit kind failed z h = omega arith
-file-place none limit kind (bytes b) z h = read-place limit kind b h
-
-place-small : (none : Moved) (limit kind : ℕ) (f : File) (a : Moved) → a ≡ fileAnswer none limit kind f
-    → none .place ≡ 0 → limit ≤ 8704 → a .place ≤ 17
-place-small none limit kind f a e z h = omega (arith, ap (λ (x : Moved). x .place) e, file-place none limit kind f z h)
+  place-small : (none : Moved) (f : File) (a : Moved) → a ≡ fileAnswer none limit judge f → none .place ≡ 0 → a .place ≤ 17
+  place-small none f a e z = omega (arith, ap (λ (x : Moved). x .place) e, file-place none f z)
 
 -- ---- before.pic
 
--- What is promised of memory and registers: they hold the content of a file that is not refused, and else stay.
+-- the kind that is taken, by the length and the first two bytes
+module _ (b : List ℕ) where
+  pub kind-short : length b < 2 → 1 ≡ kindOf b
+  unfolding kindOf
+  kind-short h = sym (ap (λ (t : Bool). cond (t && eqb (twoAt b 0) 4) 4 1) (lt-leb 2 (length b) h))
+
+  module _ (h : 2 ≤ length b) where
+    pub kind-four : twoAt b 0 ≡ 4 → 4 ≡ kindOf b
+    unfolding kindOf
+    kind-four e = sym (ap₂ (λ (s t : Bool). cond (s && t) 4 1) (le-leb 2 (length b) h) (eq-eqb (twoAt b 0) 4 e))
+
+    pub kind-other : (twoAt b 0 ≡ 4 → ⊥) → 1 ≡ kindOf b
+    unfolding kindOf
+    kind-other u = sym (ap₂ (λ (s t : Bool). cond (s && t) 4 1) (le-leb 2 (length b) h) (ne-eqb (twoAt b 0) 4 u))
+
+-- it is that of a picture
+kind-picture : (b : List ℕ) → isPicture (kindOf b) ≡ true
+unfolding kindOf
+kind-picture b = taken (λ (k : ℕ). isPicture k ≡ true) 4 1 (leb 2 (length b) && eqb (twoAt b 0) 4) refl refl
+
+-- What is promised of memory and registers: they hold the content of a file that is not refused.
 -- A place is no further than a picture has blocks.
-abbrev pub Taken : File → Moved → List ℕ → List ℕ → List ℕ → List ℕ → Type 0
-Taken file r m g m′ g′ =
+abbrev pub Taken : File → Moved → List ℕ → List ℕ → Type 0
+Taken file r m g =
     (r ≡ pictureAnswer file)
-    × ((m′ ≡ changed r (scrambled (contentIn file)) m)
-    × ((g′ ≡ changed r (drop 8192 (contentIn file)) g) × (r .place ≤ 17)))
+    × ((r .number ≡ 0 → (m ≡ scrambled (contentIn file)) × (g ≡ startRegisters file)) × (r .place ≤ 17))
 
--- refused: the targets stay
-pub picture-refused : (file : File) (r : Moved) (m g : List ℕ) → r ≡ refused 20 0 → refused 20 0 ≡ pictureAnswer file
-    → Taken file r m g m g
+-- refused
+pub picture-refused : (file : File) (r : Moved) (m g : List ℕ) → r ≡ refused 20 0 → refused 20 0 ≡ pictureAnswer file → Taken file r m g
 picture-refused file r m g e q =
-    let u = refused-not r 20 0 e (λ z. omega arith) in
-    let l : r .place ≤ 17 = omega (arith, ap (λ (x : Moved). x .place) e) in
-    (e ∙ q, (changed-not r (scrambled (contentIn file)) m u, (changed-not r (drop 8192 (contentIn file)) g u, l)))
+    (e ∙ q, (λ z. absurd (refused-not r 20 0 e (λ x. omega arith) z), omega (arith, ap (λ (x : Moved). x .place) e)))
 
--- read
-pub picture-taken : (file : File) (b m g m′ g′ : List ℕ) (r : Moved) → bytes b ≡ file → length b ≤ 8704 → length m ≡ 8192 → length g ≡ 96
-    → _≡_ {A = PictureLeft} (record { answer = r; memory = m′; registers = g′ }) (pictureRead 1 b m g)
-    → Taken file r m g m′ g′
-unfolding pictureRead
-picture-taken file b m g m′ g′ r e h lm lg q =
-    let p = both-parts r _ (scrambled (contentOf b)) m (drop 8192 (contentOf b)) g m′ g′ q in
-    let f : pictureFits 1 (length m) (length g) ≡ true = ap₂ _&&_ (eq-eqb (length m) 8192 lm) (eq-eqb (length g) 96 lg) in
-    let s : r ≡ pictureAnswer (bytes b) = p .0 ∙ read-fits 1 b (pictureFits 1 (length m) (length g)) (λ z. f) ∙ read-short 8704 1 b h in
-    subst (λ (x : File). Taken x r m g m′ g′) e
-    (s, (p .1, (p .2, place-small (refused 20 0) 8704 1 (bytes b) r s refl (omega arith))))
+-- read: the registers of the picture's kind, into the front of a register set of zeros
+module _ (b m g m′ g′ : List ℕ) (kind size : ℕ) (r : Moved) (ek : kind ≡ kindOf b) (es : size ≡ pictureRegisters kind) (eg : g ≡ blankRegisters)
+    (lm : length m ≡ 8192) (q : _≡_ {A = PictureLeft} (record { answer = r; memory = m′; registers = g′ }) (pictureRead kind b m (midOf 0 (size - 0) g))) where
+  abbrev content : List ℕ
+  content = contentOf b
+
+  abbrev fits : Bool
+  fits = pictureFits kind (length m) (length (midOf 0 (size - 0) g))
+
+  is : isPicture kind ≡ true
+  is = ap isPicture ek ∙ kind-picture b
+
+  room : size ≤ length g
+  room = omega (arith, registers-few kind, ap length eg)
+
+  -- they fit, so that only 15 is asked behind the file
+  fit : fits ≡ true
+  fit = are-fits kind (length m) (length (midOf 0 (size - 0) g)) is lm (mid-len 0 size g room ∙ sub-zero size ∙ es)
+
+  parts : (r ≡ readAnswer kind b (pictureReadRows fits (contentModes content)) (length content))
+      × (m′ ≡ changed r (scrambled content) m) × (g′ ≡ changed r (drop 8192 content) (midOf 0 (size - 0) g))
+  unfolding pictureRead
+  parts = both-parts r _ (scrambled content) m (drop 8192 content) (midOf 0 (size - 0) g) m′ g′ q
+
+  judged : r ≡ pictureJudged b
+  unfolding readAnswer answered
+  judged =
+      parts .0
+      ∙ ap (λ (t : Bool). readAnswer kind b (pictureReadRows t (contentModes content)) (length content)) fit
+      ∙ ap (λ (k : ℕ). readAnswer k b (row 15 (wrongModes (contentModes content)) ∷ []) (length content)) ek
+
+  found : r .number ≡ 0 → (m′ ≡ scrambled content) × (putMid 0 (size - 0) g g′ ≡ over (drop 8192 content) blankRegisters)
+  found z =
+      let rows = pictureReadRows fits (contentModes content) in
+      let stands = file-stands kind b (read-stands kind b rows (length content) (sym (ap (λ (x : Moved). x .number) (parts .0)) ∙ z) .0) in
+      let n : length (drop 8192 content) ≡ pictureRegisters kind = length-drop 8192 content ∙ omega (arith, picture-bytes kind b is stands) in
+      let e : g′ ≡ drop 8192 content = parts .2 ∙ sym (changed-done r (drop 8192 content) (midOf 0 (size - 0) g) z) in (
+        parts .1 ∙ sym (changed-done r (scrambled content) m z),
+        part-put 0 size g g′ (ap length e ∙ n ∙ sym es ∙ sym (sub-zero size)) ∙ put-front g′ g ∙ ap₂ over e eg,
+      )
+
+  pub picture-taken : (file : File) → bytes b ≡ file → length b ≤ 8704 → Taken file r m′ (putMid 0 (size - 0) g g′)
+  picture-taken file e h =
+      let s = judged ∙ read-short 8704 pictureJudged b h in
+      subst (λ (x : File). Taken x r m′ (putMid 0 (size - 0) g g′)) e
+      (s, (found, place-small 8704 pictureJudged (λ x. read-place (kindOf x) x _ _) (omega arith) (refused 20 0) (bytes b) r s refl))
 
 -- ---- run.lst and in.itm
 
@@ -152,14 +179,14 @@ pub content-refused : (kind : ℕ) (file : File) (r : Moved) (t : List ℕ) → 
 content-refused kind file r t e q =
     (e ∙ q, (λ z. absurd (refused-not r 20 0 e (λ x. omega arith) z), omega (arith, ap (λ (x : Moved). x .place) e)))
 
-pub content-taken : (kind : ℕ) (file : File) (b t t′ : List ℕ) (r : Moved) → bytes b ≡ file → 1 < kind → length b ≤ 8192 → length t ≡ 8192
+pub content-taken : (kind : ℕ) (file : File) (b t t′ : List ℕ) (r : Moved) → bytes b ≡ file → isPicture kind ≡ false → length b ≤ 8192 → length t ≡ 8192
     → _≡_ {A = ContentLeft} (record { answer = r; buffer = t′ }) (contentRead kind b t) → Holds kind file r t′
 unfolding contentRead
 content-taken kind file b t t′ r e k h lt q =
-    let s = j ∙ read-short 8192 kind b h in
-    subst (λ (x : File). Holds kind x r t′) e (s, (found, place-small (done 0) 8192 kind (bytes b) r s refl (omega arith)))
+    let s = j ∙ read-short 8192 (fileJudged kind) b h in
+    subst (λ (x : File). Holds kind x r t′) e (s, (found, place-small 8192 (fileJudged kind) (judged-place kind) (omega arith) (done 0) (bytes b) r s refl))
   where
-    p : (r ≡ readAnswer kind b (targetFits kind b t)) × (t′ ≡ changed r (over (contentOf b) t) t)
+    p : (r ≡ readAnswer kind b (readRows (targetFits kind b t)) (length (contentOf b))) × (t′ ≡ changed r (over (contentOf b) t) t)
     p = left-parts r _ (over (contentOf b) t) t t′ q
 
     room : fileJudged kind b .number ≡ 0 → length (contentOf b) ≤ 8192
@@ -168,7 +195,7 @@ content-taken kind file b t t′ r e k h lt q =
     j : r ≡ fileJudged kind b
     j =
         p .0
-        ∙ read-fits kind b (targetFits kind b t) (λ z. let l = room z in ap₂ _&&_ (lt-ltb 1 kind k) (le-leb (length (contentOf b)) (length t) (omega arith)))
+        ∙ read-fits kind b (targetFits kind b t) (λ z. let l = room z in ap₂ (λ (x y : Bool). not x && y) k (le-leb (length (contentOf b)) (length t) (omega arith)))
 
     found : r .number ≡ 0 → (r .bytes ≤ length t′) × (take (r .bytes) t′ ≡ contentOf b)
     found z =

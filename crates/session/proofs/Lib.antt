@@ -2,3 +2,4 @@
 pub mod FileLaws
 pub mod SessionLaws
 pub mod SessionDemand
+pub mod NextRun

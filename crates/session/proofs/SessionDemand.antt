@@ -1,22 +1,22 @@
--- What is promised of the program, on a page, in names of specs/: absent files, refusals that write nothing, and that the contract has one answer only. Assumes nothing.
+-- What is promised of the program, on a page, in names of specs/: absent files, refusals that write nothing, kind 1 only where no mode register is set, and that the contract has one answer only. Assumes nothing.
 use mathlib.Core.Path.{_≡_, refl, sym, ap, _∙_}
+use mathlib.Core.Bool.{Bool, true, false, cond, _||_}
 use mathlib.Core.List.{List, []}
-use Prim.Native.Nat.{ℕ, _*_}
+use Prim.Native.Nat.{ℕ}
 use native.Mathlib.Omega.{arith}
+use lib.Dec.{eqb}
 use lib.ListN.{length, take}
-use lib.Seq.{length-take-le}
-use Rattle.contents.specs.File.{done, refused, blockCount, blocksOf}
+use Rattle.registers.specs.Modes.{modesOf, anySet}
+use Rattle.contents.specs.File.{done, refused, blocksOf}
 use Rattle.contents.specs.Content.{over}
-use Rattle.pictures.specs.Picture.{pictureOf}
-use Rattle.contents.proofs.RoundTrip.{all-length}
-use Rattle.pictures.proofs.PictureLaws.{length-picture}
+use Rattle.pictures.specs.Picture.{pictureRegisters, pictureOf}
 use Rattle.judge.specs.declared.Answer.{Answer}
 use Rattle.module.specs.Run.{Left}
 use Rattle.report.proofs.ReportLaws.{report-unique}
 use Rattle.session.specs.declared.Counts.{Counts}
-use Rattle.session.specs.Session.{File, absent, failed, Outcome, contentAnswer, onlyLine, finished, outcome}
+use Rattle.session.specs.Session.{File, absent, failed, Outcome, contentAnswer, onlyLine, kindWritten, finished, outcome}
 use Rattle.session.specs.Shown.{Shown}
-use Rattle.session.proofs.SessionLaws.{after-none, after-done}
+use Rattle.session.proofs.SessionLaws.{after-none, after-done, after-size, front-length}
 
 -- ---- absent, and not to be read
 
@@ -36,20 +36,31 @@ absent-content kind = refl
 -- ---- after.pic
 
 -- a run that is refused writes none
-pub refused-run : (s : Left (List ℕ) Answer) → (s .answer .number ≡ 0 → ⊥) → finished s .after ≡ []
+pub refused-run : (taken : ℕ) (s : Left (List ℕ) Answer) → (s .answer .number ≡ 0 → ⊥) → finished taken s .after ≡ []
 unfolding finished
-refused-run s u = after-none (s .answer .number) (s .memory) (s .registers) u
+refused-run taken s u = after-none taken (s .answer .number) (s .memory) (s .registers) u
 
--- a run that is done writes the picture of the memory and of the M, X and Y that it left: 17 blocks
-pub done-run : (s : Left (List ℕ) Answer) → s .answer .number ≡ 0 → finished s .after ≡ blocksOf 1 (pictureOf (s .memory) (take 96 (s .registers)))
+-- a run that is done writes the picture of the memory and of the registers that it left, of the kind that was taken or of kind 4 where a mode register is set: 17 blocks
+pub done-run : (taken : ℕ) (s : Left (List ℕ) Answer) → s .answer .number ≡ 0
+    → (let kind = kindWritten taken (s .registers) in finished taken s .after ≡ blocksOf kind (pictureOf (s .memory) (take (pictureRegisters kind) (s .registers))))
 unfolding finished
-done-run s z = after-done (s .answer .number) (s .memory) (s .registers) z
+done-run taken s z = after-done taken (s .answer .number) (s .memory) (s .registers) z
 
-pub done-size : (s : Left (List ℕ) Answer) → s .answer .number ≡ 0 → length (s .registers) ≡ 100 → length (finished s .after) ≡ 8704
-done-size s z l =
-    let x = take 96 (s .registers) in
-    ap length (done-run s z) ∙ all-length 1 (pictureOf (s .memory) x)
-    ∙ ap (λ (k : ℕ). 512 * blockCount k) (length-picture (s .memory) x (length-take-le 96 (s .registers) (omega arith)))
+pub done-size : (taken : ℕ) (s : Left (List ℕ) Answer) → s .answer .number ≡ 0 → length (s .registers) ≡ 100 → length (finished taken s .after) ≡ 8704
+done-size taken s z l =
+    let kind = kindWritten taken (s .registers) in
+    ap length (done-run taken s z)
+    ∙ after-size kind (s .memory) (take (pictureRegisters kind) (s .registers)) (front-length kind (s .registers) l)
+
+-- no set register is lost: kind 1 is written only where neither is set
+pub none-lost : (taken : ℕ) (regs : List ℕ) → kindWritten taken regs ≡ 1 → anySet (modesOf regs) ≡ false
+unfolding kindWritten
+none-lost taken regs e = go (eqb taken 4) (anySet (modesOf regs)) refl e
+  where
+    go : (t a : Bool) → anySet (modesOf regs) ≡ a → _≡_ {A = ℕ} (cond (t || a) 4 1) 1 → anySet (modesOf regs) ≡ false
+    go true a h e = absurd (omega arith)
+    go false true h e = absurd (omega arith)
+    go false false h e = h
 
 -- where none is written its buffer stays
 pub no-picture : (o : Outcome) (before : List ℕ) → o .after ≡ [] → over (o .after) before ≡ before

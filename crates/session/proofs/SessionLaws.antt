@@ -1,15 +1,19 @@
--- The numbers of a run are small and its items are there; the outcome by the first refused file. Assumes nothing.
-use mathlib.Core.Path.{_≡_, refl, sym, ap, ap₂, subst, _∙_}
-use mathlib.Core.Bool.{Bool, true, cond, not, _&&_}
+-- The numbers of a run are small and its items are there; the outcome by the first refused file; the picture that is written. Assumes nothing.
+use mathlib.Core.Path.{_≡_, refl, sym, ap, subst, _∙_}
+use mathlib.Core.Bool.{Bool, true, false, cond, not, _||_}
 use mathlib.Core.List.{List, [], _++_}
-use Prim.Native.Nat.{ℕ, _*_, _≤_}
+use mathlib.Core.Logic.{_⊎_, inl, inr}
+use Prim.Native.Nat.{ℕ, _+_, _*_, _≤_}
 use native.Mathlib.Decide.{ℕ-discrete}
 use native.Mathlib.Omega.{arith}
+use lib.Dec.{eqb}
 use lib.ListN.{length, take, drop}
-use lib.Seq.{length-take-le}
-use borrow.Author.Tests.{eq-eqb, ne-eqb}
+use lib.Seq.{take-all, length-take-le}
+use borrow.Author.Tests.{eq-eqb, ne-eqb, le-ltb}
+use Rattle.bits.proofs.Rows.{taken as either}
 use Rattle.registers.specs.declared.Modes.{Modes}
-use Rattle.registers.specs.Modes.{modesOf}
+use Rattle.registers.specs.Modes.{modesOf, wrongModes, anySet}
+use Rattle.registers.proofs.ModeLaws.{modes-none}
 use Rattle.judge.specs.declared.Lengths.{Lengths}
 use Rattle.judge.specs.declared.Answer.{Answer}
 use Rattle.judge.specs.Judge.{runRows, judged}
@@ -19,15 +23,15 @@ use Rattle.judge.proofs.Bounds.{judged-bounds}
 use Rattle.module.specs.Run.{Lent, Left, runLengths, ran}
 use Rattle.module.proofs.RunLaws.{ran-answer}
 use Rattle.contents.specs.declared.Moved.{Moved}
-use Rattle.contents.specs.File.{done, kindRight, blockCount, blocksOf}
-use Rattle.contents.specs.Content.{over, ContentLeft}
-use Rattle.pictures.specs.Picture.{pictureOf, pictureFits, pictureWritten}
-use Rattle.contents.proofs.AnswerLaws.{changed-done, left-parts, write-done}
+use Rattle.contents.specs.File.{isPicture, done, blocksOf}
+use Rattle.contents.specs.Content.{answered, changed, over, ContentLeft}
+use Rattle.pictures.specs.Picture.{pictureRegisters, pictureOf, pictureFits, pictureWriteRows, pictureWritten}
+use Rattle.contents.proofs.AnswerLaws.{changed-done, left-parts, answered-no-row}
 use Rattle.contents.proofs.RoundTrip.{all-length}
-use Rattle.pictures.proofs.PictureLaws.{length-picture}
+use Rattle.pictures.proofs.PictureLaws.{picture-kinds, registers-few, are-fits, picture-right, length-picture, picture-blocks}
 use Rattle.report.specs.Report.{itemLines, printed}
 use Rattle.session.specs.declared.Counts.{Counts}
-use Rattle.session.specs.Session.{Outcome, onlyLine, afterOf, finished, unlessRefused}
+use Rattle.session.specs.Session.{Outcome, onlyLine, kindWritten, afterOf, finished, unlessRefused}
 use Rattle.session.specs.Shown.{Shown}
 use Rattle.session.specs.Steps.{Small}
 
@@ -61,7 +65,7 @@ module _ (letter : ℕ) (a b : Moved) (next : Outcome) (e : a ≡ b) where
   refused-first : (a .number ≡ 0 → ⊥) → unlessRefused letter b next ≡ onlyLine letter a
   refused-first u = rw (sym e) (ap (λ (t : Bool). cond (not t) (onlyLine letter a) next) (ne-eqb (a .number) 0 u))
 
-  stands-first : a .number ≡ 0 → unlessRefused letter b next ≡ next
+  pub stands-first : a .number ≡ 0 → unlessRefused letter b next ≡ next
   stands-first z = rw (sym e) (ap (λ (t : Bool). cond (not t) (onlyLine letter a) next) (eq-eqb (a .number) 0 z))
 
 -- ---- what stands in the buffers
@@ -85,42 +89,92 @@ next-shown letter a b next next′ r old text after after′ e z q s =
     subst (λ (o : Outcome). Both o r old text after after′) (sym (stands-first letter a b next e z ∙ q)) s
 
 -- a run's lines and its picture
-pub finished-shown : (o : Outcome) (s : Left (List ℕ) Answer) (m g out : List ℕ) (a : Answer) (n w : ℕ) (old text after after′ : List ℕ)
-    → o ≡ finished s → _≡_ {A = Left (List ℕ) Answer} (record { memory = m; registers = g; out = out; answer = a }) s
+pub finished-shown : (taken : ℕ) (o : Outcome) (s : Left (List ℕ) Answer) (m g out : List ℕ) (a : Answer) (n w : ℕ) (old text after after′ : List ℕ)
+    → o ≡ finished taken s → _≡_ {A = Left (List ℕ) Answer} (record { memory = m; registers = g; out = out; answer = a }) s
     → n ≤ length text → n ≡ length (printed 114 (a .number) (a .place) (a .byte) (a .steps) (a .taken) (a .given) out)
     → text ≡ printed 114 (a .number) (a .place) (a .byte) (a .steps) (a .taken) (a .given) out ++ drop n old
-    → w ≤ 8704 → w ≡ length (afterOf (a .number) m g) → after′ ≡ over (afterOf (a .number) m g) after
+    → w ≤ 8704 → w ≡ length (afterOf taken (a .number) m g) → after′ ≡ over (afterOf taken (a .number) m g) after
     → Both o (record { text = n; after = w }) old text after after′
 unfolding finished
-finished-shown o s m g out a n w old text after after′ e q h l t most c k =
-    subst (λ (x : Outcome). Both x (record { text = n; after = w }) old text after after′) (sym (e ∙ ap finished (sym q)))
+finished-shown taken o s m g out a n w old text after after′ e q h l t most c k =
+    subst (λ (x : Outcome). Both x (record { text = n; after = w }) old text after after′) (sym (e ∙ ap (finished taken) (sym q)))
     (record { room = h; count = l; printed = t; written = c; most = most }, k)
 
 -- ---- after.pic
 
-pub after-none : (number : ℕ) (m g : List ℕ) → (number ≡ 0 → ⊥) → afterOf number m g ≡ []
+pub after-none : (taken number : ℕ) (m g : List ℕ) → (number ≡ 0 → ⊥) → afterOf taken number m g ≡ []
 unfolding afterOf
-after-none number m g u = simp (ne-eqb number 0 u)
+after-none taken number m g u =
+    let kind = kindWritten taken g in
+    ap (λ (t : Bool). cond t (blocksOf kind (pictureOf m (take (pictureRegisters kind) g))) []) (ne-eqb number 0 u)
 
-pub after-done : (number : ℕ) (m g : List ℕ) → number ≡ 0 → afterOf number m g ≡ blocksOf 1 (pictureOf m (take 96 g))
+pub after-done : (taken number : ℕ) (m g : List ℕ) → number ≡ 0
+    → (let kind = kindWritten taken g in afterOf taken number m g ≡ blocksOf kind (pictureOf m (take (pictureRegisters kind) g)))
 unfolding afterOf
-after-done number m g z = simp (eq-eqb number 0 z)
+after-done taken number m g z =
+    let kind = kindWritten taken g in
+    ap (λ (t : Bool). cond t (blocksOf kind (pictureOf m (take (pictureRegisters kind) g))) []) (eq-eqb number 0 z)
 
-pub kept : (number : ℕ) (m g a a′ : List ℕ) (r : Moved) → number ≡ 0 → length m ≡ 8192 → length g ≡ 100 → length a ≡ 8704
-    → _≡_ {A = ContentLeft} (record { answer = r; buffer = a′ }) (pictureWritten 1 m (take 96 g) a)
-    → (r .bytes ≤ 8704) × (r .bytes ≡ length (afterOf number m g)) × (a′ ≡ over (afterOf number m g) a)
-unfolding kindRight pictureWritten
-kept number m g a a′ r z lm lg la q =
-    let x = take 96 g in
-    let lx : length x ≡ 96 = length-take-le 96 g (omega arith) in
-    let b = blocksOf 1 (pictureOf m x) in
-    let p = left-parts r _ (over b a) a a′ q in
-    let f : pictureFits 1 (length m) (length x) ≡ true = ap₂ _&&_ (eq-eqb (length m) 8192 lm) (eq-eqb (length x) 96 lx) in
-    let d : r ≡ done 8704 = p .0 ∙ sym (write-done 1 (pictureFits 1 (length m) (length x)) 8288 (length a) refl f (omega arith)) in
-    let n : r .bytes ≡ 8704 = ap (λ (x : Moved). x .bytes) d in
-    let w : length b ≡ 8704 = all-length 1 (pictureOf m x) ∙ ap (λ (k : ℕ). 512 * blockCount k) (length-picture m x lx) in
-    let s = sym (after-done number m g z) in (
-      omega arith,
-      n ∙ sym w ∙ ap length s,
-      p .1 ∙ sym (changed-done r (over b a) a (ap (λ (x : Moved). x .number) d)) ∙ ap (λ (x : List ℕ). over x a) s,
-    )
+-- of either kind it is 17 blocks
+pub after-size : (kind : ℕ) (m x : List ℕ) → length x ≡ pictureRegisters kind → length (blocksOf kind (pictureOf m x)) ≡ 8704
+after-size kind m x e =
+    all-length kind (pictureOf m x) ∙ picture-blocks kind (length (pictureOf m x)) (length-picture m x ∙ ap (λ (n : ℕ). 8192 + n) e)
+
+-- the registers of its kind
+pub front-length : (kind : ℕ) (g : List ℕ) → length g ≡ 100 → length (take (pictureRegisters kind) g) ≡ pictureRegisters kind
+front-length kind g e = length-take-le (pictureRegisters kind) g (omega (arith, registers-few kind))
+
+-- they are not such as 15 refuses, where those of the run are not: one of kind 1 has no mode registers
+pub front-right : (kind : ℕ) (g : List ℕ) → isPicture kind ≡ true → length g ≡ 100 → wrongModes (modesOf g) ≡ false → wrongModes (modesOf (take (pictureRegisters kind) g)) ≡ false
+unfolding wrongModes
+front-right kind g p n right = go (picture-kinds kind p)
+  where
+    go : (kind ≡ 1) ⊎ (kind ≡ 4) → wrongModes (modesOf (take (pictureRegisters kind) g)) ≡ false
+    go (inl k) =
+        ap (λ (x : ℕ). wrongModes (modesOf (take (pictureRegisters x) g))) k
+        ∙ ap wrongModes (modes-none (take 96 g) (omega (arith, length-take-le 96 g (omega arith))))
+    go (inr k) =
+        ap (λ (x : ℕ). wrongModes (modesOf (take (pictureRegisters x) g))) k
+        ∙ ap (λ (x : List ℕ). wrongModes (modesOf x)) (take-all 100 g (omega arith))
+        ∙ right
+
+pub written-picture : (taken : ℕ) (g : List ℕ) → isPicture (kindWritten taken g) ≡ true
+unfolding kindWritten
+written-picture taken g = either (λ (k : ℕ). isPicture k ≡ true) 4 1 (eqb taken 4 || anySet (modesOf g)) refl refl
+
+module _ (taken number : ℕ) (m g a a′ : List ℕ) (kind size : ℕ) (r : Moved) (z : number ≡ 0) (lm : length m ≡ 8192) (lg : length g ≡ 100) (la : length a ≡ 8704)
+    (right : wrongModes (modesOf g) ≡ false) (ek : kind ≡ kindWritten taken g) (es : size ≡ pictureRegisters kind)
+    (q : _≡_ {A = ContentLeft} (record { answer = r; buffer = a′ }) (pictureWritten kind m (take size g) a)) where
+  abbrev x : List ℕ
+  x = take (pictureRegisters kind) g
+
+  is : isPicture kind ≡ true
+  is = ap isPicture ek ∙ written-picture taken g
+
+  lx : length x ≡ pictureRegisters kind
+  lx = front-length kind g lg
+
+  abbrev b : List ℕ
+  b = blocksOf kind (pictureOf m x)
+
+  parts : (r ≡ answered (pictureWriteRows kind (pictureFits kind (length m) (length x)) (modesOf x) (length a)) 8704) × (a′ ≡ changed r (over b a) a)
+  unfolding pictureWritten
+  parts = left-parts r _ (over b a) a a′ (q ∙ ap (λ (n : ℕ). pictureWritten kind m (take n g) a) es)
+
+  all : r ≡ done 8704
+  all =
+      let rows = pictureWriteRows kind (pictureFits kind (length m) (length x)) (modesOf x) (length a) in
+      parts .0
+      ∙ sym (answered-no-row rows 8704 (ap not (picture-right kind is), (ap not (are-fits kind (length m) (length x) is lm lx), (front-right kind g is lg right, (le-ltb (length a) 8704 (omega arith), tt)))))
+
+  -- it is what is written
+  same : b ≡ afterOf taken number m g
+  same = ap (λ (k : ℕ). blocksOf k (pictureOf m (take (pictureRegisters k) g))) ek ∙ sym (after-done taken number m g z)
+
+  pub kept : (r .bytes ≤ 8704) × (r .bytes ≡ length (afterOf taken number m g)) × (a′ ≡ over (afterOf taken number m g) a)
+  kept =
+      let n : r .bytes ≡ 8704 = ap (λ (y : Moved). y .bytes) all in (
+        omega arith,
+        n ∙ sym (after-size kind m x lx) ∙ ap length same,
+        parts .1 ∙ sym (changed-done r (over b a) a (ap (λ (y : Moved). y .number) all)) ∙ ap (λ (l : List ℕ). over l a) same,
+      )

@@ -1,17 +1,23 @@
-// All of the program but the system's calls: what it prints and writes, from what was found of its three files.
-// Document 01, The program; document 02, Seven.
+// All of a run in a folder but the system's calls: what the program prints and writes, from what was found of its three files.
+// Document 01, The program; document 02, Seven and Eight.
+use contents::MODES_PICTURE;
 use contents::Moved;
+use contents::PICTURE;
+use registers::mode_bytes::any_set;
+use registers::mode_bytes::modes_of;
 ghost use mathlib.Core.Path.{_≡_};
+ghost use mathlib.Core.Bool.{false};
 ghost use mathlib.Core.List.{_++_};
 ghost use Prim.Native.Nat.{_<_, _≤_};
 ghost use lib.ListN.{length, take, drop};
-ghost use Rattle.contents.specs.File.{refused};
+ghost use Rattle.registers.specs.Modes.{modesOf, wrongModes};
+ghost use Rattle.contents.specs.File.{isPicture, refused};
+ghost use Rattle.contents.specs.Content.{over};
 ghost use Rattle.pictures.specs.Picture.{scrambled};
-ghost use Rattle.contents.specs.Content.{changed, over};
 ghost use Rattle.module.specs.Run.{ran};
 ghost use Rattle.report.specs.Report.{printed};
-ghost use Rattle.session.specs.Session.{fileOf, pictureAnswer, contentAnswer, contentIn};
-ghost use Rattle.session.specs.Session.{onlyLine, afterOf, finished, outBytes, withItems, withList, outcome};
+ghost use Rattle.session.specs.Session.{fileOf, kindTaken, pictureAnswer, contentAnswer, contentIn, blankRegisters, startRegisters};
+ghost use Rattle.session.specs.Session.{onlyLine, kindWritten, afterOf, finished, outBytes, withItems, withList, outcome};
 ghost use Rattle.session.specs.Shown.{Shown};
 ghost use Rattle.session.specs.Steps.{Small};
 
@@ -57,14 +63,38 @@ fn unread() -> Moved
     }
 }
 
-// before.pic, read into memory and registers.
-fn take_picture(found: Found, buffer: &[u8], memory: &mut [u8], registers: &mut [u8]) -> Moved
-    requires { ⌜ (length (now memory) ≡ 8192) × (length (now registers) ≡ 96) ⌝ }
+// The kind that before.pic is taken for, by its first two bytes as they stand.
+fn kind_taken(found: Found, buffer: &[u8]) -> usize
+    ensures { λ r. ⌜ r ≡ kindTaken (fileOf found (now (buffer .entry))) ⌝ }
+{
+    match found {
+        Found::Absent => PICTURE,
+        Found::Failed => PICTURE,
+        Found::Bytes(n) => {
+            let bytes = front(buffer, n);
+            if bytes.len() < 2 {
+                return PICTURE;
+            }
+            if blocks::two_at(bytes, 0) == MODES_PICTURE {
+                return MODES_PICTURE;
+            }
+            PICTURE
+        }
+    }
+}
+
+// before.pic, read into memory and registers, which are blank: behind those of a picture of kind 1 both mode registers stay unset.
+fn take_picture(
+    found: Found,
+    kind: usize,
+    buffer: &[u8],
+    memory: &mut [u8],
+    registers: &mut [u8],
+) -> Moved
+    requires { ⌜ (kind ≡ kindTaken (fileOf found (now buffer))) × (length (now memory) ≡ 8192) × (now registers ≡ blankRegisters) ⌝ }
     ensures answer { λ r. ⌜ r ≡ pictureAnswer (fileOf found (now (buffer .entry))) ⌝ }
-    ensures memory { λ r. ⌜ now (memory .exit)
-        ≡ changed r (scrambled (contentIn (fileOf found (now (buffer .entry))))) (now (memory .entry)) ⌝ }
-    ensures registers { λ r. ⌜ now (registers .exit)
-        ≡ changed r (drop 8192 (contentIn (fileOf found (now (buffer .entry))))) (now (registers .entry)) ⌝ }
+    ensures targets { λ r. ⌜ (r .number ≡ 0 → (now (memory .exit) ≡ scrambled (contentIn (fileOf found (now (buffer .entry)))))
+        × (now (registers .exit) ≡ startRegisters (fileOf found (now (buffer .entry))))) ⌝ }
     ensures place { λ r. ⌜ r .place ≤ 17 ⌝ }
 {
     match found {
@@ -75,14 +105,15 @@ fn take_picture(found: Found, buffer: &[u8], memory: &mut [u8], registers: &mut 
             if bytes.len() > 8704 {
                 return unread();
             }
-            pictures::read_picture(1, bytes, memory, registers)
+            let size = pictures::registers_bytes(kind);
+            pictures::read_picture(kind, bytes, memory, &mut registers[0..size])
         }
     }
 }
 
 // run.lst or in.itm, read into its buffer.
 fn take_content(found: Found, kind: usize, buffer: &[u8], target: &mut [u8]) -> Moved
-    requires { ⌜ (1 < kind) × (length (now target) ≡ 8192) ⌝ }
+    requires { ⌜ (isPicture kind ≡ false) × (length (now target) ≡ 8192) ⌝ }
     ensures answer { λ r. ⌜ r ≡ contentAnswer kind (fileOf found (now (buffer .entry))) ⌝ }
     ensures target { λ r. ⌜ (r .number ≡ 0 → (r .bytes ≤ length (now (target .exit)))
         × (take (r .bytes) (now (target .exit)) ≡ contentIn (fileOf found (now (buffer .entry))))) ⌝ }
@@ -147,22 +178,38 @@ fn print_run(a: judge::Answer, out: &[u8], text: &mut [u8]) -> usize
     )
 }
 
-// The picture after a run that is done, and its size; nothing after one that is not. Of the registers it has M, X and Y, the
-// first 96 bytes.
-fn keep(number: u8, memory: &[u8], registers: &[u8], after: &mut [u8]) -> usize
-    requires { ⌜ (length (now memory) ≡ 8192) × (length (now registers) ≡ 100) × (length (now after) ≡ 8704) ⌝ }
-    ensures { λ r. ⌜ (r ≤ 8704) × (r ≡ length (afterOf number (now (memory .entry)) (now (registers .entry))))
-        × (now (after .exit) ≡ over (afterOf number (now (memory .entry)) (now (registers .entry))) (now (after .entry))) ⌝ }
+// The kind of after.pic.
+fn kind_written(taken: usize, registers: &[u8]) -> usize
+    ensures { λ r. ⌜ r ≡ kindWritten taken (now (registers .entry)) ⌝ }
+{
+    if taken == MODES_PICTURE {
+        return MODES_PICTURE;
+    }
+    if any_set(modes_of(registers)) {
+        return MODES_PICTURE;
+    }
+    PICTURE
+}
+
+// The picture after a run that is done, and its size; nothing after one that is not.
+fn keep(taken: usize, number: u8, memory: &[u8], registers: &[u8], after: &mut [u8]) -> usize
+    requires { ⌜ (length (now memory) ≡ 8192) × (length (now registers) ≡ 100) × (length (now after) ≡ 8704)
+        × (number ≡ 0 → wrongModes (modesOf (now registers)) ≡ false) ⌝ }
+    ensures { λ r. ⌜ (r ≤ 8704) × (r ≡ length (afterOf taken number (now (memory .entry)) (now (registers .entry))))
+        × (now (after .exit) ≡ over (afterOf taken number (now (memory .entry)) (now (registers .entry))) (now (after .entry))) ⌝ }
 {
     if number != 0 {
         return 0;
     }
-    let written = pictures::write_picture(1, memory, &registers[..96], after);
+    let kind = kind_written(taken, registers);
+    let size = pictures::registers_bytes(kind);
+    let written = pictures::write_picture(kind, memory, &registers[..size], after);
     written.bytes
 }
 
 // The run, its lines and its picture.
 fn finish(
+    taken: usize,
     memory: &mut [u8],
     registers: &mut [u8],
     list: &[u8],
@@ -174,7 +221,7 @@ fn finish(
     requires { ⌜ (length (now memory) ≡ 8192) × (length (now registers) ≡ 100) × (length (now out) ≡ 8192)
         × (length (now after) ≡ 8704) × (16708 ≤ length (now text)) ⌝ }
     ensures text { λ r. ⌜ Shown
-        (finished (ran (record {
+        (finished taken (ran (record {
           memory = now (memory .entry);
           registers = now (registers .entry);
           list = now (list .entry);
@@ -183,7 +230,7 @@ fn finish(
         })))
         r (now (text .entry)) (now (text .exit)) ⌝ }
     ensures after { λ r. ⌜ now (after .exit) ≡ over
-        (finished (ran (record {
+        (finished taken (ran (record {
           memory = now (memory .entry);
           registers = now (registers .entry);
           list = now (list .entry);
@@ -194,12 +241,13 @@ fn finish(
 {
     let a = module::run(memory, registers, list, items, out);
     let n = print_run(a, out, text);
-    let w = keep(a.number, memory, registers, after);
+    let w = keep(taken, a.number, memory, registers, after);
     Counts { text: n, after: w }
 }
 
 // The last stage, in.itm: its line, or the run on it and on what was taken before.
 fn with_items(
+    taken: usize,
     memory: &mut [u8],
     registers: &mut [u8],
     list: &[u8],
@@ -210,9 +258,9 @@ fn with_items(
 ) -> Counts
     requires { ⌜ (length (now memory) ≡ 8192) × (length (now registers) ≡ 100)
         × (length (now after) ≡ 8704) × (16708 ≤ length (now text)) ⌝ }
-    ensures text { λ r. ⌜ Shown (withItems (now (memory .entry)) (now (registers .entry)) (now (list .entry))
+    ensures text { λ r. ⌜ Shown (withItems taken (now (memory .entry)) (now (registers .entry)) (now (list .entry))
         (fileOf i (now (items .entry)))) r (now (text .entry)) (now (text .exit)) ⌝ }
-    ensures after { λ r. ⌜ now (after .exit) ≡ over (withItems (now (memory .entry)) (now (registers .entry))
+    ensures after { λ r. ⌜ now (after .exit) ≡ over (withItems taken (now (memory .entry)) (now (registers .entry))
         (now (list .entry)) (fileOf i (now (items .entry))) .after) (now (after .entry)) ⌝ }
 {
     let mut lent = blank();
@@ -222,11 +270,21 @@ fn with_items(
     }
     let n = read_i.bytes;
     let mut out = blank();
-    finish(memory, registers, list, &lent[..n], &mut out, after, text)
+    finish(
+        taken,
+        memory,
+        registers,
+        list,
+        &lent[..n],
+        &mut out,
+        after,
+        text,
+    )
 }
 
 // The second stage, run.lst: its line, or the last stage.
 fn with_list(
+    taken: usize,
     memory: &mut [u8],
     registers: &mut [u8],
     l: Found,
@@ -238,24 +296,23 @@ fn with_list(
 ) -> Counts
     requires { ⌜ (length (now memory) ≡ 8192) × (length (now registers) ≡ 100)
         × (length (now after) ≡ 8704) × (16708 ≤ length (now text)) ⌝ }
-    ensures text { λ r. ⌜ Shown (withList (now (memory .entry)) (now (registers .entry)) (fileOf l (now (list .entry)))
+    ensures text { λ r. ⌜ Shown (withList taken (now (memory .entry)) (now (registers .entry)) (fileOf l (now (list .entry)))
         (fileOf i (now (items .entry)))) r (now (text .entry)) (now (text .exit)) ⌝ }
-    ensures after { λ r. ⌜ now (after .exit) ≡ over (withList (now (memory .entry)) (now (registers .entry))
+    ensures after { λ r. ⌜ now (after .exit) ≡ over (withList taken (now (memory .entry)) (now (registers .entry))
         (fileOf l (now (list .entry))) (fileOf i (now (items .entry))) .after) (now (after .entry)) ⌝ }
 {
-    let mut instructions = blank();
-    let read_l = take_content(l, 2, list, &mut instructions);
+    let mut lent = blank();
+    let read_l = take_content(l, 2, list, &mut lent);
     if read_l.number != 0 {
         return print_line(b'l', read_l, text);
     }
     let n = read_l.bytes;
-    with_items(memory, registers, &instructions[..n], i, items, after, text)
+    with_items(taken, memory, registers, &lent[..n], i, items, after, text)
 }
 
 // The program, from what was found of before.pic, run.lst and in.itm and the buffers that they were read into: the text to
 // print, and the bytes of after.pic. What stands behind either stays, and all of after.pic's buffer where it is not to be
-// written. The first of three stages, before.pic: its line, or the second stage. A picture has M, X and Y; both mode registers
-// behind them start unset.
+// written. The first of three stages, before.pic: its line, or the second stage.
 pub fn session(
     p: Found,
     l: Found,
@@ -274,9 +331,20 @@ pub fn session(
 {
     let mut memory = blank();
     let mut registers = [0u8; 100];
-    let read_p = take_picture(p, picture, &mut memory, &mut registers[..96]);
+    let kind = kind_taken(p, picture);
+    let read_p = take_picture(p, kind, picture, &mut memory, &mut registers);
     if read_p.number != 0 {
         return print_line(b'p', read_p, text);
     }
-    with_list(&mut memory, &mut registers, l, i, list, items, after, text)
+    with_list(
+        kind,
+        &mut memory,
+        &mut registers,
+        l,
+        i,
+        list,
+        items,
+        after,
+        text,
+    )
 }

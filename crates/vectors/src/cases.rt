@@ -78,7 +78,7 @@ fn format_file(record: &[u8], which: usize, buffer: &mut [u8]) {
     if which != 5 {
         return;
     }
-    if kind != 6 && kind != 7 {
+    if kind != 6 && kind != 7 && kind != 17 && kind != 19 && kind != 20 {
         return;
     }
     if parameter(record, 3) == 1 {

@@ -4,6 +4,7 @@ mod buffers;
 mod calls;
 mod cases;
 mod closings;
+mod disk;
 mod records;
 mod rooms;
 mod running;

@@ -1,7 +1,8 @@
 """The making of the buffers and the digest once more, from PROTOCOL.md alone: checks that page and
 the stored files against each other for every buffer that a call leaves as it was, for runs, steps, passes,
 sums and differences built and run every number, for runs and steps the memory if none is stored, the registers if
-M, X and Y stay, and for the searches, for closing and for spreading every word of the answer.
+M, X and Y stay, and for the searches, for closing and spreading, for reading and writing of blocks and for pictures
+made new or old every word of the answer.
 
     python3 extra/protocol.py ../../crates/vectors/stdin ../../crates/vectors/stdout
 """
@@ -46,7 +47,7 @@ def make(r):
             b6=(0 if q==0 else 16*q+(r_[6]//16)%q) if b0 in(0,1,4) else 0
             b7=16*((r_[7]//16)%5)+r_[7]%16 if b0==0 else 0
             l[8*i:8*i+8]=bytes([b0,b1,*b234,b5,b6,b7])
-    if kind in(6,7) and p[3]==1:
+    if kind in(6,7,17,19,20) and p[3]==1:
         f=B[5];c=len(f)//512
         for n in range(c):
             at=512*n;used=496 if n<c-1 else p[2]
@@ -121,7 +122,7 @@ def numbers(kind,p,B):
     """The numbers of the answer of kinds 0 to 3, 10 and 11; of the others how many there are."""
     if kind<2: return run(kind,B)
     if kind<4: return [(fault([0,1,0,0,0,0,p[1],0],()) or [0])[0],0,0,0,0]
-    return built(kind,p,B) if kind>9 else 5*[None]
+    return built(kind,p,B) if kind>9 else 5*[None] # 4 and 5
 def search(kind,p,B):
     """Kinds 12 to 14 from the page's part on searches: all words of the answer."""
     mem,reg,lst,itm=B[:4];start,n,number=p[0],p[1],p[2]+(p[3]<<32)
@@ -164,15 +165,74 @@ def closing(kind,p,B):
             else: put(a+b,old&~number|new)
     left=[mem,reg if bad else reg[96:],lst[8*steps:],itm[32*taken:],B[4],marks]
     return [0,8*steps,32*taken]+([bad,0,0,0,0,0] if bad else [0,0,0,steps,taken,0])+[digest(b) for b in left]
-kept={0:[2,3,5],1:[2,3,5],2:[0,1,2,3,5],3:[0,1,2,3,5],4:[0,1,3,4,5],5:[0,1,3,4,5],6:[0,1,3,4,5],7:[2,3,4,5],8:[0,1,2,3,4],9:[0,1,2,3,4],10:[3,5],11:[3,5]}
+def turned(words):
+    """The chips of the words, or the words of the chips: bit b of word w is bit b of chip b xor w."""
+    other=bytearray(8192)
+    for w in range(256):
+        for byte in range(32):
+            other[32*w+byte]=sum(words[32*(8*byte+i^w)+byte]&1<<i for i in range(8))
+    return bytes(other)
+def judged(kind,f):
+    """Number and place of a file that is read as this kind, and its content."""
+    if not f or len(f)%512 or len(f)>34304: return 20,0,b''
+    count=len(f)//512;content=b''
+    two=lambda b,at:b[at]+256*b[at+1]
+    for n in range(count):
+        b=f[512*n:512*n+512];right=bytearray(b);seal(right,0);used=two(b,6)
+        if right!=b: return 21,n,b''
+        if two(b,0)!=kind: return 22,n,b''
+        if (two(b,2),two(b,4))!=(n,count): return 23,n,b''
+        if not(used==496 if n<count-1 else used<=496 and (used>0 or count==1)) or any(b[8:12]) or any(b[12+used:508]): return 24,n,b''
+        content+=b[12:12+used]
+    size=len(content)
+    fits={1:size==8288,2:size%8==0 and size<=32768,3:size%32==0 and size<=32768,4:size==8292}[kind]
+    return (0 if fits else 25),0,content
+def blocks(kind,content):
+    count=-(-len(content)//496) or 1;f=bytearray()
+    for n in range(count):
+        part=content[496*n:496*n+496];used=len(part)
+        f+=bytes([kind,0,n,0,count,0,used%256,used//256,0,0,0,0])+part+bytes(500-used);seal(f,n)
+    return f
+def on_disk(kind,p,B):
+    """Kinds 6 to 9 and 17 to 20 from the page's part on pictures and document 01's on blocks: all words of the answer."""
+    mem,reg,lst,_,_,f=B
+    asked=1 if kind in(7,9,19) else 4 if kind==20 else p[0]
+    reads,plain=kind in(6,7,17,19,20),kind in(6,8)
+    bad=lambda four:any(four[k]>1 or four[k]==0<four[k+1] for k in(0,2))
+    no,place,content=0,0,b''
+    if not 1<=asked<=4: no=22
+    elif reads: no,place,content=judged(asked,f)
+    else:
+        size=len(lst)
+        if plain: no=0 if asked==2 and size%8==0 and size<=32768 or asked==3 and size%32==0 and size<=32768 else 26
+    if not no and kind in(7,9,17,18) and (asked not in(1,4) or len(mem)!=8192 or len(reg)!=(96 if asked==1 else 100)): no=26
+    if not no and kind==6 and (asked in(1,4) or len(lst)<len(content)): no=26
+    if not no and asked==4 and kind!=6:
+        four=content[8288:] if reads else reg[96:]
+        no=15 if bad(four) else 28 if kind==20 and 1 in(four[0],four[2]) else 0
+    given=0
+    if not no and not(reads and kind<18):
+        if kind==8: new=blocks(asked,bytes(lst))
+        elif kind in(9,18): new=blocks(asked,turned(mem)+bytes(reg))
+        else: new=blocks(5-asked,content[:8288]+bytes(4 if kind==19 else 0))
+        out=lst if kind>18 else f;given=len(new)
+        if len(out)<given: no,given=27,0
+        else: out[:given]=new
+    elif not no:
+        given=len(content)
+        if kind==6: lst[:given]=content
+        else: mem[:]=turned(content[:8192]);reg[:]=content[8192:]
+    return [no,place if no else 0,given,0,0]+[digest(b) for b in B]
+kept={0:[2,3,5],1:[2,3,5],2:[0,1,2,3,5],3:[0,1,2,3,5],4:[0,1,3,4,5],5:[0,1,3,4,5],10:[3,5],11:[3,5]}
 lines=open(sys.argv[1]).read().split('\n');ans=open(sys.argv[2]).read().split('\n')
 assert lines[-1]=='' and ans[-1]=='' and len(lines)==len(ans)
 checked=0
 for k in range(0,len(lines)-1):
     kind,p,B=make(bytes.fromhex(lines[k]))
     w=[int(v,16) for v in ans[k].split(' ')];assert len(ans[k])==9*len(w)-1 and len(w)>=5+len(B)
-    if kind>=12:
-        assert w==(search if kind<15 else closing)(kind,p,B),k; checked+=len(B); continue
+    if kind>=12 or 6<=kind<=9:
+        whole=on_disk if kind<10 or kind>16 else search if kind<15 else closing
+        assert w==whole(kind,p,B),k; checked+=len(B); continue
     expected=numbers(kind,p,B);assert len(w)==len(expected)+len(B),k
     if expected[0] is not None: assert w[:len(expected)]==expected,(k,expected)
     keep=kept[kind] if w[0]==0 else range(len(B))

@@ -5,7 +5,6 @@ use native.Mathlib.Omega.{arith}
 use lib.ListN.{length, getD}
 use denote.Ref.{now}
 use Rattle.contents.specs.File.{contentOf}
-use Rattle.contents.specs.Payloads.{payloads}
 use Rattle.contents.proofs.OneForm.{content-bytes}
 use Rattle.contents.proofs.PayloadLaws.{payloads-content, payloads-room}
 use Rattle.pictures.proofs.PictureLaws.{picture-stands, picture-size, registers-rest, withWords, words-start, words-put, words-done}
@@ -24,7 +23,7 @@ small : (c : tie.After-slice-known2 Inv-loop μ-loop) → (i : ℕ) → getD (co
 small c =
     let s = c .before .before .before in
     let b = now (s .args .bytes) in
-    content-bytes 1 b (picture-stands b (s .pre .0)) (λ i. c .before .before .shared-slice-known .given i .fits)
+    content-bytes (s .pre .0 .0) b (picture-stands _ b _ (s .pre .0 .1)) (λ i. c .before .before .shared-slice-known .given i .fits)
 
 loop-holds : tie.Need-loop-holds Inv-loop μ-loop
 loop-holds c =
@@ -35,29 +34,29 @@ part-of-requires : tie.Need-part-of-requires Inv-loop μ-loop
 part-of-requires c κs =
     let s = c .before .before .before .before .before .before in
     let b = now (s .args .bytes) in
-    payloads-room 1 b (picture-stands b (s .pre .0)) _ (omega (arith, picture-size b (s .pre .0)))
+    payloads-room (s .pre .0 .0) b (picture-stands _ b _ (s .pre .0 .1)) _ (omega (arith, picture-size _ b _ (s .pre .0 .1)))
 
 loop-again : tie.Need-loop-again Inv-loop μ-loop
 loop-again c =
     let k = c .before .before .before .before .before .before .before .before .before .before in
     let s = k .before .before .before in
     let b = now (s .args .bytes) in
-    let q = s .pre .0 in
-    let n = picture-size b q in
+    let q = s .pre .0 .1 in
+    let n = picture-size _ b _ q in
     let l = c .before .before .before .before .before .before .before .before .before .loop in
     let p = c .before .before .before .before .before .before .part-of in
     let w = c .before .before .words-in in (
       omega arith,
       w .kept .0 ∙ l .inv .1,
       w .ensures ∙ words-put (contentOf b) (now (s .args .memory)) (omega arith) (small k) (l .memory) _ (l .v) (omega arith) (l .inv .2)
-          (p .ensures ∙ payloads-content 1 b (picture-stands b q) (256 * l .v) 256 (omega arith)),
+          (p .ensures ∙ payloads-content (s .pre .0 .0) b (picture-stands _ b _ q) (256 * l .v) 256 (omega arith)),
     )
 
 part-of-requires-2 : tie.Need-part-of-requires-2 Inv-loop μ-loop
 part-of-requires-2 c κs =
     let s = c .before .before .before .before .before .before in
     let b = now (s .args .bytes) in
-    payloads-room 1 b (picture-stands b (s .pre .0)) _ (omega (arith, picture-size b (s .pre .0)))
+    payloads-room (s .pre .0 .0) b (picture-stands _ b _ (s .pre .0 .1)) _ (omega (arith, picture-size _ b _ (s .pre .0 .1)))
 
 returns : tie.Need-returns Inv-loop μ-loop
 returns c =
@@ -65,16 +64,15 @@ returns c =
     let k = c .before .before .before .before .before .before in
     let s = k .before .before .before in
     let b = now (s .args .bytes) in
-    let q = s .pre .0 in
-    let n = picture-size b q in
+    let q = s .pre .0 .1 in
+    let n = picture-size _ b _ q in
     let e : l .v ≡ 32 = omega arith in (
       l .inv .2
           ∙ ap (withWords (contentOf b) (now (s .args .memory))) e
           ∙ words-done (contentOf b) (now (s .args .memory)) (omega arith) (small k),
       c .before .before .part-of2 .ensures
-          ∙ ap (λ (m : ℕ). payloads b 8192 m) (s .pre .2)
-          ∙ payloads-content 1 b (picture-stands b q) 8192 96 (omega arith)
-          ∙ registers-rest (contentOf b) n,
+          ∙ payloads-content (s .pre .0 .0) b (picture-stands _ b _ q) 8192 (length (now (s .args .registers))) (omega arith)
+          ∙ registers-rest (contentOf b) (length (now (s .args .registers))) n,
     )
 
 pub unload-picture-spec : {M : Type 1} → statement M

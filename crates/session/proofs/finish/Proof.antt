@@ -1,10 +1,13 @@
 -- `finish`: what the run leaves goes into the lines and the picture, and `finished-shown` puts them together.
-use mathlib.Core.Path.{refl, ap, _∙_}
+use mathlib.Core.Path.{refl, sym, ap, _∙_}
 use denote.Ref.{now}
 use mathlib.Core.List.{List}
 use Prim.Native.Nat.{ℕ}
+use lib.ListN.{length}
+use Rattle.registers.specs.Modes.{modesOf, wrongModes}
 use Rattle.judge.specs.declared.Answer.{Answer}
 use Rattle.module.specs.Run.{Lent, Left, ran}
+use Rattle.module.proofs.RunLaws.{modes-right}
 use Rattle.session.proofs.SessionLaws.{run-small, finished-shown}
 use Rattle.session.specs.Session.{finished}
 use borrow.Author.Needs.{needs}
@@ -32,6 +35,20 @@ print-run-requires c κs =
       s .pre .4,
     )
 
+keep-requires : tie.Need-keep-requires
+keep-requires c κs =
+    let q = c .before .before .before .before .before .before .before .before .before .before .before .before .before .before in
+    let r = q .run in
+    let s = start q in
+    let n = r .kept .1 .0 ∙ s .pre .1 in (
+      r .kept .0 ∙ s .pre .0,
+      n,
+      s .pre .3,
+      λ z. ap (λ (u : Left (List ℕ) Answer). wrongModes (modesOf (u .registers))) (r .ensures)
+          ∙ modes-right (lent q) (sym (ap (λ (u : Left (List ℕ) Answer). u .answer .number) (r .ensures)) ∙ z)
+          (sym (ap (λ (u : Left (List ℕ) Answer). length (u .registers)) (r .ensures)) ∙ n),
+    )
+
 returns : tie.Need-returns
 returns c =
     let p = c .before .before .before .before .before .before .before .before in
@@ -40,8 +57,8 @@ returns c =
     let s = ran (lent q) in
     let k = c .before .before .keep in
     let t = p .print-run in
-    finished-shown (finished s) s _ _ _ (q .run .result) (t .result) (k .result) (now (a .text)) (t .last .1 .1 .0)
-    (now (a .after)) (k .last .1 .1 .1 .0) refl (q .run .ensures) (t .ensures .0) (t .ensures .1 .0) (t .ensures .1 .1)
+    finished-shown (a .taken) (finished (a .taken) s) s _ _ _ (q .run .result) (t .result) (k .result) (now (a .text)) (t .last .1 .1 .0)
+    (now (a .after)) (k .last .1 .1 .1 .1 .0) refl (q .run .ensures) (t .ensures .0) (t .ensures .1 .0) (t .ensures .1 .1)
     (k .ensures .0) (k .ensures .1) (k .ensures .2)
 
 pub finish-spec : {M : Type 1} → statement M
@@ -50,7 +67,7 @@ finish-spec =
     (tie.spec
     (λ c κs. search needs)
     print-run-requires
-    (λ c κs. search needs)
+    keep-requires
     (λ c. search needs)
     (λ c. search needs)
     (λ c. search needs)

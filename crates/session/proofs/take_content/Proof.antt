@@ -1,7 +1,7 @@
 -- `take_content`: each arm of the match is a law of FileLaws.
 use mathlib.Core.Path.{sym, ap}
 use denote.Ref.{now}
-use Rattle.contents.specs.File.{done}
+use Rattle.contents.specs.File.{done, fileJudged}
 use Rattle.session.specs.declared.Found.{Found}
 use Rattle.session.specs.Session.{fileOf, contentAnswer}
 use Rattle.session.proofs.FileLaws.{found-bytes, found-long, content-absent, content-refused, content-taken}
@@ -15,7 +15,7 @@ returns c =
     let a = w .before .before .before .before .before .before .args in
     let b = now (a .buffer) in
     content-refused (a .kind) (fileOf (a .found) b) (c .unread2 .result) _ (c .unread2 .ensures)
-    (found-long (done 0) 8192 (a .kind) b (w .before .before .found .given .1) (w .front .ensures) (c .before .if1 .taken))
+    (found-long (done 0) 8192 (fileJudged (a .kind)) b (w .before .before .found .given .1) (w .front .ensures) (c .before .if1 .taken))
 
 returns-2 : tie.Need-returns-2
 returns-2 c =

@@ -25,8 +25,8 @@ returns c =
     line-shown 108 (r .result) _ _ (p .result) (now (a .text)) _ (now (a .after))
     (r .ensures .0) (n .if1 .taken) (p .ensures)
 
-array-share-prefix-instructions : tie.Need-array-share-prefix-instructions
-array-share-prefix-instructions c =
+array-share-prefix-lent : tie.Need-array-share-prefix-lent
+array-share-prefix-lent c =
     let n = c .before .before in
     n .before .before .before .take-content .ensures .1 .0 (n .if1 .left) .0
 
@@ -45,7 +45,7 @@ returns-2 c =
     let a = start t .args in
     let r = t .take-content in
     next-shown 108 (r .result) _ _ _ (w .with-items .result) (now (a .text)) _ (now (a .after)) _ (r .ensures .0) (n .if1 .left)
-    (ap (λ (list : List ℕ). withItems (now (a .memory)) (now (a .registers)) list (fileOf (a .i) (now (a .items))))
+    (ap (λ (list : List ℕ). withItems (a .taken) (now (a .memory)) (now (a .registers)) list (fileOf (a .i) (now (a .items))))
     (sym (r .ensures .1 .0 (n .if1 .left) .1)))
     (w .with-items .ensures)
 
@@ -59,7 +59,7 @@ with-list-spec =
     (λ c κs. search needs)
     (λ c. search needs)
     returns
-    array-share-prefix-instructions
+    array-share-prefix-lent
     slice-aggregate-with-items
     (λ c κs. search needs)
     (λ c. search needs)

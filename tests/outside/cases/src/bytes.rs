@@ -664,8 +664,8 @@ pub mod tests {
         }
     }
 
-    /// One random case in eight has just one instruction at fault by its family; with those of other families it is
-    /// about one in five.
+    /// One random case in nine has just one instruction at fault by its family; with those of other families it is
+    /// about one in six.
     #[test]
     fn many_random_cases_have_one_instruction_at_fault() {
         let mut plan = Plan::new(3);

@@ -16,7 +16,8 @@ pub const REPEAT: u8 = 254;
 /// How many buffers a case has.
 pub const COUNT: usize = 6;
 pub const MAXIMUM: [usize; COUNT] = [8200, 104, 33000, 33000, 8200, 35000];
-/// Where the mode registers stand in the registers of a run or step: set-flag and mode of A, then of B.
+/// Where the mode registers stand in the registers of a run, a step or a picture of kind 4: set-flag and mode of A, then
+/// of B.
 pub const MODES: usize = 96;
 /// The bytes of the registers of a run or step.
 pub const RECORD: usize = emulator::REGISTERS;
@@ -49,8 +50,12 @@ pub const LESS_RUN: u8 = 13;
 pub const GREATEST_RUN: u8 = 14;
 pub const CLOSE_RUN: u8 = 15;
 pub const SPREAD_RUN: u8 = 16;
+pub const READ_ASKED: u8 = 17;
+pub const WRITE_ASKED: u8 = 18;
+pub const TO_NEW: u8 = 19;
+pub const TO_OLD: u8 = 20;
 
-pub const KINDS: [&str; 17] = [
+pub const KINDS: [&str; 21] = [
     "run",
     "step",
     "pass",
@@ -68,9 +73,13 @@ pub const KINDS: [&str; 17] = [
     "greatest list, then run",
     "closing list, then run",
     "spreading list, then run",
+    "read picture as asked",
+    "write picture as asked",
+    "old picture to new",
+    "new picture to old",
 ];
 
-pub const BUFFERS: [&str; COUNT] = ["memory", "registers", "list", "items", "out", "file or marks"];
+pub const BUFFERS: [&str; COUNT] = ["memory", "registers", "list or output", "items", "out", "file or marks"];
 
 #[derive(Clone, PartialEq, Eq, Debug)]
 pub struct Patch {
@@ -228,6 +237,15 @@ impl Case {
         if self.way().is_some() {
             assert!(self.p[3] == 0);
         }
+        if [READ_PICTURE, WRITE_PICTURE, TO_NEW, TO_OLD].contains(&self.kind) {
+            assert!(self.p[0] == 0);
+        }
+        if [READ_PICTURE, READ_ASKED, TO_NEW, TO_OLD].contains(&self.kind) {
+            assert!(self.p[1] < 65536 && self.p[2] < 65536 && self.p[3] < 2);
+        }
+        if self.kind == WRITE_ASKED {
+            assert!(self.p[1..] == [0; 3]);
+        }
         assert!(self.patches.len() < 256);
         for patch in &self.patches {
             if patch.target == SEAL {
@@ -335,7 +353,7 @@ impl Case {
                 buffers[LIST][at..at + 8].copy_from_slice(&b);
             }
         }
-        if (self.kind == READ_PLAIN || self.kind == READ_PICTURE) && self.p[3] == 1 {
+        if self.has_file() && self.p[3] == 1 {
             format_blocks(&mut buffers[FILE], self.p[1], self.p[2]);
         }
         for patch in &self.patches {
@@ -351,6 +369,11 @@ impl Case {
             }
         }
         buffers
+    }
+
+    /// Whether the file is read, and so may be formatted.
+    pub fn has_file(&self) -> bool {
+        [READ_PLAIN, READ_PICTURE, READ_ASKED, TO_NEW, TO_OLD].contains(&self.kind)
     }
 
     /// The search that a case of kinds 12 to 14 asks for.
@@ -476,7 +499,7 @@ impl Case {
         build(a, b, s, width, list)
     }
 
-    /// A pass, a builder alone, reading and writing.
+    /// A pass, a builder alone, reading, writing and making new or old.
     fn call_other(&self, buffers: &mut Buffers) -> [u32; NUMBERS] {
         let [memory, registers, list, items, out, file] = buffers;
         let p = self.p;
@@ -494,9 +517,13 @@ impl Case {
                 [built.number, 0, built.count, 0, 0]
             }
             READ_PLAIN => put(emulator::read_plain(p[0], file, list)),
-            READ_PICTURE => put(emulator::read_picture(file, memory, registers)),
+            READ_PICTURE => put(emulator::read_picture(emulator::blocks::PICTURE, file, memory, registers)),
             WRITE_PLAIN => put(emulator::write_plain(p[0], list, file)),
-            WRITE_PICTURE => put(emulator::write_picture(memory, registers, file)),
+            WRITE_PICTURE => put(emulator::write_picture(emulator::blocks::PICTURE, memory, registers, file)),
+            READ_ASKED => put(emulator::read_picture(p[0], file, memory, registers)),
+            WRITE_ASKED => put(emulator::write_picture(p[0], memory, registers, file)),
+            TO_NEW => put(emulator::old_to_new(file, list)),
+            TO_OLD => put(emulator::new_to_old(file, list)),
             _ => panic!("no such case"),
         }
     }
@@ -696,7 +723,7 @@ mod tests {
         let mut checked = 0;
         let asked: Vec<&str> = lines.iter().copied().filter(|l| l.len() >= 2 * (HEADER + BUFFER * COUNT) && l.bytes().all(|c| c.is_ascii_hexdigit())).collect();
         let answered: Vec<&str> = lines.iter().copied().filter(|l| Reply::from_line(l).is_some()).collect();
-        assert_eq!((asked.len(), answered.len()), (27, 27));
+        assert_eq!((asked.len(), answered.len()), (37, 37));
         for (line, reply) in asked.iter().zip(&answered) {
             let case = Case::from_line(line).unwrap();
             case.check();
@@ -704,7 +731,7 @@ mod tests {
             assert_eq!(case.answer().line(), *reply);
             checked += 1;
         }
-        assert_eq!(checked, 27);
+        assert_eq!(checked, 37);
         let mut case = Case::new(RUN, 1);
         case.lengths[LIST] = 8;
         assert_eq!(case.make()[LIST], [0x21, 0x01, 0xc5, 0x4f, 0xd1, 0xd0, 0x1a, 0xb2]);

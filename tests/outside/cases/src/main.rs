@@ -8,6 +8,7 @@ mod bytes;
 mod closings;
 mod masks;
 mod modes;
+mod pictures;
 mod resolves;
 mod searches;
 mod words;
@@ -25,7 +26,7 @@ const USAGE: &str = "\
 cases                               write the stored cases: stdin and stdout of crates/vectors
 cases --seed N --count M            write M random cases of seed N instead
       --to DIRECTORY                ... into this directory (for both of the above)
-      --open-points                 ... also on points that document 01 leaves open
+      --open-points                 ... more of those on which document 01 is silent
 cases --answer                      read cases from standard input, write the emulator's answers
 cases --compare CASES ONE OTHER     find the first case on which two answer files differ
 cases --show CASES K                print case K (from 0) in words

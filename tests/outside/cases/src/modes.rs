@@ -1150,9 +1150,9 @@ mod tests {
         assert!(places.len() >= 5, "{:?}", places);
     }
 
-    /// One random case in eight has mode registers and a list of shape 3, or one that sets what it uses; most are done.
+    /// One random case in nine has mode registers and a list of shape 3, or one that sets what it uses; most are done.
     #[test]
-    fn one_random_case_in_eight_uses_the_mode_registers() {
+    fn one_random_case_in_nine_uses_the_mode_registers() {
         let mut plan = Plan::new(3);
         plan.random_cases(4000);
         let (mut shaped, mut done, mut uses, mut fifteen, mut fourteen) = (0, 0, 0, 0, 0);
@@ -1171,7 +1171,7 @@ mod tests {
             uses += (number == 0 && case.kind < 2 && case.make()[LIST].chunks(8).any(named)) as usize;
         }
         println!("{} of shape 3, {} done; {} done use a register; 14: {}, 15: {}; {} of {} runs done", shaped, done, uses, fourteen, fifteen, runs_done, runs);
-        assert!(4000 / 13 < shaped && shaped < 4000 / 8, "{}", shaped);
+        assert!(4000 / 15 < shaped && shaped < 4000 / 9, "{}", shaped);
         assert!(shaped / 3 < done && 4000 / 16 < uses, "{} {}", done, uses);
         assert!(40 < fourteen && 20 < fifteen && fifteen < 200, "{} {}", fourteen, fifteen);
         let mut plan = Plan::new(5);

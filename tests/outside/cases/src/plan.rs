@@ -62,7 +62,7 @@ pub struct Plan {
     pub cases: Vec<Case>,
     /// Whether a few of the mode registers so drawn are bad ones (15).
     pub some_bad_modes: bool,
-    /// Also ask for kind 1 in plain reads and writes, on which document 01 is silent.
+    /// Ask more often for kind 1 in plain reads and writes, on which document 01 is silent (reading D12).
     pub open_points: bool,
 }
 
@@ -178,7 +178,7 @@ impl Plan {
         self.valid_of(kind, source)
     }
 
-    fn wild(&mut self) -> u8 {
+    pub fn wild(&mut self) -> u8 {
         if self.r.one_in(2) {
             self.r.of(&[1u8, 2, 3, 127, 128, 254, 255])
         } else {
@@ -489,7 +489,7 @@ impl Plan {
     // ---- blocks
 
     /// A formatted file, read with room for everything.
-    fn read_plain(&mut self, asked: u32, kind: u32, blocks: usize, used: u32) -> Case {
+    pub fn read_plain(&mut self, asked: u32, kind: u32, blocks: usize, used: u32) -> Case {
         let mut case = self.case(READ_PLAIN);
         case.lengths[FILE] = 512 * blocks as u16;
         let content = 496 * (blocks.max(1) - 1) + used as usize;
@@ -506,7 +506,7 @@ impl Plan {
     }
 
     /// Changes one byte of the file to another value.
-    fn alter(&mut self, case: &mut Case, at: usize) {
+    pub fn alter(&mut self, case: &mut Case, at: usize) {
         let old = case.make()[FILE][at];
         let new = match self.r.below(4) {
             0 => old ^ (1 << self.r.below(8)),
@@ -517,7 +517,7 @@ impl Plan {
         case.patch(FILE, at, &[new]);
     }
 
-    fn swap(&mut self, case: &mut Case, one: usize, other: usize) {
+    pub fn swap(&mut self, case: &mut Case, one: usize, other: usize) {
         let file = &case.make()[FILE];
         let (x, y) = (file[one], file[other]);
         case.patch(FILE, one, &[y]);
@@ -596,7 +596,7 @@ impl Plan {
         case
     }
 
-    fn write_plain(&mut self, asked: u32, content: usize, output: usize) -> Case {
+    pub fn write_plain(&mut self, asked: u32, content: usize, output: usize) -> Case {
         let mut case = self.case(WRITE_PLAIN);
         case.lengths[LIST] = content as u16;
         case.lengths[FILE] = output as u16;
@@ -628,10 +628,14 @@ impl Plan {
         self.write_plain(asked, content, output)
     }
 
-    /// One random case of any family; one in eight is a search, one in eight a closing or spreading, one in eight a run
-    /// or step with one instruction at fault, one in eight a list by the mode registers, one in sixteen a list of masked
-    /// stores, one in sixteen a list of resolves.
+    /// One random case of any family; one in ten is a picture of kind 1 or 4, read, written, made new or made old. Of the
+    /// others one in eight is a search, one in eight a closing or spreading, one in eight a run or step with one
+    /// instruction at fault, one in eight a list by the mode registers, one in sixteen a list of masked stores, one in
+    /// sixteen a list of resolves.
     fn random_case(&mut self) -> Case {
+        if self.r.one_in(10) {
+            return self.random_picture();
+        }
         match self.r.below(16) {
             0 | 1 => self.random_search(),
             2 => self.random_masks(),
@@ -695,7 +699,8 @@ impl Plan {
     // ---- the planned cases
 
     /// The stored cases: those of document 01, planned and this many random ones, then the searches, then the
-    /// masked stores, then the resolves, then closing and spreading, then the offending byte, then the mode registers.
+    /// masked stores, then the resolves, then closing and spreading, then the offending byte, then the mode registers,
+    /// then the pictures of kind 4.
     /// What a later document adds stands behind, so that the cases before it stay.
     pub fn stored(&mut self, random: usize) {
         self.planned();
@@ -709,6 +714,7 @@ impl Plan {
         self.all_closings();
         self.all_bytes();
         self.all_modes();
+        self.all_pictures();
     }
 
     fn planned(&mut self) {

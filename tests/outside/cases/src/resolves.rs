@@ -537,7 +537,7 @@ mod tests {
     }
 
     #[test]
-    fn about_one_random_case_in_five_has_a_resolve() {
+    fn about_one_random_case_in_six_has_a_resolve() {
         let mut plan = Plan::new(3);
         plan.random_cases(6000);
         let mut count = 0;
@@ -559,7 +559,7 @@ mod tests {
                 *seen.entry((case.kind, size)).or_insert(0) += 1;
             }
         }
-        assert!(6000 / 6 < count && count < 6000 / 4, "{}", count);
+        assert!(6000 / 7 < count && count < 6000 / 5, "{}", count);
         for size in ["none", "few", "some", "nearly all", "all"] {
             assert!(seen[&(STEP, size)] >= 3 && seen[&(RUN, size)] >= 25, "{}: {:?}", size, seen);
         }

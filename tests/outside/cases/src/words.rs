@@ -2,8 +2,9 @@
 
 use crate::case::*;
 use crate::closings;
+use crate::pictures;
 use crate::searches::{room, values};
-use std::collections::BTreeMap;
+use std::collections::{BTreeMap, BTreeSet};
 use std::fmt::Write;
 
 const DID: [&str; 7] = ["logic", "set M", "store", "masked store", "deliver", "resolve", "set mode register"];
@@ -53,8 +54,8 @@ pub fn describe(case: &Case) -> String {
                 writeln!(t, "the list wants {} bytes", 8 * (first + 5 * p[3])).unwrap();
             }
         }
-        READ_PLAIN | READ_PICTURE => {
-            if case.kind == READ_PLAIN {
+        _ if case.has_file() => {
+            if case.kind == READ_PLAIN || case.kind == READ_ASKED {
                 writeln!(t, "kind asked {}", p[0]).unwrap();
             }
             if p[3] == 1 {
@@ -64,7 +65,7 @@ pub fn describe(case: &Case) -> String {
                 writeln!(t, "file not formatted").unwrap();
             }
         }
-        WRITE_PLAIN => writeln!(t, "kind asked {}", p[0]).unwrap(),
+        WRITE_PLAIN | WRITE_ASKED => writeln!(t, "kind asked {}", p[0]).unwrap(),
         EQUAL_RUN | LESS_RUN | GREATEST_RUN => describe_search(&mut t, case),
         CLOSE_RUN | SPREAD_RUN => describe_closing(&mut t, case),
         _ => {}
@@ -77,13 +78,10 @@ pub fn describe(case: &Case) -> String {
     }
     let buffers = case.make();
     if case.has_modes() {
-        let said = |pair: &[u8]| match pair {
-            [0, 0] => "unset".to_string(),
-            [1, mode] => format!("mode {}", mode),
-            _ => format!("bad (flag {}, mode {})", pair[0], pair[1]),
-        };
-        let bytes = &buffers[REGISTERS][MODES..];
-        writeln!(t, "mode registers: A {}, B {}", said(&bytes[..2]), said(&bytes[2..])).unwrap();
+        writeln!(t, "mode registers: {}", modes(&buffers[REGISTERS][MODES..])).unwrap();
+    }
+    if pictures::about(case) {
+        describe_picture(&mut t, case, &buffers);
     }
     if case.kind == RUN || case.kind == STEP {
         if case.shape != 0 {
@@ -122,6 +120,38 @@ pub fn describe(case: &Case) -> String {
         }
     }
     t
+}
+
+/// Both mode registers.
+fn modes(bytes: &[u8]) -> String {
+    let said = |pair: &[u8]| match pair {
+        [0, 0] => "unset".to_string(),
+        [1, mode] => format!("mode {}", mode),
+        _ => format!("bad (flag {}, mode {})", pair[0], pair[1]),
+    };
+    format!("A {}, B {}", said(&bytes[..2]), said(&bytes[2..]))
+}
+
+/// What stands in the file or in the registers of a picture, where kinds 17 to 20 look at it.
+fn describe_picture(t: &mut String, case: &Case, buffers: &Buffers) {
+    if case.kind == WRITE_ASKED {
+        if let Some(four) = buffers[REGISTERS].get(MODES..MODES + 4) {
+            writeln!(t, "mode registers: {}", modes(four)).unwrap();
+        }
+        return;
+    }
+    let file = &buffers[FILE];
+    let blocks: Vec<&[u8]> = file.chunks(512).filter(|block| block.len() == 512).collect();
+    let field = |block: &[u8], at: usize| block[at] as u32 + 256 * block[at + 1] as u32;
+    let kinds: BTreeSet<u32> = blocks.iter().map(|block| field(block, 0)).collect();
+    let kinds: Vec<String> = kinds.iter().take(5).map(|kind| kind.to_string()).collect();
+    if let Some(last) = blocks.last() {
+        writeln!(t, "{} whole blocks of kind {}, the last using {}", blocks.len(), kinds.join(" and "), field(last, 6)).unwrap();
+    }
+    match file.get(pictures::FLAGS..pictures::FLAGS + 4) {
+        Some(four) if case.kind == TO_OLD || case.p[0] == 4 => writeln!(t, "mode registers: {}", modes(four)).unwrap(),
+        _ => {}
+    }
 }
 
 fn describe_search(t: &mut String, case: &Case) {
@@ -200,7 +230,7 @@ fn describe_closing(t: &mut String, case: &Case) {
     }
 }
 
-/// What a number of a run or step says.
+/// What a number says.
 fn meaning(number: u32) -> &'static str {
     match number {
         1 => "memory not 8,192 bytes",
@@ -220,13 +250,23 @@ fn meaning(number: u32) -> &'static str {
         16 => "group over 256 lines",
         17 => "m not below p",
         18 => "a move that this kind may not make",
+        20 => "file of no right length",
+        21 => "sums differ",
+        22 => "kind not the one asked",
+        23 => "number not its place, or count not that of the blocks there",
+        24 => "used wrong, or a byte not 0 that must be",
+        25 => "size unfit for the kind",
+        26 => "target or content of wrong size",
+        27 => "output too short",
+        28 => "a mode register set, which an old picture has not",
         _ => "the builder's",
     }
 }
 
-/// The answer of a run or step, also of one that was built before, in words; of other entries nothing.
+/// The answer of a run or step, also of one that was built before, and of reading, writing and making new or old, in
+/// words; of other entries nothing.
 pub fn answered(case: &Case, reply: &Reply) -> String {
-    let Some(at) = case.run_numbers() else { return String::new() };
+    let Some(at) = case.run_numbers() else { return answered_by_blocks(case, reply) };
     let (before, run) = (&reply.words[..at.start], &reply.words[at]);
     if before.first().is_some_and(|&number| number != 0) {
         return format!("refused with {} by the builder\n", before[0]);
@@ -241,6 +281,18 @@ pub fn answered(case: &Case, reply: &Reply) -> String {
         }
         12 | 13 => format!("refused with {} at instruction {}, no byte: {}\n", number, place, why),
         _ => format!("refused with {}: {}\n", number, why),
+    }
+}
+
+fn answered_by_blocks(case: &Case, reply: &Reply) -> String {
+    let (number, place, bytes) = (reply.words[0], reply.words[1], reply.words[2]);
+    let none = !(1..=4).contains(&case.p[0]);
+    match (case.kind, number) {
+        (PASS | WIRED | SUM | DIFFERENCE, _) => String::new(),
+        (READ_PLAIN | WRITE_PLAIN | READ_ASKED | WRITE_ASKED, 22) if none => "refused with 22: no such kind to ask for\n".to_string(),
+        (_, 0) => format!("done: {} bytes put out\n", bytes),
+        (_, 21..=24) if case.has_file() => format!("refused with {} at block {}: {}\n", number, place, meaning(number)),
+        _ => format!("refused with {}: {}\n", number, meaning(number)),
     }
 }
 

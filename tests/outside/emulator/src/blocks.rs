@@ -1,5 +1,6 @@
-//! Blocks on disk: reading and writing of pictures, lists and items.
+//! Blocks on disk: reading and writing of pictures, lists and items, and pictures made old or new.
 
+use crate::machine::{modes_of, Modes, REGISTERS};
 use crate::memory::Table;
 
 /// Number, place and bytes put out.
@@ -10,9 +11,14 @@ pub struct Put {
     pub bytes: u32,
 }
 
+/// A picture of the words and M, X, Y; one that has the mode registers too is `MODED` (document 02, Eight).
 pub const PICTURE: u32 = 1;
 pub const LIST: u32 = 2;
 pub const ITEMS: u32 = 3;
+pub const MODED: u32 = 4;
+
+/// The bytes of the words of a picture.
+const WORDS: usize = 8192;
 
 fn refused(number: u32, place: usize) -> Put {
     Put { number, place: place as u32, bytes: 0 }
@@ -103,42 +109,89 @@ fn judge_file(kind: u32, file: &[u8]) -> Result<Vec<u8>, Put> {
 fn size_fits(kind: u32, size: usize) -> bool {
     match kind {
         PICTURE => size == 8288,
+        MODED => size == 8292,
         LIST => size % 8 == 0 && size <= 32768,
         ITEMS => size % 32 == 0 && size <= 32768,
         _ => unreachable!(),
     }
 }
 
-/// Reading of a list or items. Kind 1 asked here has no memory and register targets of exactly
-/// 8,192 and 96 bytes, so it is judged as a picture and, if that stands, refused with 26 (one of
-/// the readings that D12 allows; the stored cases do not ask it).
-pub fn read_plain(kind: u32, file: &[u8], target: &mut [u8]) -> Put {
-    if kind < 1 || kind > 3 {
-        return refused(22, 0);
+/// Refusal 22 before all else: a kind asked for that is not 1 to 4.
+fn asked(kind: u32) -> Result<(), Put> {
+    if kind < PICTURE || kind > MODED {
+        return Err(refused(22, 0));
     }
-    let content = match judge_file(kind, file) {
-        Ok(content) => content,
-        Err(refusal) => return refusal,
-    };
-    if kind == PICTURE || target.len() < content.len() {
-        return refused(26, 0);
-    }
-    target[..content.len()].copy_from_slice(&content);
-    done(content.len())
+    Ok(())
 }
 
-/// Reading of a picture: plain words in the file, scrambled chips in the memory target.
-pub fn read_picture(file: &[u8], memory: &mut [u8], registers: &mut [u8]) -> Put {
-    let content = match judge_file(PICTURE, file) {
-        Ok(content) => content,
-        Err(refusal) => return refusal,
-    };
-    if memory.len() != 8192 || registers.len() != 96 {
-        return refused(26, 0);
+fn is_picture(kind: u32) -> bool {
+    kind == PICTURE || kind == MODED
+}
+
+/// The bytes of the registers in a picture of this kind; none for lists and items.
+fn registers_of(kind: u32) -> Option<usize> {
+    match kind {
+        PICTURE => Some(96),
+        MODED => Some(REGISTERS),
+        _ => None,
     }
-    Table::from_words(&content[..8192]).to_chips(memory);
-    registers.copy_from_slice(&content[8192..]);
-    done(content.len())
+}
+
+/// Refusal 26 of the picture entries: memory and registers of other lengths than the kind has, and lists and items,
+/// which have none (reading D12).
+fn judge_lengths(kind: u32, memory: usize, registers: usize) -> Result<(), Put> {
+    if memory != WORDS || registers_of(kind) != Some(registers) {
+        return Err(refused(26, 0));
+    }
+    Ok(())
+}
+
+/// Refusal 15: the registers of a picture of kind 4 have a flag over 1, or a mode that is not 0 behind a flag of 0; or
+/// the two mode registers.
+fn judge_modes(registers: &[u8]) -> Result<Modes, Put> {
+    modes_of(registers).map_err(|_| refused(15, 0))
+}
+
+/// What was put out, or what was refused.
+fn either(result: Result<Put, Put>) -> Put {
+    match result {
+        Ok(put) => put,
+        Err(refusal) => refusal,
+    }
+}
+
+/// Reading of a list or items. Kinds 1 and 4 asked here have no memory and register targets, so the file is judged as a
+/// picture and, if that stands, refused with 26 (readings D12 and K6).
+pub fn read_plain(kind: u32, file: &[u8], target: &mut [u8]) -> Put {
+    either(reading_plain(kind, file, target))
+}
+
+fn reading_plain(kind: u32, file: &[u8], target: &mut [u8]) -> Result<Put, Put> {
+    asked(kind)?;
+    let content = judge_file(kind, file)?;
+    if is_picture(kind) || target.len() < content.len() {
+        return Err(refused(26, 0));
+    }
+    target[..content.len()].copy_from_slice(&content);
+    Ok(done(content.len()))
+}
+
+/// Reading of a picture of kind 1 or 4: plain words in the file, scrambled chips in the memory target.
+pub fn read_picture(kind: u32, file: &[u8], memory: &mut [u8], registers: &mut [u8]) -> Put {
+    either(reading_picture(kind, file, memory, registers))
+}
+
+/// 22 (kind asked), 20, 21 to 24 of each block, 25, 26, 15 (reading K1).
+fn reading_picture(kind: u32, file: &[u8], memory: &mut [u8], registers: &mut [u8]) -> Result<Put, Put> {
+    asked(kind)?;
+    let content = judge_file(kind, file)?;
+    judge_lengths(kind, memory.len(), registers.len())?;
+    if kind == MODED {
+        judge_modes(&content[WORDS..])?;
+    }
+    Table::from_words(&content[..WORDS]).to_chips(memory);
+    registers.copy_from_slice(&content[WORDS..]);
+    Ok(done(content.len()))
 }
 
 /// The blocks of a content.
@@ -159,33 +212,70 @@ fn blocks_of(kind: u32, content: &[u8]) -> Vec<u8> {
     file
 }
 
-fn write(kind: u32, content: &[u8], output: &mut [u8]) -> Put {
+/// Refusal 27, or the blocks of the content.
+fn write(kind: u32, content: &[u8], output: &mut [u8]) -> Result<Put, Put> {
     let file = blocks_of(kind, content);
     if output.len() < file.len() {
-        return refused(27, 0);
+        return Err(refused(27, 0));
     }
     output[..file.len()].copy_from_slice(&file);
-    done(file.len())
+    Ok(done(file.len()))
 }
 
-/// Writing of a list or items. Kind 1 asked here has content of the wrong shape: 26 (see
+/// Writing of a list or items. Kinds 1 and 4 asked here have content of the wrong shape, whatever it is: 26 (see
 /// `read_plain`).
 pub fn write_plain(kind: u32, content: &[u8], output: &mut [u8]) -> Put {
-    if kind < 1 || kind > 3 {
-        return refused(22, 0);
-    }
-    if kind == PICTURE || !size_fits(kind, content.len()) {
-        return refused(26, 0);
+    either(writing_plain(kind, content, output))
+}
+
+fn writing_plain(kind: u32, content: &[u8], output: &mut [u8]) -> Result<Put, Put> {
+    asked(kind)?;
+    if is_picture(kind) || !size_fits(kind, content.len()) {
+        return Err(refused(26, 0));
     }
     write(kind, content, output)
 }
 
-/// Writing of a picture.
-pub fn write_picture(memory: &[u8], registers: &[u8], output: &mut [u8]) -> Put {
-    if memory.len() != 8192 || registers.len() != 96 {
-        return refused(26, 0);
+/// Writing of a picture of kind 1 or 4.
+pub fn write_picture(kind: u32, memory: &[u8], registers: &[u8], output: &mut [u8]) -> Put {
+    either(writing_picture(kind, memory, registers, output))
+}
+
+/// 22 (kind asked), 26, 15, 27.
+fn writing_picture(kind: u32, memory: &[u8], registers: &[u8], output: &mut [u8]) -> Result<Put, Put> {
+    asked(kind)?;
+    judge_lengths(kind, memory.len(), registers.len())?;
+    if kind == MODED {
+        judge_modes(registers)?;
     }
     let mut content = Table::from_chips(memory).to_words();
     content.extend_from_slice(registers);
-    write(PICTURE, &content, output)
+    write(kind, &content, output)
+}
+
+/// A picture of kind 1 made one of kind 4: the same words, M, X and Y, both mode registers unset. What reading refuses,
+/// then 27.
+pub fn old_to_new(file: &[u8], output: &mut [u8]) -> Put {
+    either(making_new(file, output))
+}
+
+fn making_new(file: &[u8], output: &mut [u8]) -> Result<Put, Put> {
+    let mut content = judge_file(PICTURE, file)?;
+    content.extend([0u8; REGISTERS - 96]);
+    write(MODED, &content, output)
+}
+
+/// A picture of kind 4 made one of kind 1, if neither mode register is set. What reading refuses, then 15, then 28, a
+/// register set, then 27 (reading K2).
+pub fn new_to_old(file: &[u8], output: &mut [u8]) -> Put {
+    either(making_old(file, output))
+}
+
+fn making_old(file: &[u8], output: &mut [u8]) -> Result<Put, Put> {
+    let content = judge_file(MODED, file)?;
+    let modes = judge_modes(&content[WORDS..])?;
+    if modes.iter().any(|mode| mode.is_some()) {
+        return Err(refused(28, 0));
+    }
+    write(PICTURE, &content[..WORDS + 96], output)
 }

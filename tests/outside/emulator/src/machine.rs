@@ -44,10 +44,10 @@ pub const REGISTERS: usize = 100;
 const FLAGS: usize = 96;
 
 /// The two access mode registers, A and B; one that is unset holds no mode.
-type Modes = [Option<usize>; 2];
+pub type Modes = [Option<usize>; 2];
 
 /// Refusal 15, a flag over 1 or a mode that is not 0 behind a flag of 0; or the two registers.
-fn modes_of(registers: &[u8]) -> Result<Modes, Answer> {
+pub fn modes_of(registers: &[u8]) -> Result<Modes, Answer> {
     let mut modes = [None; 2];
     for (which, pair) in registers[FLAGS..REGISTERS].chunks(2).enumerate() {
         modes[which] = match (pair[0], pair[1]) {

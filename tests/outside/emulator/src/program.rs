@@ -1,11 +1,21 @@
 //! The program: three files in, one line and the given items out, a picture if done.
 
-use crate::blocks::{read_picture, read_plain, write_picture, Put, ITEMS, LIST};
-use crate::machine::{run, Answer, REGISTERS};
+use crate::blocks::{read_picture, read_plain, write_picture, Put, ITEMS, LIST, MODED, PICTURE};
+use crate::machine::{modes_of, run, Answer, REGISTERS};
 
 /// A line: the letter, number, place, byte, steps, taken and given (document 02, Six: the byte after the place).
 fn line(letter: char, a: Answer) -> String {
     format!("{} {} {} {} {} {} {}\n", letter, a.number, a.place, a.byte, a.steps, a.taken, a.given)
+}
+
+/// The kind of picture that is taken: 4 if the file's first two bytes, as they stand, are 4 and 0, else 1 (document 02,
+/// Eight; reading K3).
+fn kind_of(file: &[u8]) -> u32 {
+    if file.starts_with(&[4, 0]) {
+        MODED
+    } else {
+        PICTURE
+    }
 }
 
 /// What the program prints, and after.pic if it writes one. A file that is absent is None.
@@ -17,17 +27,17 @@ pub fn program(before: Option<&[u8]>, list: Option<&[u8]>, items: Option<&[u8]>)
     let twenty = Put { number: 20, place: 0, bytes: 0 };
 
     let mut memory = vec![0u8; 8192];
-    let mut registers = vec![0u8; 96];
+    // A kind 1 picture has no mode registers: both are unset at the start.
+    let mut registers = vec![0u8; REGISTERS];
+    let taken = before.map_or(PICTURE, kind_of);
+    let length = if taken == MODED { REGISTERS } else { 96 };
     let put = match before {
-        Some(file) if file.len() <= 17 * 512 => read_picture(file, &mut memory, &mut registers),
+        Some(file) if file.len() <= 17 * 512 => read_picture(taken, file, &mut memory, &mut registers[..length]),
         _ => twenty,
     };
     if put.number != 0 {
         return refusal('p', put);
     }
-    // A kind 1 picture has no mode registers: both are unset at the start, and what a run sets is not written
-    // (reading J8).
-    registers.extend([0u8; REGISTERS - 96]);
 
     let mut contents: Vec<Vec<u8>> = Vec::new();
     for (letter, kind, file) in [('l', LIST, list), ('i', ITEMS, items)] {
@@ -56,8 +66,11 @@ pub fn program(before: Option<&[u8]>, list: Option<&[u8]>, items: Option<&[u8]>)
         }
         text.push('\n');
     }
+    // The kind that was taken, or 4 if a register is set at the end (reading K4).
+    let set = modes_of(&registers).expect("a run leaves good ones").iter().any(|mode| mode.is_some());
+    let (kind, length) = if taken == MODED || set { (MODED, REGISTERS) } else { (PICTURE, 96) };
     let mut file = vec![0u8; 17 * 512];
-    let put = write_picture(&memory, &registers[..96], &mut file);
+    let put = write_picture(kind, &memory, &registers[..length], &mut file);
     assert_eq!(put, Put { number: 0, place: 0, bytes: 8704 });
     (text, Some(file))
 }

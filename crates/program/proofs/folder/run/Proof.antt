@@ -1,9 +1,9 @@
--- `main`: the counts that the session gives lie within the buffers; every other need is found.
+-- `run`: the counts that the session gives lie within the buffers; every other need is found.
 use mathlib.Core.Path.{sym}
 use lib.Seq.{length-take-le}
 use borrow.Author.Needs.{needs}
-use Rattle.program.proofs.main.Statement.{statement}
-use Rattle.program.proofs.main.Tie as tie
+use Rattle.program.proofs.folder.run.Statement.{statement}
+use Rattle.program.proofs.folder.run.Tie as tie
 
 slice-aggregate-replace : tie.Need-slice-aggregate-replace
 slice-aggregate-replace c =
@@ -15,8 +15,8 @@ slice-aggregate-write-all c =
     let s = c .before .before .before .before .session in
     sym (length-take-le (s .result .text) (s .last .1 .1 .1 .1 .1 .1 .1 .0) (s .ensures .0 .room))
 
-pub main-spec : {M : Type 1} → statement M
-main-spec =
+pub run-spec : {M : Type 1} → statement M
+run-spec =
     tie.close
     (tie.spec
     (λ c. search needs)

@@ -2,10 +2,9 @@
 use mathlib.Core.Path.{_≡_}
 use Prim.Native.Nat.{_≤_, _-_}
 use lib.ListN.{length}
-use native.Mathlib.Omega.{arith}
 use borrow.Author.Needs.{needs}
-use Rattle.program.proofs.own_name.Statement.{statement}
-use Rattle.program.proofs.own_name.Tie as tie
+use Rattle.program.proofs.folder.own_name.Statement.{statement}
+use Rattle.program.proofs.folder.own_name.Tie as tie
 
 abbrev Inv-loop : tie.InvT-loop
 Inv-loop random name₀ i₀ name i = (i ≤ 8) × (length name ≡ 30)

@@ -3,8 +3,8 @@ use mathlib.Core.Path.{_≡_}
 use Prim.Native.Nat.{_-_, _≤_}
 use lib.ListN.{length}
 use borrow.Author.Needs.{needs}
-use Rattle.program.proofs.fill.Statement.{statement}
-use Rattle.program.proofs.fill.Tie as tie
+use Rattle.program.proofs.files.fill.Statement.{statement}
+use Rattle.program.proofs.files.fill.Tie as tie
 
 abbrev Inv-loop : tie.InvT-loop
 Inv-loop fd name buffer₀ done₀ buffer done = (done ≤ length buffer) × (length buffer ≡ length buffer₀)
