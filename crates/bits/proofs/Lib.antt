@@ -3,6 +3,7 @@ pub mod Binary
 pub mod Xor
 pub mod Digits
 pub mod Items
+pub mod ByteLaws
 pub mod Writes
 pub mod Puts
 pub mod Tests

@@ -1,8 +1,14 @@
--- Digits of numbers, bits of byte lists, and items. Document 01, Memory: "In any 32-byte item, number k is bit k mod 8 (0 least significant) of byte k div 8."
+-- Lists of bytes, digits of numbers, bits of byte lists, and items. Document 01, Memory: "In any 32-byte item, number k is bit k mod 8 (0 least significant) of byte k div 8."
+use mathlib.Core.Path.{_≡_}
 use mathlib.Core.List.{List, [], _∷_, _++_}
-use Prim.Native.Nat.{ℕ, zero, suc, _+_, _*_, _/_, _%_, _^_}
+use Prim.Native.Nat.{ℕ, zero, suc, _+_, _*_, _/_, _%_, _^_, _<_}
 use lib.Bits.{bitXor}
-use lib.ListN.{getD}
+use lib.ListN.{length, getD}
+
+-- A list of n bytes.
+pub record Bytes (l : List ℕ) (n : ℕ) : Type 0 where
+  pub size : length l ≡ n
+  pub low : (i : ℕ) → getD l i 0 < 256
 
 -- Digit j of a number in binary, 0 the least significant.
 abbrev pub digit : ℕ → ℕ → ℕ

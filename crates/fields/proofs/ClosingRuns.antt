@@ -7,7 +7,7 @@ use native.Mathlib.Omega.{arith}
 use lib.Dec.{eqb, ltb}
 use lib.ListN.{length, length-append}
 use borrow.Author.Tests.{lt-ltb, le-ltb}
-use Rattle.bits.specs.Bits.{bitOf, digitsOf}
+use Rattle.bits.specs.Bits.{Bytes, bitOf, digitsOf}
 use Rattle.bits.specs.Search.{Numbered}
 use Rattle.bits.proofs.Binary.{Bit, off, on, cond-bit}
 use Rattle.bits.proofs.Digits.{digitsOf-ext}
@@ -30,7 +30,7 @@ use Rattle.closing.proofs.Lengths.{length-copies, length-close-rounds, closing-
 use Rattle.closing.proofs.Refusals.{moving-no-fault}
 use Rattle.closing.proofs.Ranks.{arrivals-bit, place-le}
 use Rattle.fields.specs.Line.{outsideAt}
-use Rattle.fields.specs.Value.{wordBit, value, Bytes}
+use Rattle.fields.specs.Value.{wordBit, value}
 use Rattle.fields.specs.Marks.{MarkedBy}
 use Rattle.fields.specs.Closing.{closingRun, stateAfter, Closed}
 use Rattle.fields.proofs.Runs.{Quiet, leftBy}

@@ -9,10 +9,11 @@ use native.Mathlib.Omega.{arith}
 use lib.Dec.{ltb}
 use lib.ListN.{length, replicate}
 use lib.Pow.{shr-shr}
-use Rattle.bits.specs.Bits.{bitOf}
+use Rattle.bits.specs.Bits.{Bytes, bitOf}
 use Rattle.bits.proofs.Binary.{Bit, off as bit-off, on as bit-on, low-bit, digit-bit}
 use Rattle.bits.proofs.Digits.{digitsOf-lt, digitsOf-at}
 use Rattle.bits.proofs.Items.{bitOf-bit}
+use Rattle.bits.proofs.ByteLaws.{zero-item}
 use Rattle.registers.specs.Logic.{functionBit, newX, newY}
 use Rattle.registers.specs.Modes.{modesOf, wrongModes}
 use Rattle.registers.specs.Rows.{registersOf}
@@ -31,10 +32,9 @@ use Rattle.builders.proofs.ListLaws.{length-greatest-rounds, greatest-length}
 use Rattle.builders.proofs.SearchRefusals.{greatest-no-fault}
 use Rattle.builders.proofs.Marks.{Mark, on, off, bit-mark, mark-iff, mark-map}
 use Rattle.fields.specs.Line.{At, wordOf, outsideAt}
-use Rattle.fields.specs.Value.{wordBit, value, listOf, Bytes, runOf}
+use Rattle.fields.specs.Value.{wordBit, value, listOf, runOf}
 use Rattle.fields.specs.Marks.{greatestRun, Marked, Greatest, Marks}
 use Rattle.fields.proofs.LineLaws.{acted-at, ran-at, at-self}
-use Rattle.fields.proofs.Whole.{zero-item}
 use Rattle.fields.proofs.Runs.{Quiet, taken-none}
 use Rattle.fields.proofs.Kept.{end-good, marks-logic, marks-map}
 use Rattle.fields.proofs.OrFlips.{withX, any-all}

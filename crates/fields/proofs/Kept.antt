@@ -6,7 +6,7 @@ use mathlib.Core.Logic.{_↔_}
 use Prim.Native.Nat.{ℕ, _*_, _<_, _≤_}
 use lib.Dec.{eqb}
 use lib.ListN.{length}
-use Rattle.bits.specs.Bits.{bitOf}
+use Rattle.bits.specs.Bits.{Bytes, bitOf}
 use Rattle.memory.specs.Memory.{stored, every}
 use Rattle.registers.specs.declared.Registers.{Registers}
 use Rattle.registers.specs.Logic.{logicOf}
@@ -19,11 +19,12 @@ use Rattle.judge.specs.Modes.{modesBy, modeOf}
 use Rattle.judge.specs.Judge.{unfit}
 use Rattle.module.specs.Act.{State, passedBy, regsAfter, memAfter, acted}
 use Rattle.module.specs.Run.{Lent, Left, begun}
+use Rattle.module.proofs.Good.{Good, begun-good, registers-ok}
 use Rattle.builders.specs.Lists.{encoded, Each, none, more}
 use Rattle.builders.specs.Word.{folded, takenBy}
-use Rattle.fields.specs.Value.{Bytes, runOf}
+use Rattle.fields.specs.Value.{runOf}
 use Rattle.fields.specs.Marks.{lentWith, Marks}
-use Rattle.fields.proofs.Whole.{Good, begun-good, registers-ok, folded-good}
+use Rattle.fields.proofs.Whole.{folded-good}
 use Rattle.fields.proofs.Runs.{Quiet, folded-modes, ran-quiet}
 
 -- ---- what is kept

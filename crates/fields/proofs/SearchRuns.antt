@@ -8,9 +8,10 @@ use native.Mathlib.Nat.{zero-add}
 use native.Mathlib.Omega.{arith}
 use lib.Dec.{ltb}
 use lib.ListN.{length, length-append}
-use Rattle.bits.specs.Bits.{digit, bitOf}
+use Rattle.bits.specs.Bits.{Bytes, digit, bitOf}
 use Rattle.bits.proofs.Binary.{digit-bit}
 use Rattle.bits.proofs.Items.{bitOf-bit, bitOf-pack}
+use Rattle.bits.proofs.ByteLaws.{bytes-ext}
 use Rattle.registers.specs.declared.Modes.{Modes}
 use Rattle.registers.specs.Modes.{modesOf, wrongModes}
 use Rattle.registers.specs.Rows.{registersOf}
@@ -20,6 +21,7 @@ use Rattle.judge.specs.Judge.{unfit}
 use Rattle.judge.proofs.FormLaws.{formed-by}
 use Rattle.module.specs.Act.{State, acted}
 use Rattle.module.specs.Run.{Lent, begun}
+use Rattle.module.proofs.Good.{Good}
 use Rattle.builders.specs.Lists.{logicFrom, logicAt, takeY, encoded, Each, none, more}
 use Rattle.builders.specs.Field.{Field}
 use Rattle.builders.specs.Searches.{started, decided, moveX, searchRound, searchRounds, searchList, equalList, lessList, numberItems}
@@ -32,10 +34,9 @@ use Rattle.builders.proofs.SearchRefusals.{search-no-fault}
 use Rattle.builders.proofs.Marks.{mark-iff}
 use Rattle.builders.proofs.Comparing.{Compares, Found, search-word}
 use Rattle.fields.specs.Line.{At, Local, wordOf, outsideAt}
-use Rattle.fields.specs.Value.{value, Bytes, runOf}
+use Rattle.fields.specs.Value.{value, runOf}
 use Rattle.fields.specs.Marks.{lentWith, runOfTwo, equalRun, lessRun, Marks}
 use Rattle.fields.proofs.LineLaws.{ran-at, at-self}
-use Rattle.fields.proofs.Whole.{bytes-ext, Good}
 use Rattle.fields.proofs.Runs.{Quiet, Plain}
 use Rattle.fields.proofs.Kept.{end-good, marks-logic}
 use Rattle.fields.proofs.Plain.{plain-from, plain-at}

@@ -7,7 +7,7 @@ use native.Mathlib.Decide.{decLe, decLt, ℕ-discrete}
 use native.Mathlib.Omega.{arith}
 use lib.ListN.{length, length-append}
 use borrow.Author.Tests.{ne-eqb}
-use Rattle.bits.specs.Bits.{bitOf}
+use Rattle.bits.specs.Bits.{Bytes, bitOf}
 use Rattle.bits.specs.Search.{Numbered}
 use Rattle.bits.proofs.Binary.{Bit}
 use Rattle.bits.proofs.Digits.{digitsOf-ext}
@@ -29,7 +29,7 @@ use Rattle.closing.proofs.Lengths.{length-spread-rounds, length-spread-slices, 
 use Rattle.closing.proofs.Refusals.{moving-no-fault}
 use Rattle.closing.proofs.Ranks.{arrivals-bit, place-le}
 use Rattle.fields.specs.Line.{outsideAt}
-use Rattle.fields.specs.Value.{wordBit, value, Bytes}
+use Rattle.fields.specs.Value.{wordBit, value}
 use Rattle.fields.specs.Marks.{MarkedBy}
 use Rattle.fields.specs.Closing.{closingRun, spreadingRun, stateAfter, Spread}
 use Rattle.fields.proofs.Whole.{memory-ext}

@@ -7,6 +7,7 @@ use Prim.Native.Nat.{ℕ, _+_, _-_, _*_, _%_, _^_, _<_, _≤_}
 use native.Mathlib.Nat.{add-comm}
 use native.Mathlib.Omega.{arith}
 use lib.ListN.{length}
+use Rattle.bits.specs.Bits.{Bytes}
 use Rattle.bits.proofs.Digits.{digitsOf-lt, digitsOf-ext}
 use Rattle.bits.proofs.Items.{bitOf-bit}
 use Rattle.registers.specs.Modes.{modesOf, wrongModes}
@@ -17,7 +18,7 @@ use Rattle.builders.specs.Sums.{sumByte, differenceByte, sumList, differenceLis
 use Rattle.builders.proofs.ListLaws.{length-bits, sum-length, difference-length}
 use Rattle.builders.proofs.Refusals.{no-fault}
 use Rattle.fields.specs.Line.{outsideAt}
-use Rattle.fields.specs.Value.{wordBit, value, listOf, Bytes, Put, runOf, lentOn, sumRun, differenceRun, TakenOff}
+use Rattle.fields.specs.Value.{wordBit, value, listOf, Put, runOf, lentOn, sumRun, differenceRun, TakenOff}
 use Rattle.builders.proofs.Carries.{turned, no-borrow, put-back}
 use Rattle.builders.proofs.Adder.{sum-word, difference-word}
 use Rattle.fields.proofs.Sums.{sum-plain, difference-plain, put-plain, put-unique}

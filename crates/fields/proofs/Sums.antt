@@ -7,9 +7,10 @@ use native.Mathlib.Decide.{decLe}
 use native.Mathlib.Omega.{arith}
 use lib.Dec.{ltb}
 use lib.ListN.{length}
-use Rattle.bits.specs.Bits.{digit, bitOf, digitsOf}
+use Rattle.bits.specs.Bits.{Bytes, digit, bitOf, digitsOf}
 use Rattle.bits.proofs.Digits.{digitsOf-lt, digitsOf-at, digitsOf-ext}
 use Rattle.bits.proofs.Items.{bitOf-bit}
+use Rattle.bits.proofs.ByteLaws.{bytes-ext, zero-item, part-bytes}
 use Rattle.registers.specs.declared.Registers.{Registers}
 use Rattle.registers.specs.Modes.{modesOf, wrongModes}
 use Rattle.registers.specs.Rows.{registersOf, bytesOf}
@@ -19,16 +20,17 @@ use Rattle.judge.specs.declared.Answer.{Answer}
 use Rattle.judge.specs.Judge.{unfit}
 use Rattle.module.specs.Act.{State, acted}
 use Rattle.module.specs.Run.{Lent, Left, begun}
+use Rattle.module.proofs.Good.{Good, begun-good}
 use Rattle.builders.specs.Lists.{encoded, Each, none, more}
 use Rattle.builders.specs.Sums.{bitRound, bitRounds, sumByte, differenceByte, carryByte, moveByte, sumList, differenceList, Fields}
 use Rattle.builders.specs.Word.{Word, folded, ranWord}
 use Rattle.fields.specs.Line.{wordOf, outsideAt, At}
-use Rattle.fields.specs.Value.{wordBit, value, Bytes, Put, runOf}
+use Rattle.fields.specs.Value.{wordBit, value, Put, runOf}
 use Rattle.builders.proofs.Folds.{each-rounds, each-map}
 use Rattle.fields.proofs.LineLaws.{ran-at, at-self}
 use Rattle.builders.proofs.Carries.{quotient, rest}
 use Rattle.builders.proofs.Adder.{After}
-use Rattle.fields.proofs.Whole.{bytes-ext, zero-item, part-bytes, Good, begun-good, memory-ext}
+use Rattle.fields.proofs.Whole.{memory-ext}
 use Rattle.fields.proofs.Runs.{Quiet, Plain, ran-plain}
 use Rattle.fields.proofs.Kept.{end-good, rows, modes-end, registers-end}
 use Rattle.fields.proofs.Plain.{plain-from, plain-at, plain-store}

@@ -5,6 +5,7 @@ use mathlib.Core.List.{List, [], _∷_, _++_}
 use Prim.Native.Nat.{ℕ, _+_, _*_, _<_, _≤_}
 use lib.Dec.{eqb}
 use lib.ListN.{take}
+use Rattle.bits.specs.Bits.{Bytes}
 use Rattle.bits.specs.Search.{Numbered}
 use Rattle.registers.specs.Rows.{registersOf}
 use Rattle.judge.specs.declared.Instruction.{Instruction}
@@ -13,7 +14,7 @@ use Rattle.module.specs.Act.{State}
 use Rattle.module.specs.Run.{Lent, Left, begun, ranBy}
 use Rattle.builders.specs.Building.{BuiltTwoLeft}
 use Rattle.closing.specs.Closing.{closingBuilt, spreadingBuilt}
-use Rattle.fields.specs.Value.{wordBit, value, Bytes}
+use Rattle.fields.specs.Value.{wordBit, value}
 use Rattle.fields.specs.Marks.{runOfTwo, MarkedBy}
 
 -- ---- the runs

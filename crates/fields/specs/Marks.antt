@@ -4,13 +4,13 @@ use mathlib.Core.List.{List, _++_}
 use mathlib.Core.Logic.{_↔_}
 use Prim.Native.Nat.{ℕ, _<_, _≤_}
 use lib.ListN.{take}
-use Rattle.bits.specs.Bits.{bitOf}
+use Rattle.bits.specs.Bits.{Bytes, bitOf}
 use Rattle.registers.specs.Rows.{registersOf}
 use Rattle.judge.specs.declared.Answer.{Answer}
 use Rattle.module.specs.Run.{Lent, Left}
 use Rattle.builders.specs.Building.{BuiltTwoLeft}
 use Rattle.builders.specs.Searches.{equalBuilt, lessBuilt, greatestBuilt}
-use Rattle.fields.specs.Value.{value, listOf, Bytes, runOf}
+use Rattle.fields.specs.Value.{value, listOf, runOf}
 
 -- ---- the runs
 

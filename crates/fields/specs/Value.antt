@@ -3,8 +3,8 @@ use mathlib.Core.Path.{_≡_}
 use mathlib.Core.List.{List}
 use mathlib.Core.Logic.{_↔_}
 use Prim.Native.Nat.{ℕ, _+_, _*_, _/_, _%_, _^_, _<_, _≤_}
-use lib.ListN.{length, getD, take, replicate}
-use Rattle.bits.specs.Bits.{bitOf, digitsOf}
+use lib.ListN.{take, replicate}
+use Rattle.bits.specs.Bits.{Bytes, bitOf, digitsOf}
 use Rattle.memory.specs.Table.{table}
 use Rattle.memory.specs.Memory.{cell}
 use Rattle.registers.specs.Rows.{registersOf}
@@ -24,11 +24,6 @@ value mem w start n = digitsOf (λ j. wordBit mem w (start + j)) n
 -- The list that a builder wrote: as many of the first bytes of its buffer as it counted.
 abbrev pub listOf : BuiltLeft → List ℕ
 listOf l = take (l .answer .count) (l .list)
-
--- A list of n bytes.
-pub record Bytes (l : List ℕ) (n : ℕ) : Type 0 where
-  pub size : length l ≡ n
-  pub low : (i : ℕ) → getD l i 0 < 256
 
 -- What a run r leaves that was done in so many steps and put the number t w into field S of each word w of what was lent.
 pub record Put (steps s n : ℕ) (t : ℕ → ℕ) (lent : Lent (List ℕ)) (r : Left (List ℕ) Answer) : Type 0 where

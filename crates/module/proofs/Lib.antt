@@ -2,5 +2,6 @@
 pub mod PartLaws
 pub mod ActLaws
 pub mod RunLaws
+pub mod Good
 pub mod StepLaws
 pub mod WalkSteps

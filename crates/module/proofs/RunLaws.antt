@@ -153,23 +153,25 @@ ran-answer l = go (ℕ-discrete (a .number) 0)
         sym (ap (λ (x : Left (List ℕ) Answer). x .answer) (ran-done l a refl z (registersOf (l .registers)) s (bytesOf (s .regs)) refl refl refl))
     go (no u) = sym (ap (λ (x : Left (List ℕ) Answer). x .answer) (ran-refused l a refl u))
 
--- the mode registers that a run leaves are never such as 15 refuses
-pub modes-right : (l : Lent (List ℕ)) → ran l .answer .number ≡ 0 → length (ran l .registers) ≡ 100 → wrongModes (modesOf (ran l .registers)) ≡ false
-modes-right l z n =
-    ap (λ (x : List ℕ). wrongModes (modesOf x)) left
-    ∙ ap wrongModes (modes-bytes (s .regs) (sym (ap length left) ∙ n) ∙ modes-ran (l .list) (l .items) (begun l (registersOf (l .registers))) k)
-    ∙ right-after (l .list) (modesOf (l .registers)) k (run-modes (runLengths l) (modesOf (l .registers)) (l .list) done)
-  where
-    k : ℕ
-    k = length (l .list) / 8
+-- ---- a run that is done, by its answer
 
-    s : State
-    s = ranAll l (registersOf (l .registers))
+module _ (l : Lent (List ℕ)) (z : ran l .answer .number ≡ 0) where
+  -- the state that it ends in
+  abbrev pub ended : State
+  ended = ranAll l (registersOf (l .registers))
 
-    done : judged (runLengths l) (modesOf (l .registers)) (l .list) .number ≡ 0
-    done = sym (ap (λ (a : Answer). a .number) (ran-answer l)) ∙ z
+  pub judged-done : judged (runLengths l) (modesOf (l .registers)) (l .list) .number ≡ 0
+  judged-done = sym (ap (λ (a : Answer). a .number) (ran-answer l)) ∙ z
 
-    left : ran l .registers ≡ bytesOf (s .regs)
-    left =
-        sym (ap (λ (x : Left (List ℕ) Answer). x .registers)
-        (ran-done l (judged (runLengths l) (modesOf (l .registers)) (l .list)) refl done (registersOf (l .registers)) s (bytesOf (s .regs)) refl refl refl))
+  pub ran-ended : _≡_ {A = Left (List ℕ) Answer}
+      (record { memory = ended .mem; registers = bytesOf (ended .regs); out = ended .out; answer = judged (runLengths l) (modesOf (l .registers)) (l .list) }) (ran l)
+  ran-ended = ran-done l (judged (runLengths l) (modesOf (l .registers)) (l .list)) refl judged-done (registersOf (l .registers)) ended (bytesOf (ended .regs)) refl refl refl
+
+  -- the mode registers that it leaves are never such as 15 refuses
+  pub modes-right : length (ran l .registers) ≡ 100 → wrongModes (modesOf (ran l .registers)) ≡ false
+  modes-right n =
+      let left : bytesOf (ended .regs) ≡ ran l .registers = ap (λ (x : Left (List ℕ) Answer). x .registers) ran-ended in
+      let k = length (l .list) / 8 in
+      sym (ap (λ (x : List ℕ). wrongModes (modesOf x)) left)
+      ∙ ap wrongModes (modes-bytes (ended .regs) (ap length left ∙ n) ∙ modes-ran (l .list) (l .items) (begun l (registersOf (l .registers))) k)
+      ∙ right-after (l .list) (modesOf (l .registers)) k (run-modes (runLengths l) (modesOf (l .registers)) (l .list) judged-done)

@@ -4,17 +4,18 @@ use mathlib.Core.List.{List}
 use Prim.Native.Nat.{ℕ, _+_, _*_, _<_, _≤_}
 use native.Mathlib.Omega.{arith}
 use lib.ListN.{length}
+use Rattle.bits.specs.Bits.{Bytes}
 use Rattle.bits.specs.Search.{Numbered}
+use Rattle.bits.proofs.ByteLaws.{part-bytes}
 use Rattle.registers.specs.Modes.{wrongModes}
 use Rattle.registers.specs.Rows.{registersOf}
 use Rattle.module.specs.Run.{Lent}
 use Rattle.builders.specs.Field.{Field}
 use Rattle.closing.specs.Closing.{marked, FieldsApart}
 use Rattle.closing.proofs.Ranks.{in-order}
-use Rattle.fields.specs.Value.{value, Bytes, lentOn}
+use Rattle.fields.specs.Value.{value, lentOn}
 use Rattle.fields.specs.Marks.{lessRun, MarkedBy, Marks}
 use Rattle.fields.specs.Closing.{closingRun}
-use Rattle.fields.proofs.Whole.{part-bytes}
 use Rattle.fields.proofs.SearchRuns.{less-marks}
 use Rattle.fields.proofs.ClosingLists.{marked-of, marks-numbered, closing-shift, closing-shifts, spreading-shift, spreading-shifts}
 use Rattle.fields.proofs.ClosingRuns.{closing-written, closing-way, closing-closed, closing-none}

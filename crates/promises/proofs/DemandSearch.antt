@@ -3,9 +3,10 @@ use mathlib.Core.Path.{sym, ap, subst, _∙_}
 use mathlib.Core.List.{List}
 use Prim.Native.Nat.{ℕ, _<_}
 use lib.ListN.{length}
+use Rattle.bits.specs.Bits.{Bytes}
 use Rattle.registers.specs.Modes.{wrongModes}
 use Rattle.module.specs.Run.{Lent}
-use Rattle.fields.specs.Value.{value, Bytes, lentOn}
+use Rattle.fields.specs.Value.{value, lentOn}
 use Rattle.fields.specs.Marks.{lessRun}
 use Rattle.fields.proofs.Runs.{fits-behind}
 use Rattle.fields.proofs.SearchRuns.{equal-logic, less-logic, equal-written, less-written, equal-marks, less-marks}

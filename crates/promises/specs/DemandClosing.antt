@@ -5,14 +5,14 @@ use mathlib.Core.Bool.{false}
 use mathlib.Core.List.{List}
 use Prim.Native.Nat.{ℕ, _+_, _-_, _*_, _<_, _≤_}
 use lib.ListN.{length}
-use Rattle.bits.specs.Bits.{bitOf}
+use Rattle.bits.specs.Bits.{Bytes, bitOf}
 use Rattle.bits.specs.Search.{Numbered}
 use Rattle.registers.specs.Modes.{modesOf, wrongModes}
 use Rattle.registers.specs.Rows.{registersOf}
 use Rattle.judge.specs.Judge.{unfit}
 use Rattle.module.specs.Run.{Lent}
 use Rattle.closing.specs.Closing.{marked, rank, placeAt, closeSlice, closingList, spreadSlice, spreadingList, closingLength, closingItemsLength, spreadingLength, spreadingItemsLength, FieldsApart, closingBuilt, spreadingBuilt}
-use Rattle.fields.specs.Value.{wordBit, value, Bytes, lentOn}
+use Rattle.fields.specs.Value.{wordBit, value, lentOn}
 use Rattle.fields.specs.Marks.{lessRun, MarkedBy}
 use Rattle.fields.specs.Closing.{closingRun, spreadingRun, stateAfter, shiftsIn, Closed, Spread}
 use Rattle.promises.specs.DemandSearch.{Sought}

@@ -37,9 +37,9 @@ pub record Conversions : Type 0 where
 pub record ModesKept : Type 0 where
   -- kind 1 is written only where neither register is set
   pub noneLost : (taken : ℕ) (registers : List ℕ) → kindWritten taken registers ≡ pictureKind → anySet (modesOf registers) ≡ false
-  -- the next run, on the picture that a run has written, goes from the memory and all 100 register bytes that were left
+  -- the next run, on the picture that a run of lent bytes has written, goes from the memory and all 100 register bytes that were left
   pub nextRun : (taken : ℕ) (l : Lent (List ℕ)) → ran l .answer .number ≡ 0
-      → length (ran l .memory) ≡ pictureWords → ((k : ℕ) → at (ran l .memory) k < 256) → length (ran l .registers) ≡ 100 → (list items : File)
+      → ((k : ℕ) → at (l .memory) k < 256) → ((k : ℕ) → at (l .registers) k < 256) → (list items : File)
       → outcome (bytes (finished taken (ran l) .after)) list items
       ≡ withList (kindWritten taken (ran l .registers)) (ran l .memory) (ran l .registers) list items
 

@@ -5,6 +5,7 @@ use mathlib.Core.Bool.{false}
 use mathlib.Core.List.{List}
 use Prim.Native.Nat.{ℕ, _+_, _*_, _^_, _<_, _≤_}
 use lib.ListN.{length, replicate}
+use Rattle.bits.specs.Bits.{Bytes}
 use Rattle.registers.specs.Modes.{modesOf, wrongModes}
 use Rattle.judge.specs.declared.Instruction.{Instruction}
 use Rattle.judge.specs.Judge.{unfit}
@@ -12,7 +13,7 @@ use Rattle.module.specs.Run.{Lent}
 use Rattle.builders.specs.Lists.{Each}
 use Rattle.builders.specs.Field.{Field}
 use Rattle.builders.specs.Searches.{equalList, lessList, greatestList, searchLength, itemsLength, greatestLength, equalBuilt, lessBuilt, greatestBuilt}
-use Rattle.fields.specs.Value.{value, Bytes, lentOn}
+use Rattle.fields.specs.Value.{value, lentOn}
 use Rattle.fields.specs.Marks.{equalRun, lessRun, greatestRun, Marked, Greatest, Marks}
 
 -- Any field of 1 to 64 bits inside the word, any memory of 8,192 bytes, and any registers of 100 but those that 15 refuses, whatever M, X and Y hold.

@@ -5,11 +5,12 @@ use mathlib.Core.Bool.{false}
 use mathlib.Core.List.{List}
 use Prim.Native.Nat.{ℕ, _+_, _-_, _*_, _^_, _≤_}
 use lib.ListN.{length}
+use Rattle.bits.specs.Bits.{Bytes}
 use Rattle.registers.specs.Modes.{modesOf, wrongModes}
 use Rattle.judge.specs.Judge.{unfit}
 use Rattle.module.specs.Run.{Lent}
 use Rattle.builders.specs.Sums.{Fields, Apart, listLength, sumBuilt, differenceBuilt}
-use Rattle.fields.specs.Value.{value, Bytes, Put, TakenOff, lentOn, sumRun, differenceRun}
+use Rattle.fields.specs.Value.{value, Put, TakenOff, lentOn, sumRun, differenceRun}
 
 -- What is lent: any memory of 8,192 bytes and any registers of 100 but those that 15 refuses; items that the judge does not refuse; any out buffer; a buffer with room for a sum list, and one with room for a difference list.
 -- `Fields` says that the width is 1 to 64, that each field lies in the word, and that S is the same field or wholly apart, towards A and towards B each.

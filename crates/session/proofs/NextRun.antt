@@ -12,6 +12,7 @@ use Rattle.registers.specs.Modes.{modesOf, modeBytes, noneSet, wrongModes}
 use Rattle.registers.proofs.ModeLaws.{modes-last, unset-zeros}
 use Rattle.module.specs.Run.{Lent, ran}
 use Rattle.module.proofs.RunLaws.{modes-right}
+use Rattle.module.proofs.Good.{memory-left, registers-left}
 use Rattle.blocks.specs.Sums.{at}
 use Rattle.blocks.specs.Block.{twoAt}
 use Rattle.blocks.proofs.BlockLaws.{fault-good}
@@ -107,11 +108,13 @@ module _ (taken : ℕ) (m g : List ℕ) (lm : length m ≡ 8192) (small : (k : �
       ∙ ap₂ (λ (k : ℕ) (l : List ℕ). withList k (scrambled (contentOf file)) (over l blankRegisters) list items) taken-again rest
       ∙ ap₂ (λ (memory registers : List ℕ). withList kind memory registers list items) (ap scrambled content ∙ picture-scrambled m x lm small) same-registers
 
--- of a run that is done, by the picture that it has written
-pub run-again : (taken : ℕ) (l : Lent (List ℕ)) → ran l .answer .number ≡ 0 → length (ran l .memory) ≡ 8192 → ((k : ℕ) → at (ran l .memory) k < 256) → length (ran l .registers) ≡ 100
+-- of a run of lent bytes that is done, by the picture that it has written
+pub run-again : (taken : ℕ) (l : Lent (List ℕ)) → ran l .answer .number ≡ 0 → ((k : ℕ) → at (l .memory) k < 256) → ((k : ℕ) → at (l .registers) k < 256)
     → (list items : File) → outcome (bytes (finished taken (ran l) .after)) list items ≡ withList (kindWritten taken (ran l .registers)) (ran l .memory) (ran l .registers) list items
 unfolding finished
-run-again taken l z lm small lg list items =
+run-again taken l z memory registers list items =
     let m = ran l .memory in
     let g = ran l .registers in
-    ap (λ (n : ℕ). outcome (bytes (afterOf taken n m g)) list items) z ∙ next-run taken m g lm small lg (modes-right l z lg) list items
+    let good = memory-left l z memory registers in
+    let lg = registers-left l z memory registers in
+    ap (λ (n : ℕ). outcome (bytes (afterOf taken n m g)) list items) z ∙ next-run taken m g (good .size) (good .low) lg (modes-right l z lg) list items
