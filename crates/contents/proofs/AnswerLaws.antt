@@ -29,11 +29,11 @@ abbrev leaving : Moved → List ℕ → ContentLeft
 leaving x l = record { answer = x; buffer = l }
 
 module _ (r a : Moved) (new old : List ℕ) (e : r ≡ a) where
-  pub left-old : (r .number ≡ 0 → ⊥) → leaving r old ≡ leaving a (changed a new old)
-  left-old u = ap₂ leaving e (changed-not r new old u ∙ ap (λ (x : Moved). changed x new old) e)
+  pub left-unmoved : (r .number ≡ 0 → ⊥) → leaving r old ≡ leaving a (changed a new old)
+  left-unmoved u = ap₂ leaving e (changed-not r new old u ∙ ap (λ (x : Moved). changed x new old) e)
 
-  pub left-new : (t : List ℕ) → t ≡ new → r .number ≡ 0 → leaving r t ≡ leaving a (changed a new old)
-  left-new t h z = ap₂ leaving e (h ∙ changed-done r new old z ∙ ap (λ (x : Moved). changed x new old) e)
+  pub left-changed : (t : List ℕ) → t ≡ new → r .number ≡ 0 → leaving r t ≡ leaving a (changed a new old)
+  left-changed t h z = ap₂ leaving e (h ∙ changed-done r new old z ∙ ap (λ (x : Moved). changed x new old) e)
 
 -- and what that says of the answer and of the buffer
 pub left-parts : (r a : Moved) (new old t : List ℕ) → leaving r t ≡ leaving a (changed a new old) → (r ≡ a) × (t ≡ changed r new old)
@@ -75,6 +75,10 @@ module _ (kind : ℕ) (bytes : List ℕ) (rows : List Row) (n : ℕ) (a : Moved)
   pub read-rows : a .number ≡ 0 → answered rows n ≡ readAnswer kind bytes rows n
   unfolding readAnswer
   read-rows z = rw (sym e) (sym (ap (λ (t : Bool). cond t (answered rows n) a) (eq-eqb (a .number) 0 z)))
+
+-- so where none of them holds either, n bytes are put out
+pub read-done : {m : ℕ} (kind : ℕ) (bytes : List ℕ) (rows : List Row) (n : ℕ) → fileJudged kind bytes ≡ done m → NoRow rows → done n ≡ readAnswer kind bytes rows n
+read-done {m} kind bytes rows n e f = answered-no-row rows n f ∙ read-rows kind bytes rows n (done m) (sym e) refl
 
 -- a file that is not refused stands when judged, and none of the rows holds
 pub read-stands : (kind : ℕ) (bytes : List ℕ) (rows : List Row) (n : ℕ) → readAnswer kind bytes rows n .number ≡ 0

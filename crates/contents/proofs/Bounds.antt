@@ -75,7 +75,7 @@ judged-place kind bytes =
       | no u ↦ omega (arith, ap (λ (a : Moved). a .place) (read-refused kind bytes [] 0 (fileJudged kind bytes) refl u), read-place kind bytes [] 0)
     ]
 
--- a content that stands is at most 32,768 bytes
+-- a content that stands is no longer than a file may be
 pub size-small : (kind : ℕ) (bytes : List ℕ) → sizeFits kind (length (contentOf bytes)) ≡ true → length (contentOf bytes) ≤ 34304
 size-small kind bytes s = omega (arith, size-le kind (length (contentOf bytes)) s)
 

@@ -7,11 +7,12 @@ use native.Mathlib.Numerals.{add-one}
 use native.Mathlib.Decide.{decLt, ℕ-discrete}
 use native.Mathlib.Omega.{arith}
 use lib.Dec.{eqb, leb, ltb}
-use lib.ListN.{length, take, drop, length-drop, length-append, List·getD-eq-default}
-use lib.Seq.{length-take-le, getD-take, getD-drop, take-length, take-append-le}
+use lib.ListN.{length, take, drop, length-drop, length-append}
+use lib.Seq.{length-take-le, take-length, take-append-le}
 use borrow.Author.Tests.{ne-eqb, eqb-true, eqb-false, leb-true, ltb-true}
 use Rattle.blocks.specs.Sums.{at}
 use Rattle.blocks.specs.Block.{twoAt, fault, payloadOf}
+use Rattle.bits.proofs.ByteLaws.{part-bytes}
 use Rattle.bits.proofs.Rows.{and-left, and-right}
 use Rattle.contents.specs.File.{done, refused, blockAt, gathered, contentOf, Verdict, good, bad, verdict, next, blocksJudged, kindRight, lengthRight, sizeFits, settled, fileJudged}
 
@@ -26,11 +27,7 @@ pub block-len : (bytes : List ℕ) (i : ℕ) → 512 * i + 512 ≤ length bytes 
 block-len bytes i h = length-take-le 512 (drop (512 * i) bytes) (omega (arith, length-drop (512 * i) bytes))
 
 pub block-bytes : (bytes : List ℕ) → ((k : ℕ) → at bytes k < 256) → (i : ℕ) → 512 * i + 512 ≤ length bytes → (j : ℕ) → at (blockAt bytes i) j < 256
-block-bytes bytes small i h j = go (decLt j 512)
-  where
-    go : Dec (j < 512) → at (blockAt bytes i) j < 256
-    go (yes l) = omega (arith, getD-take 512 (drop (512 * i) bytes) j 0 l, getD-drop (512 * i) bytes j 0, small (512 * i + j))
-    go (no u) = omega (arith, List·getD-eq-default (blockAt bytes i) 0 {n = j} (omega (arith, block-len bytes i h)))
+block-bytes bytes small i h = part-bytes bytes (length bytes) (512 * i) 512 h (record { size = refl; low = small }) .low
 
 pub payload-len : (b : List ℕ) → length b ≡ 512 → twoAt b 6 ≤ 496 → length (payloadOf b) ≡ twoAt b 6
 payload-len b l h = length-take-le (twoAt b 6) (drop 12 b) (omega (arith, length-drop 12 b))

@@ -92,10 +92,10 @@ module _ (kind : ℕ) (bytes : List ℕ) (rows : List Row) (put : ℕ) where
   )
 
   -- The file stands, and none of the rows holds.
-  abbrev pub Taken : Type 0
-  Taken = Sound kind bytes × (sizeFits kind (length (contentOf bytes)) ≡ true) × NoRow rows
+  abbrev Unrefused : Type 0
+  Unrefused = Sound kind bytes × (sizeFits kind (length (contentOf bytes)) ≡ true) × NoRow rows
 
-  done-given : numbered rows ≡ true → (a : Moved) → Read kind bytes rows put a → a .number ≡ 0 → Taken
+  done-given : numbered rows ≡ true → (a : Moved) → Read kind bytes rows put a → a .number ≡ 0 → Unrefused
   done-given t a (wrong-kind k) e = absurd (omega arith)
   done-given t a (wrong-length k l) e = absurd (omega arith)
   done-given t a (wrong-block k l i h g u) e = absurd (u e)
@@ -104,10 +104,10 @@ module _ (kind : ℕ) (bytes : List ℕ) (rows : List Row) (put : ℕ) where
   done-given t a (all-read k l g s z) e = (((k, l), g), s, number-none rows t z)
 
   -- "Success gives 0, place 0 and the number of bytes put out."
-  pub read-all : Taken → reading ≡ done put
+  pub read-all : Unrefused → reading ≡ done put
   read-all r = sym (read-is kind bytes rows put _ (all-read (r .0 .0 .0) (r .0 .0 .1) (r .0 .1) (r .1) (none-number rows (r .2))))
 
-  pub read-0 : numbered rows ≡ true → (reading .number ≡ 0) ↔ Taken
+  pub read-0 : numbered rows ≡ true → (reading .number ≡ 0) ↔ Unrefused
   read-0 t = (done-given t _ (read kind bytes rows put), λ r. ap (λ (a : Moved). a .number) (read-all r))
 
   -- "A refusal gives 0 bytes."

@@ -1,4 +1,4 @@
--- What stands on either side of the tables of numbers 20 to 28 and 15, where the page of demand 1 says when each is given: no contract cites this file. Document 01, Blocks on disk.
+-- What stands on either side of the tables of numbers 20 to 28 and 15, where the page of demand 1 says when each is given: no contract cites this file. Document 01, Blocks on disk; document 02, Eight.
 use mathlib.Core.Path.{_≡_}
 use mathlib.Core.Bool.{true, false}
 use mathlib.Core.List.{List}

@@ -17,7 +17,9 @@ ghost use Rattle.contents.specs.Payloads.{payloads, laid};
 // The kinds, and the sizes of what they hold.
 pub const PICTURE: usize = 1;
 
-const LIST: usize = 2;
+pub const LIST: usize = 2;
+
+pub const ITEMS: usize = 3;
 
 pub const MODES_PICTURE: usize = 4;
 

@@ -1,13 +1,15 @@
--- A state of 8,192 bytes of memory and 32 in each row of its registers: bytes stay bytes in a run, so that what it leaves can be lent again. Assumes nothing.
+-- A state of 8,192 bytes of memory and 32 in each row of its registers: bytes stay bytes, and what a run leaves has the lengths that were lent. Assumes nothing.
 use mathlib.Core.Path.{_≡_, refl, sym, ap, subst, _∙_}
 use mathlib.Core.Bool.{Bool, true, false, cond}
 use mathlib.Core.List.{List, _++_}
 use Prim.Native.Nat.{ℕ, zero, suc, _/_, _%_, _<_}
 use native.Mathlib.Omega.{arith}
 use lib.Dec.{eqb}
-use lib.ListN.{length, getD}
-use Rattle.bits.specs.Bits.{Bytes, bitOf}
-use Rattle.bits.proofs.Items.{bitOf-bit}
+use lib.ListN.{length, getD, drop, length-drop}
+use lib.Seq.{length-take-le}
+use Rattle.bits.specs.Bits.{Bytes, bitOf, byteOf, item}
+use Rattle.bits.proofs.Binary.{Bit}
+use Rattle.bits.proofs.Items.{length-listed, bitOf-bit}
 use Rattle.bits.proofs.ByteLaws.{bytes-of, pack-bytes, part-bytes, append-bytes}
 use Rattle.memory.specs.Memory.{stored, every}
 use Rattle.memory.proofs.MemoryLaws.{stored-bit}
@@ -63,11 +65,46 @@ registers-ok s l g a e =
     (append-bytes (s .regs .x) (s .regs .y ++ last) 32 36 (g .x-ok)
     (append-bytes (s .regs .y) last 32 4 (g .y-ok) (subst (λ (m : Modes). Bytes (modeBytes m) 4) (sym e) (modes-four l a))))
 
--- ---- an instruction
+-- ---- an instruction: what every item of packed bits has, and the three rows, they have after it too
 
-memory-good : (i : Instruction) (mode : ℕ) (mem m f : List ℕ) → Bytes mem 8192 → Bytes (memAfter i mode mem m f) 8192
+module _ (P : List ℕ → Type 0) (packed : (f : ℕ → ℕ) → ((k : ℕ) → Bit (f k)) → P (item f)) where
+  abbrev Rows : Registers → Type 0
+  Rows r = P (r .m) × P (r .x) × P (r .y)
+
+  passed-row : (i : Instruction) (mem items : List ℕ) (r : Registers) (k : ℕ) → P (passedBy i mem items r k)
+  unfolding passedBy passedItem
+  passed-row i mem items r k =
+      packed (passed (sourceItem i mem items r k) (i .flip) (pOf (shiftOf (i .code))) (mOf (shiftOf (i .code))))
+      (λ j. passed-bit (sourceItem i mem items r k) (i .flip) (pOf (shiftOf (i .code))) (mOf (shiftOf (i .code))) j)
+
+  rows-after : (i : Instruction) (r : Registers) (f : List ℕ) → P f → Rows r → Rows (regsAfter i r f)
+  unfolding regsAfter logicOf
+  rows-after i r f b g = go (eqb (i .kind) 0) (eqb (i .kind) 1) (eqb (i .kind) 6)
+    where
+      go : (zeroth first sixth : Bool)
+          → Rows (cond zeroth (logicOf r f (i .logic)) (cond first (withM r f) (cond sixth (withModes r (modesBy i (r .modes))) r)))
+      go true first sixth = (
+        g .0,
+        packed _ (λ k. newX-bit (i .logic) (bitOf (r .x) k) (bitOf (r .y) k) (bitOf f k) (bitOf-bit (r .x) k)),
+        packed _ (λ k. newY-bit (i .logic) (bitOf (r .y) k) (bitOf f k) (bitOf-bit (r .y) k)),
+      )
+      go false true sixth = (b, g .1, g .2)
+      go false false true = g
+      go false false false = g
+
+  acted-rows : (i : Instruction) (items : List ℕ) (s : State) → Rows (s .regs) → Rows (acted i items s .regs)
+  unfolding acted
+  acted-rows i items s = rows-after i (s .regs) (passedBy i (s .mem) items (s .regs) (s .taken)) (passed-row i (s .mem) items (s .regs) (s .taken))
+
+  ran-rows : (list items : List ℕ) (s : State) (k : ℕ) → Rows (s .regs) → Rows (ranBy list items s k .regs)
+  unfolding ranBy
+  ran-rows list items s zero g = g
+  ran-rows list items s (suc k) g = acted-rows (instructionAt list k) items (ranBy list items s k) (ran-rows list items s k g)
+
+-- the memory stays one of 8,192 bytes
+memory-after : (i : Instruction) (mode : ℕ) (mem m f : List ℕ) → Bytes mem 8192 → Bytes (memAfter i mode mem m f) 8192
 unfolding memAfter stored
-memory-good i mode mem m f a = go (eqb (i .kind) 2) (eqb (i .kind) 3)
+memory-after i mode mem m f a = go (eqb (i .kind) 2) (eqb (i .kind) 3)
   where
     kept : (mask : ℕ → ℕ) → Bytes (stored mem mode (i .addr) mask (bitOf f)) 8192
     kept mask = pack-bytes _ (λ k. stored-bit mem mode (i .addr) mask (bitOf f) (bitOf-bit f) (k / 256) (k % 256)) 8192
@@ -77,61 +114,33 @@ memory-good i mode mem m f a = go (eqb (i .kind) 2) (eqb (i .kind) 3)
     go false true = kept (bitOf m)
     go false false = a
 
-passed-good : (i : Instruction) (mem items : List ℕ) (r : Registers) (k : ℕ) → Bytes (passedBy i mem items r k) 32
-unfolding passedBy passedItem
-passed-good i mem items r k =
-    pack-bytes (passed (sourceItem i mem items r k) (i .flip) (pOf (shiftOf (i .code))) (mOf (shiftOf (i .code))))
-    (λ j. passed-bit (sourceItem i mem items r k) (i .flip) (pOf (shiftOf (i .code))) (mOf (shiftOf (i .code))) j) 32
+acted-memory : (i : Instruction) (items : List ℕ) (s : State) → Bytes (s .mem) 8192 → Bytes (acted i items s .mem) 8192
+unfolding acted
+acted-memory i items s = memory-after i (modeOf (s .regs .modes) i) (s .mem) (s .regs .m) (passedBy i (s .mem) items (s .regs) (s .taken))
 
-registers-good : (i : Instruction) (f : List ℕ) (s : State) → Bytes f 32 → Good s
-    → Bytes (regsAfter i (s .regs) f .m) 32 × Bytes (regsAfter i (s .regs) f .x) 32 × Bytes (regsAfter i (s .regs) f .y) 32
-unfolding regsAfter logicOf
-registers-good i f s b g = go (eqb (i .kind) 0) (eqb (i .kind) 1) (eqb (i .kind) 6)
-  where
-    after : Bool → Bool → Bool → Registers
-    after zeroth first sixth =
-        cond zeroth (logicOf (s .regs) f (i .logic)) (cond first (withM (s .regs) f) (cond sixth (withModes (s .regs) (modesBy i (s .regs .modes))) (s .regs)))
-
-    go : (zeroth first sixth : Bool) → Bytes (after zeroth first sixth .m) 32 × Bytes (after zeroth first sixth .x) 32 × Bytes (after zeroth first sixth .y) 32
-    go true first sixth = (
-      g .m-ok,
-      pack-bytes _ (λ k. newX-bit (i .logic) (bitOf (s .regs .x) k) (bitOf (s .regs .y) k) (bitOf f k) (bitOf-bit (s .regs .x) k)) 32,
-      pack-bytes _ (λ k. newY-bit (i .logic) (bitOf (s .regs .y) k) (bitOf f k) (bitOf-bit (s .regs .y) k)) 32,
-    )
-    go false true sixth = (b, g .x-ok, g .y-ok)
-    go false false true = (g .m-ok, g .x-ok, g .y-ok)
-    go false false false = (g .m-ok, g .x-ok, g .y-ok)
+ran-memory : (list items : List ℕ) (s : State) (k : ℕ) → Bytes (s .mem) 8192 → Bytes (ranBy list items s k .mem) 8192
+unfolding ranBy
+ran-memory list items s zero a = a
+ran-memory list items s (suc k) a = acted-memory (instructionAt list k) items (ranBy list items s k) (ran-memory list items s k a)
 
 pub acted-good : (i : Instruction) (items : List ℕ) (s : State) → Good s → Good (acted i items s)
-unfolding acted
 acted-good i items s g =
-    let f = passedBy i (s .mem) items (s .regs) (s .taken) in
-    let r = registers-good i f s (passed-good i (s .mem) items (s .regs) (s .taken)) g in
-    record { mem-ok = memory-good i (modeOf (s .regs .modes) i) (s .mem) (s .regs .m) f (g .mem-ok); m-ok = r .0; x-ok = r .1; y-ok = r .2 }
+    let r = acted-rows (λ l. Bytes l 32) (λ f bits. pack-bytes f bits 32) i items s (g .m-ok, g .x-ok, g .y-ok) in
+    record { mem-ok = acted-memory i items s (g .mem-ok); m-ok = r .0; x-ok = r .1; y-ok = r .2 }
 
--- ---- a run
+-- ---- what a run that is done leaves, of a memory of bytes: a memory of 8,192 bytes and 100 of registers, for it was lent such
 
-pub ran-good : (list items : List ℕ) (s : State) (k : ℕ) → Good s → Good (ranBy list items s k)
-unfolding ranBy
-ran-good list items s zero g = g
-ran-good list items s (suc k) g = acted-good (instructionAt list k) items (ranBy list items s k) (ran-good list items s k g)
-
--- what a run that is done leaves of lent bytes: a memory and a register set of the right lengths, for it was lent such
-module _ (l : Lent (List ℕ)) (z : ran l .answer .number ≡ 0) (memory : (k : ℕ) → getD (l .memory) k 0 < 256) (registers : (k : ℕ) → getD (l .registers) k 0 < 256) where
-  good : Good (ended l z)
-  good =
-      let lengths = runLengths l in
-      let modes = modesOf (l .registers) in
-      let done = judged-done l z in
-      ran-good (l .list) (l .items) (begun l (registersOf (l .registers))) (length (l .list) / 8)
-      (begun-good l
-      (record { size = run-accepted lengths modes (l .list) done .memory; low = memory })
-      (record { size = run-registers lengths modes (l .list) done; low = registers }))
-
-  pub memory-left : Bytes (ran l .memory) 8192
-  memory-left = subst (λ (x : Left (List ℕ) Answer). Bytes (x .memory) 8192) (ran-ended l z) (good .mem-ok)
+module _ (l : Lent (List ℕ)) (z : ran l .answer .number ≡ 0) where
+  pub memory-left : ((k : ℕ) → getD (l .memory) k 0 < 256) → Bytes (ran l .memory) 8192
+  memory-left low =
+      let size = run-accepted (runLengths l) (modesOf (l .registers)) (l .list) (judged-done l z) .memory in
+      subst (λ (x : Left (List ℕ) Answer). Bytes (x .memory) 8192) (ran-ended l z)
+      (ran-memory (l .list) (l .items) (begun l (registersOf (l .registers))) (length (l .list) / 8) (record { size = size; low = low }))
 
   pub registers-left : length (ran l .registers) ≡ 100
   registers-left =
-      sym (ap (λ (x : Left (List ℕ) Answer). length (x .registers)) (ran-ended l z))
-      ∙ length-bytes (ended l z .regs) (good .m-ok .size) (good .x-ok .size) (good .y-ok .size)
+      let regs = l .registers in
+      let size : length regs ≡ 100 = run-registers (runLengths l) (modesOf regs) (l .list) (judged-done l z) in
+      let r = ran-rows (λ x. length x ≡ 32) (λ f bits. length-listed (byteOf f) 32) (l .list) (l .items) (begun l (registersOf regs)) (length (l .list) / 8)
+      (length-take-le 32 regs (omega arith), length-take-le 32 (drop 32 regs) (omega (arith, length-drop 32 regs)), length-take-le 32 (drop 64 regs) (omega (arith, length-drop 64 regs))) in
+      sym (ap (λ (x : Left (List ℕ) Answer). length (x .registers)) (ran-ended l z)) ∙ length-bytes (ended l z .regs) (r .0) (r .1) (r .2)

@@ -1,6 +1,6 @@
 -- The two conversions, on a page: either way and back gives the same bytes where it is allowed, from "a good file has one form"; and what is made reads as what it was made of, with both mode registers unset or without them. Assumes nothing.
-use mathlib.Core.Path.{_≡_, refl, sym, ap, ap₂, _∙_}
-use mathlib.Core.Bool.{true, not}
+use mathlib.Core.Path.{_≡_, refl, sym, ap, _∙_}
+use mathlib.Core.Bool.{true}
 use mathlib.Core.List.{List, _++_}
 use Prim.Native.Nat.{ℕ, _+_, _*_, _<_, _≤_}
 use native.Mathlib.Omega.{arith}
@@ -15,14 +15,14 @@ use Rattle.contents.specs.declared.Moved.{Moved}
 use Rattle.contents.specs.File.{isPicture, done, contentOf, blockCount, blocksOf}
 use Rattle.contents.specs.Content.{over}
 use Rattle.contents.proofs.FileLaws.{Stands, file-stands}
-use Rattle.contents.proofs.AnswerLaws.{left-new, answered-no-row, read-rows, read-stands}
+use Rattle.contents.proofs.AnswerLaws.{left-changed, read-done, read-stands}
 use Rattle.contents.proofs.RoundTrip.{all-content}
 use Rattle.contents.proofs.OneForm.{one-form}
-use Rattle.pictures.specs.Picture.{pictureRegisters, contentModes, scrambled, pictureFits, pictureReadRows, pictureRead}
+use Rattle.pictures.specs.Picture.{pictureRegisters, contentModes, scrambled, pictureRead}
 use Rattle.pictures.specs.Conversion.{newContent, oldContent, toNewRows, toOldRows, toNew, toOld}
-use Rattle.pictures.proofs.PictureLaws.{written-judged, both-new, words-front}
+use Rattle.pictures.proofs.PictureLaws.{written-judged, words-front}
 use Rattle.pictures.proofs.ConversionLaws.{picture-bytes}
-use Rattle.pictures.proofs.RoundTripDemand.{file-is}
+use Rattle.pictures.proofs.RoundTripDemand.{file-is, written-read}
 
 -- ---- a content made new
 
@@ -56,18 +56,16 @@ module _ (bytes out : List ℕ) (s : Stands 1 bytes) (room : 8704 ≤ length out
   made-new : toNew bytes out ≡ record { answer = done 8704; buffer = over (blocksOf 4 (newContent (contentOf bytes))) out }
   unfolding toNew
   made-new =
-      let rows = toNewRows (length out) in
-      sym (left-new (done 8704) _ (over (blocksOf 4 (newContent (contentOf bytes))) out) out
-      (answered-no-row rows 8704 (le-ltb (length out) 8704 room, tt) ∙ read-rows 1 bytes rows 8704 (done (length (contentOf bytes))) (sym (s .answer)) refl) _ refl refl)
+      sym (left-changed (done 8704) _ (over (blocksOf 4 (newContent (contentOf bytes))) out) out
+      (read-done 1 bytes (toNewRows (length out)) 8704 (s .answer) (le-ltb (length out) 8704 room, tt)) _ refl refl)
 
 module _ (bytes out : List ℕ) (s : Stands 4 bytes) (m : contentModes (contentOf bytes) ≡ noneSet) (room : 8704 ≤ length out) where
   made-old : toOld bytes out ≡ record { answer = done 8704; buffer = over (blocksOf 1 (oldContent (contentOf bytes))) out }
   unfolding toOld wrongModes
   made-old =
       let rows = toOldRows (contentModes (contentOf bytes)) (length out) in
-      sym (left-new (done 8704) _ (over (blocksOf 1 (oldContent (contentOf bytes))) out) out
-      (answered-no-row rows 8704 (ap (λ x. wrongModes x) m, (ap (λ x. anySet x) m, (le-ltb (length out) 8704 room, tt)))
-      ∙ read-rows 4 bytes rows 8704 (done (length (contentOf bytes))) (sym (s .answer)) refl) _ refl refl)
+      sym (left-changed (done 8704) _ (over (blocksOf 1 (oldContent (contentOf bytes))) out) out
+      (read-done 4 bytes rows 8704 (s .answer) (ap (λ x. wrongModes x) m, (ap (λ x. anySet x) m, (le-ltb (length out) 8704 room, tt)))) _ refl refl)
 
 -- a file that is written stands
 written-stands : (kind : ℕ) (content : List ℕ) → isPicture kind ≡ true → length content ≡ 8192 + pictureRegisters kind → Stands kind (blocksOf kind content)
@@ -102,21 +100,13 @@ module _ (bytes out : List ℕ) (z : toNew bytes out .answer .number ≡ 0) wher
   pub new-reads : (memory registers : List ℕ) → length memory ≡ 8192 → length registers ≡ 100
       → (let r = toNew bytes out in pictureRead 4 (take (r .answer .bytes) (r .buffer)) memory registers)
       ≡ record { answer = done 8292; memory = scrambled (contentOf bytes); registers = drop 8192 (contentOf bytes) ++ modeBytes noneSet }
-  unfolding pictureRead wrongModes
+  unfolding wrongModes
   new-reads memory registers lm lr =
       let c = contentOf bytes in
       let n = picture-bytes 1 bytes refl taken-old in
-      let f = blocksOf 4 (newContent c) in
-      let s = written-stands 4 (newContent c) refl (new-size c n) in
-      let e : contentOf f ≡ newContent c = all-content 4 (newContent c) in
-      let size : 8292 ≡ length (contentOf f) = sym (ap length e ∙ new-size c n) in
-      let rows = pictureReadRows (pictureFits 4 (length memory) (length registers)) (contentModes (contentOf f)) in
       ap (λ (l : List ℕ). pictureRead 4 l memory registers) new-file
-      ∙ sym (both-new (done 8292) _ (scrambled (contentOf f)) memory (drop 8192 (contentOf f)) registers
-      (ap done size
-      ∙ answered-no-row rows (length (contentOf f)) (ap₂ (λ (x y : ℕ). not (pictureFits 4 x y)) lm lr, (ap (λ x. wrongModes x) (ap contentModes e ∙ new-modes c n), tt))
-      ∙ read-rows 4 f rows (length (contentOf f)) (done (length (contentOf f))) (sym (s .answer)) refl)
-      _ _ (sym (ap scrambled e ∙ longer)) (sym (ap (drop 8192) e ∙ new-registers c n)) refl)
+      ∙ written-read 4 (newContent c) memory registers refl (new-size c n) (ap (λ x. wrongModes x) (new-modes c n)) lm lr
+      ∙ (λ i. record { answer = done (new-size c n i); memory = longer i; registers = new-registers c n i })
     where
       longer : scrambled (newContent (contentOf bytes)) ≡ scrambled (contentOf bytes)
       longer =
@@ -162,20 +152,13 @@ module _ (bytes out : List ℕ) (z : toOld bytes out .answer .number ≡ 0) wher
   pub old-reads : (memory registers : List ℕ) → length memory ≡ 8192 → length registers ≡ 96
       → (let r = toOld bytes out in pictureRead 1 (take (r .answer .bytes) (r .buffer)) memory registers)
       ≡ record { answer = done 8288; memory = scrambled (contentOf bytes); registers = drop 8192 (oldContent (contentOf bytes)) }
-  unfolding pictureRead wrongModes
+  unfolding wrongModes
   old-reads memory registers lm lr =
-      let c = contentOf bytes in
-      let f = blocksOf 1 (oldContent c) in
-      let s = written-stands 1 (oldContent c) refl old-size in
-      let e : contentOf f ≡ oldContent c = all-content 1 (oldContent c) in
-      let size : 8288 ≡ length (contentOf f) = sym (ap length e ∙ old-size) in
-      let rows = pictureReadRows (pictureFits 1 (length memory) (length registers)) (contentModes (contentOf f)) in
+      let c = oldContent (contentOf bytes) in
+      let unset = modes-none (drop 8192 c) (omega (arith, old-size, length-drop 8192 c)) in
       ap (λ (l : List ℕ). pictureRead 1 l memory registers) old-file
-      ∙ sym (both-new (done 8288) _ (scrambled (contentOf f)) memory (drop 8192 (contentOf f)) registers
-      (ap done size
-      ∙ answered-no-row rows (length (contentOf f)) (ap₂ (λ (x y : ℕ). not (pictureFits 1 x y)) lm lr, (ap (λ x. wrongModes x) (modes-none (drop 8192 (contentOf f)) (omega (arith, size, length-drop 8192 (contentOf f)))), tt))
-      ∙ read-rows 1 f rows (length (contentOf f)) (done (length (contentOf f))) (sym (s .answer)) refl)
-      _ _ (sym (ap scrambled e ∙ shorter)) (sym (ap (drop 8192) e)) refl)
+      ∙ written-read 1 c memory registers refl old-size (ap (λ x. wrongModes x) unset) lm lr
+      ∙ (λ i. record { answer = done (old-size i); memory = shorter i; registers = drop 8192 c })
     where
       shorter : scrambled (oldContent (contentOf bytes)) ≡ scrambled (contentOf bytes)
       shorter =

@@ -4,13 +4,13 @@ use mathlib.Core.Bool.{Bool, true, false, cond, _&&_, _||_}
 use mathlib.Core.List.{List, _++_}
 use mathlib.Core.Logic.{_⊎_, inl, inr}
 use Prim.Native.Nat.{ℕ, _+_, _*_, _<_, _≤_}
-use native.Mathlib.Decide.{decLt}
 use native.Mathlib.Omega.{arith}
 use lib.Dec.{eqb}
-use lib.ListN.{length, take, drop, getD, length-append, length-drop, length-take, List·getD-eq-default, take-append-drop}
-use lib.Seq.{drop-at, take-all, take-add, length-take-le, getD-take}
+use lib.ListN.{length, take, drop, getD, length-append, length-drop, take-append-drop}
+use lib.Seq.{drop-at, take-all, take-add, length-take-le}
 use borrow.Author.Tests.{eq-eqb, eqb-true}
 use Rattle.bits.specs.Steps.{putAt}
+use Rattle.bits.proofs.ByteLaws.{part-bytes}
 use Rattle.bits.proofs.Puts.{put-nil, put-put, put-all, length-put, put-bytes}
 use Rattle.bits.proofs.Rows.{and-left, and-right}
 use Rattle.words.proofs.PlainLaws.{length-plain, plain-bytes, scrambled-front, plain-scrambled, scrambled-plain}
@@ -105,11 +105,11 @@ module _ (r a : Moved) (new old new′ old′ : List ℕ) where
         registers = (hg ∙ ap (λ (x : Moved). changed x new′ old′) e) i;
       }
 
-  pub both-old : r ≡ a → (r .number ≡ 0 → ⊥) → Leaves old old′
-  both-old e u = leaving e old old′ (changed-not r new old u) (changed-not r new′ old′ u)
+  pub both-unmoved : r ≡ a → (r .number ≡ 0 → ⊥) → Leaves old old′
+  both-unmoved e u = leaving e old old′ (changed-not r new old u) (changed-not r new′ old′ u)
 
-  pub both-new : r ≡ a → (m g : List ℕ) → m ≡ new → g ≡ new′ → r .number ≡ 0 → Leaves m g
-  both-new e m g hm hg z = leaving e m g (hm ∙ changed-done r new old z) (hg ∙ changed-done r new′ old′ z)
+  pub both-changed : r ≡ a → (m g : List ℕ) → m ≡ new → g ≡ new′ → r .number ≡ 0 → Leaves m g
+  both-changed e m g hm hg z = leaving e m g (hm ∙ changed-done r new old z) (hg ∙ changed-done r new′ old′ z)
 
   -- and what that says of the answer and of the buffers
   pub both-parts : (m g : List ℕ) → Leaves m g → (r ≡ a) × (m ≡ changed r new old) × (g ≡ changed r new′ old′)
@@ -179,13 +179,9 @@ module _ (mem regs out : List ℕ) where
       ap₂ (λ (l : List ℕ) (k : ℕ). over (blocksOf kind (payloads l 0 k)) l) e (sym n)
       ∙ laid-sealed (pictureOf mem regs) out (omega (arith, picture-blocks kind (length (pictureOf mem regs)) (omega arith))) kind
 
--- a part of bytes is one of bytes
-front-bytes : (l : List ℕ) (n : ℕ) → ((i : ℕ) → getD l i 0 < 256) → (i : ℕ) → getD (take n l) i 0 < 256
-front-bytes l n bytes i = go (decLt i n)
-  where
-    go : Dec (i < n) → getD (take n l) i 0 < 256
-    go (yes h) = omega (arith, getD-take n l i 0 h, bytes i)
-    go (no u) = omega (arith, List·getD-eq-default (take n l) 0 {n = i} (omega (arith, length-take n l)))
+-- the first bytes of bytes
+front-bytes : (l : List ℕ) (n : ℕ) → n ≤ length l → ((i : ℕ) → getD l i 0 < 256) → (i : ℕ) → getD (take n l) i 0 < 256
+front-bytes l n h bytes = part-bytes l (length l) 0 n (omega arith) (record { size = refl; low = bytes }) .low
 
 -- the memory with the first 8v words of a content put into it
 abbrev pub withWords : List ℕ → List ℕ → ℕ → List ℕ
@@ -204,7 +200,7 @@ module _ (content mem₀ : List ℕ) (size : 8192 ≤ length content) (bytes : (
       let before : plainWords mem ≡ putAt 0 front (plainWords mem₀) =
       ap plainWords em
       ∙ plain-scrambled (putAt 0 front (plainWords mem₀)) (length-put 0 front (plainWords mem₀) room ∙ length-plain mem₀)
-      (put-bytes 0 front (plainWords mem₀) room (front-bytes content (256 * v) bytes) (plain-bytes mem₀)) in
+      (put-bytes 0 front (plainWords mem₀) room (front-bytes content (256 * v) (omega arith) bytes) (plain-bytes mem₀)) in
       ap₂ (λ (x y : List ℕ). scrambled (putAt (256 * v) x y)) ew before
       ∙ ap scrambled (put-put 0 (256 * v) front (take 256 (drop (256 * v) content)) (plainWords mem₀) (omega arith) (omega arith)
       ∙ ap (λ (x : List ℕ). putAt 0 x (plainWords mem₀)) (eight-more content v))
@@ -218,4 +214,4 @@ pub picture-scrambled : (mem regs : List ℕ) → length mem ≡ 8192 → ((i : 
 picture-scrambled mem regs size bytes = scrambled-front (plainWords mem) regs (length-plain mem) ∙ scrambled-plain mem size bytes
 
 pub content-plain : (content : List ℕ) → 8192 ≤ length content → ((i : ℕ) → getD content i 0 < 256) → plainWords (scrambled content) ≡ take 8192 content
-content-plain content h bytes = ap plainWords (sym (words-front content h)) ∙ plain-scrambled (take 8192 content) (length-take-le 8192 content h) (front-bytes content 8192 bytes)
+content-plain content h bytes = ap plainWords (sym (words-front content h)) ∙ plain-scrambled (take 8192 content) (length-take-le 8192 content h) (front-bytes content 8192 h bytes)

@@ -18,10 +18,10 @@ use Rattle.contents.specs.File.{isPicture, done, contentOf, kindRight, sizeFits
 use Rattle.contents.specs.Content.{answered, readAnswer, changed, over, targetFits, contentFits, readRows, writeRows, contentRead, contentWritten}
 use Rattle.pictures.specs.Picture.{plainWords, pictureRegisters, pictureOf, scrambled, contentModes, pictureFits, pictureReadRows, pictureRead, pictureWriteRows, pictureWritten}
 use Rattle.contents.proofs.FileLaws.{file-stands, Stands}
-use Rattle.contents.proofs.AnswerLaws.{changed-done, left-new, answered-none, answered-no-row, answered-0, read-rows, read-stands}
+use Rattle.contents.proofs.AnswerLaws.{changed-done, left-changed, answered-none, answered-no-row, answered-0, read-rows, read-done, read-stands}
 use Rattle.contents.proofs.RoundTrip.{all-length, all-content, trip}
 use Rattle.contents.proofs.OneForm.{content-bytes, one-form}
-use Rattle.pictures.proofs.PictureLaws.{length-picture, picture-rest, fits-are, are-fits, picture-judged, picture-right, written-judged, picture-size, picture-stands, picture-blocks, content-plain, picture-scrambled, both-new}
+use Rattle.pictures.proofs.PictureLaws.{length-picture, picture-rest, fits-are, are-fits, picture-judged, picture-right, written-judged, picture-size, picture-stands, picture-blocks, content-plain, picture-scrambled, both-changed}
 
 -- ---- the bytes put out are the blocks
 
@@ -44,7 +44,7 @@ content-read kind content target bytes k f h e =
     ap₂ _&&_ (and-left (not (isPicture kind)) (sizeFits kind (length content)) f)
     (ap (λ (l : List ℕ). leb (length l) (length target)) c ∙ le-leb (length content) (length target) h) in
     let rows = readRows (targetFits kind bytes target) in
-    sym (left-new (done (length content)) _ (over (contentOf bytes) target) target
+    sym (left-changed (done (length content)) _ (over (contentOf bytes) target) target
     (ap (λ (l : List ℕ). done (length l)) (sym c)
     ∙ answered-none rows (length (contentOf bytes)) (ap (λ (x : Bool). numberOf (readRows x)) t)
     ∙ read-rows kind bytes rows (length (contentOf bytes)) (done (length content)) (sym q) refl)
@@ -74,7 +74,7 @@ content-rewritten kind bytes out content s small c k h =
     let n : need ≡ length bytes = sym (all-length kind content) ∙ ap length b in
     let f : contentFits kind content ≡ true = ap₂ (λ (x y : Bool). not x && y) k (ap (λ (l : List ℕ). sizeFits kind (length l)) c ∙ s .sizes) in
     let rows = writeRows kind (contentFits kind content) need (length out) in
-    sym (left-new (done (length bytes)) _ (over (blocksOf kind content) out) out
+    sym (left-changed (done (length bytes)) _ (over (blocksOf kind content) out) out
     (ap done (sym n) ∙ answered-no-row rows need (ap not (s .kinds), (ap not f, (le-ltb (length out) need (omega (arith, n)), tt))))
     (over bytes out) (ap (λ (l : List ℕ). over l out) (sym b)) refl)
 
@@ -96,26 +96,20 @@ content-again kind bytes target out small z h =
 
 -- ---- the same for pictures, of either kind
 
-picture-read : (kind : ℕ) (memory registers memory′ registers′ bytes : List ℕ)
-    → pictureFits kind (length memory) (length registers) ≡ true → wrongModes (modesOf registers) ≡ false → ((k : ℕ) → at memory k < 256)
-    → length memory′ ≡ 8192 → length registers′ ≡ length registers → bytes ≡ blocksOf kind (pictureOf memory registers)
-    → pictureRead kind bytes memory′ registers′ ≡ record { answer = done (8192 + length registers); memory = memory; registers = registers }
+-- the blocks of a picture's content read as that content
+pub written-read : (kind : ℕ) (content memory registers : List ℕ) → isPicture kind ≡ true → length content ≡ 8192 + pictureRegisters kind
+    → wrongModes (contentModes content) ≡ false → length memory ≡ 8192 → length registers ≡ pictureRegisters kind
+    → pictureRead kind (blocksOf kind content) memory registers ≡ record { answer = done (length content); memory = scrambled content; registers = drop 8192 content }
 unfolding pictureRead
-picture-read kind memory registers memory′ registers′ bytes fits right small lm′ lr′ e =
-    let content = pictureOf memory registers in
-    let l = fits-are kind (length memory) (length registers) fits in
-    let n : length content ≡ 8192 + length registers = length-picture memory registers in
-    let q : fileJudged kind bytes ≡ done (length content) =
-    ap (fileJudged kind) e ∙ written-judged kind content (l .0) (n ∙ ap (λ (k : ℕ). 8192 + k) (l .2)) in
-    let c : contentOf bytes ≡ content = ap contentOf e ∙ all-content kind content in
-    let d : drop 8192 (contentOf bytes) ≡ registers = ap (drop 8192) c ∙ picture-rest memory registers in
-    let f : pictureFits kind (length memory′) (length registers′) ≡ true = are-fits kind (length memory′) (length registers′) (l .0) lm′ (lr′ ∙ l .2) in
-    let rows = pictureReadRows (pictureFits kind (length memory′) (length registers′)) (contentModes (contentOf bytes)) in
-    sym (both-new (done (8192 + length registers)) _ (scrambled (contentOf bytes)) memory′ (drop 8192 (contentOf bytes)) registers′
-    (ap done (sym n ∙ ap length (sym c))
-    ∙ answered-no-row rows (length (contentOf bytes)) (ap not f, (ap (λ (x : List ℕ). wrongModes (modesOf x)) d ∙ right, tt))
-    ∙ read-rows kind bytes rows (length (contentOf bytes)) (done (length content)) (sym q) refl)
-    memory registers (sym (ap scrambled c ∙ picture-scrambled memory registers (l .1) small)) (sym d) refl)
+written-read kind content memory registers p n right lm lr =
+    let bytes = blocksOf kind content in
+    let c : contentOf bytes ≡ content = all-content kind content in
+    let fits = are-fits kind (length memory) (length registers) p lm lr in
+    let rows = pictureReadRows (pictureFits kind (length memory) (length registers)) (contentModes (contentOf bytes)) in
+    sym (both-changed (done (length content)) _ (scrambled (contentOf bytes)) memory (drop 8192 (contentOf bytes)) registers
+    (ap done (ap length (sym c))
+    ∙ read-done kind bytes rows (length (contentOf bytes)) (written-judged kind content p n) (ap not fits, (ap (λ (l : List ℕ). wrongModes (contentModes l)) c ∙ right, tt)))
+    (scrambled content) (drop 8192 content) (ap scrambled (sym c)) (ap (drop 8192) (sym c)) refl)
 
 pub picture-back : (kind : ℕ) (memory registers out memory′ registers′ : List ℕ) → ((k : ℕ) → at memory k < 256)
     → pictureWritten kind memory registers out .answer .number ≡ 0 → length memory′ ≡ 8192 → length registers′ ≡ length registers
@@ -130,10 +124,12 @@ picture-back kind memory registers out memory′ registers′ small z lm′ lr�
     let w = number-none rows refl none in
     let fits = not-false (pictureFits kind (length memory) (length registers)) (w .1 .0) in
     let l = fits-are kind (length memory) (length registers) fits in
-    let n : 8704 ≡ 512 * blockCount (length content) =
-    sym (picture-blocks kind (length content) (length-picture memory registers ∙ ap (λ (k : ℕ). 8192 + k) (l .2))) in
-    picture-read kind memory registers memory′ registers′ (take (a .bytes) (changed a (over (blocksOf kind content) out) out)) fits (w .1 .1 .0) small lm′ lr′
-    (file-is kind content out a (sym (answered-none rows 8704 none) ∙ ap done n))
+    let size : length content ≡ 8192 + pictureRegisters kind = length-picture memory registers ∙ ap (λ (k : ℕ). 8192 + k) (l .2) in
+    let n : 8704 ≡ 512 * blockCount (length content) = sym (picture-blocks kind (length content) size) in
+    let rest = picture-rest memory registers in
+    ap (λ (l : List ℕ). pictureRead kind l memory′ registers′) (file-is kind content out a (sym (answered-none rows 8704 none) ∙ ap done n))
+    ∙ written-read kind content memory′ registers′ (l .0) size (ap (λ (x : List ℕ). wrongModes (modesOf x)) rest ∙ w .1 .1 .0) lm′ (lr′ ∙ l .2)
+    ∙ (λ j. record { answer = done (length-picture memory registers j); memory = picture-scrambled memory registers (l .1) small j; registers = rest j })
 
 picture-rewritten : (kind : ℕ) (bytes memory registers out : List ℕ) → isPicture kind ≡ true → fileJudged kind bytes ≡ done (8192 + pictureRegisters kind)
     → ((k : ℕ) → at bytes k < 256) → memory ≡ scrambled (contentOf bytes) → registers ≡ drop 8192 (contentOf bytes) → wrongModes (contentModes (contentOf bytes)) ≡ false
@@ -153,7 +149,7 @@ picture-rewritten kind bytes memory registers out p q small em er right h =
     let lr : length registers ≡ pictureRegisters kind = ap length er ∙ length-drop 8192 c ∙ omega arith in
     let f : pictureFits kind (length memory) (length registers) ≡ true = are-fits kind (length memory) (length registers) p (ap length em ∙ length-scrambled c) lr in
     let rows = pictureWriteRows kind (pictureFits kind (length memory) (length registers)) (modesOf registers) (length out) in
-    sym (left-new (done (length bytes)) _ (over (blocksOf kind (pictureOf memory registers)) out) out
+    sym (left-changed (done (length bytes)) _ (over (blocksOf kind (pictureOf memory registers)) out) out
     (ap done (sym m)
     ∙ answered-no-row rows 8704 (ap not (picture-right kind p), (ap not f, (ap (λ (x : List ℕ). wrongModes (modesOf x)) er ∙ right, (le-ltb (length out) 8704 (omega (arith, m)), tt)))))
     (over bytes out) (ap (λ (l : List ℕ). over l out) (sym b)) refl)

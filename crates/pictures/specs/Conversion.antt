@@ -10,7 +10,7 @@ use Rattle.contents.specs.File.{pictureKind, modesPictureKind, pictureBytes, co
 use Rattle.contents.specs.Content.{readAnswer, changed, over, ContentLeft}
 use Rattle.pictures.specs.Picture.{pictureFile, contentModes}
 
--- "Old to new puts both registers unset"; new to old leaves them away.
+-- "Old to new puts both registers unset"; new to old leaves them out.
 abbrev pub newContent : List ℕ → List ℕ
 newContent content = content ++ modeBytes noneSet
 
@@ -31,7 +31,7 @@ toNew bytes out =
     let a = readAnswer pictureKind bytes (toNewRows (length out)) pictureFile in
     record { answer = a; buffer = changed a (over (blocksOf modesPictureKind (newContent (contentOf bytes))) out) out }
 
--- What `to_old` leaves.
+-- What `to_old` leaves: a file that is judged as one of kind 4, written as kind 1.
 unfoldable pub toOld : List ℕ → List ℕ → ContentLeft
 toOld bytes out =
     let a = readAnswer modesPictureKind bytes (toOldRows (contentModes (contentOf bytes)) (length out)) pictureFile in

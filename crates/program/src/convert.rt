@@ -33,14 +33,14 @@ fn bytes_of(name: &[u8], buffer: &mut [u8]) -> Found {
     let fd = os::open_read(name);
     if fd < 0 {
         os::fail(name);
-        return Found::Absent;
+        return Found::Failed;
     }
     let found = fill(fd, name, buffer);
     libc::close(fd);
     found
 }
 
-// The new file, whole or not at all: a name that is taken stays with the file that has it.
+// The new file, removed again where it cannot be written whole: a name that is taken stays with the file that has it.
 fn made(name: &[u8], bytes: &[u8]) -> bool {
     let fd = os::create(name);
     if fd < 0 {

@@ -28,7 +28,9 @@ use Rattle.contents.proofs.read_content as read_content
 use Rattle.contents.proofs.write_content as write_content
 use Rattle.pictures.proofs.read_picture as read_picture
 use Rattle.pictures.proofs.write_picture as write_picture
-use Rattle.library.specs.Left.{sumLeft, differenceLeft, equalLeft, lessLeft, greatestLeft, closingLeft, spreadingLeft, readLeft, writeLeft, writePictureLeft}
+use Rattle.pictures.proofs.convert.to_new as to_new
+use Rattle.pictures.proofs.convert.to_old as to_old
+use Rattle.library.specs.Left.{sumLeft, differenceLeft, equalLeft, lessLeft, greatestLeft, closingLeft, spreadingLeft, readLeft, writeLeft, writePictureLeft, toNewLeft, toOldLeft}
 use Rattle.library.proofs.staran_run_4 as library_run
 use Rattle.library.proofs.staran_step_5 as library_step
 use Rattle.library.proofs.staran_pass as staran_pass
@@ -44,8 +46,10 @@ use Rattle.library.proofs.staran_read_content as staran_read_content
 use Rattle.library.proofs.staran_write_content as staran_write_content
 use Rattle.library.proofs.staran_read_picture as staran_read_picture
 use Rattle.library.proofs.staran_write_picture as staran_write_picture
+use Rattle.library.proofs.staran_picture_to_new as staran_picture_to_new
+use Rattle.library.proofs.staran_picture_to_old as staran_picture_to_old
 use Rattle.library.proofs.staran_version as staran_version
-use Rattle.promises.specs.Clauses.{Run, Step, Pass, SumList, DifferenceList, EqualList, LessList, GreatestList, ClosingList, SpreadingList, ReadContent, WriteContent, ReadPicture, WritePicture, LibraryRun, LibraryStep, LibraryPass, LibraryBuffer, LibraryTwo, LibraryReadPicture, LibraryVersion}
+use Rattle.promises.specs.Clauses.{Run, Step, Pass, SumList, DifferenceList, EqualList, LessList, GreatestList, ClosingList, SpreadingList, ReadContent, WriteContent, ReadPicture, WritePicture, ToNew, ToOld, LibraryRun, LibraryStep, LibraryPass, LibraryBuffer, LibraryTwo, LibraryReadPicture, LibraryVersion}
 
 module _ {M : Type 1} (𝓤 : URA M) (H : Heap 𝓤) (A : Atoms 𝓤) (memory : Memory → SProp 𝓤) (runs : Routine → Fun 𝓤) where
   open Connectives (connectives 𝓤) using (⌜_⌝, ⊤ₛ)
@@ -122,6 +126,14 @@ module _ {M : Type 1} (𝓤 : URA M) (H : Heap 𝓤) (A : Atoms 𝓤) (memory : 
       ⌜ WritePicture (a .0) (now (a .1 .0)) (now (a .1 .1 .0)) (now (a .1 .1 .1 .0)) (now (e .1 .1 .1 .0)) r ⌝)
   write-picture-clauses κs a g r e = (refl, refl)
 
+  pub to-new-clauses : Says to_new.ended (to_new.clauses 𝓤 H A memory runs) (λ κs a r e.
+      ⌜ ToNew (now (a .0)) (now (a .1 .0)) (now (e .1 .0)) r ⌝)
+  to-new-clauses κs a g r e = (refl, refl)
+
+  pub to-old-clauses : Says to_old.ended (to_old.clauses 𝓤 H A memory runs) (λ κs a r e.
+      ⌜ ToOld (now (a .0)) (now (a .1 .0)) (now (e .1 .0)) r ⌝)
+  to-old-clauses κs a g r e = (refl, refl)
+
   -- ---- the library for C
 
   pub library-run-clauses : Says library_run.ended (library_run.clauses 𝓤 H A memory runs) (λ κs a r e.
@@ -185,6 +197,14 @@ module _ {M : Type 1} (𝓤 : URA M) (H : Heap 𝓤) (A : Atoms 𝓤) (memory : 
   pub library-write-picture-clauses : Says staran_write_picture.ended (staran_write_picture.clauses 𝓤 H A memory runs) (λ κs a r e.
       ⌜ LibraryBuffer (writePictureLeft (a .0) (now (a .1 .0)) (now (a .1 .1 .0)) (now (a .1 .1 .1 .0))) (now (e .1 .1 .1 .0)) (now (e .1 .1 .1 .1 .0)) ⌝)
   library-write-picture-clauses κs a g r e = (refl, refl)
+
+  pub library-to-new-clauses : Says staran_picture_to_new.ended (staran_picture_to_new.clauses 𝓤 H A memory runs) (λ κs a r e.
+      ⌜ LibraryBuffer (toNewLeft (now (a .0)) (now (a .1 .0))) (now (e .1 .0)) (now (e .1 .1 .0)) ⌝)
+  library-to-new-clauses κs a g r e = (refl, refl)
+
+  pub library-to-old-clauses : Says staran_picture_to_old.ended (staran_picture_to_old.clauses 𝓤 H A memory runs) (λ κs a r e.
+      ⌜ LibraryBuffer (toOldLeft (now (a .0)) (now (a .1 .0))) (now (e .1 .0)) (now (e .1 .1 .0)) ⌝)
+  library-to-old-clauses κs a g r e = (refl, refl)
 
   pub library-version-clauses : Says staran_version.ended (staran_version.clauses 𝓤 H A memory runs) (λ κs a r e.
       ⌜ LibraryVersion r ⌝)

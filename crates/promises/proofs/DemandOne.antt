@@ -43,7 +43,7 @@ use Rattle.contents.proofs.Numbers as blocks
 use Rattle.pictures.specs.Picture.{pictureOf, scrambled, contentModes, pictureFits, pictureReadRows, pictureRead, pictureWriteRows, pictureWritten}
 use Rattle.pictures.specs.Conversion.{newContent, oldContent, toNewRows, toOldRows, toNew, toOld}
 use Rattle.pictures.proofs.PictureLaws.{both-parts}
-use Rattle.library.specs.Left.{six, three, runLeft, stepLeft, PassLeft, passLeft, BufferLeft, sumLeft, differenceLeft, TwoLeft, builtTwoLeft, equalLeft, lessLeft, greatestLeft, closingLeft, spreadingLeft, readLeft, writeLeft, writePictureLeft, toNewLeft, toOldLeft, TargetsLeft, readPictureLeft}
+use Rattle.library.specs.Left.{six, three, runLeft, stepLeft, PassLeft, passLeft, BufferLeft, sumLeft, differenceLeft, movedLeft, TwoLeft, builtTwoLeft, equalLeft, lessLeft, greatestLeft, closingLeft, spreadingLeft, readLeft, writeLeft, writePictureLeft, toNewLeft, toOldLeft, TargetsLeft, readPictureLeft}
 use Rattle.promises.specs.Clauses.{Run, Step, SumList, DifferenceList, GreatestList, ClosingList, SpreadingList, ReadContent, WriteContent, ReadPicture, WritePicture, ToNew, ToOld, LibraryRun, LibraryStep, LibraryPass, LibraryBuffer, LibraryTwo, LibraryReadPicture}
 use Rattle.promises.specs.DemandOne.{AnswerTable, RunTable, StepTable, PassTable, ListTable, TwoTable, FieldsTable, SearchTable, GreatestTable, MovingTable, ClosingTable, SpreadingTable, ReadTable, WriteTable, ReadContentTable, WriteContentTable, ReadPictureTable, WritePictureTable, ToNewTable, ToOldTable, Kept, AllKept, DemandOne}
 
@@ -370,21 +370,26 @@ module _ (a s n : ℕ) (marks list items list′ items′ answer′ : List ℕ) 
       let m = spreading-meets a s n marks list items list′ items′ r (λ t. record { answer = r; list = h t .list; items = h t .items }) in
       (r, ap (λ (l : TwoLeft). l .answer) h, m .0, m .1, m .2)
 
+-- of a buffer and three numbers, by what the entry behind them meets
+library-moved : (Table : Moved → Type 0) (l : ContentLeft) (before buffer′ answer′ : List ℕ) → LibraryBuffer (movedLeft l) buffer′ answer′
+    → ((r : Moved) → _≡_ {A = ContentLeft} (record { answer = r; buffer = buffer′ }) l → Table r × Kept (r .number) before buffer′)
+    → (r : Moved) × (answer′ ≡ three r) × Table r × Kept (r .number) before buffer′
+library-moved Table l before buffer′ answer′ h meets =
+    let r = l .answer in
+    let m = meets r (λ t. record { answer = r; buffer = h t .buffer }) in
+    (r, ap (λ (x : BufferLeft). x .answer) h, m .0, m .1)
+
 library-read : (kind : ℕ) (bytes target target′ answer′ : List ℕ) → LibraryBuffer (readLeft kind bytes target) target′ answer′
     → (r : Moved) × (answer′ ≡ three r) × ReadContentTable kind bytes target r × Kept (r .number) target target′
 unfolding readLeft
 library-read kind bytes target target′ answer′ h =
-    let r = contentRead kind bytes target .answer in
-    let m = read-meets kind bytes target target′ r (λ t. record { answer = r; buffer = h t .buffer }) in
-    (r, ap (λ (l : BufferLeft). l .answer) h, m .0, m .1)
+    library-moved (ReadContentTable kind bytes target) (contentRead kind bytes target) target target′ answer′ h (read-meets kind bytes target target′)
 
 library-write : (kind : ℕ) (content out out′ answer′ : List ℕ) → LibraryBuffer (writeLeft kind content out) out′ answer′
     → (r : Moved) × (answer′ ≡ three r) × WriteContentTable kind content out r × Kept (r .number) out out′
 unfolding writeLeft
 library-write kind content out out′ answer′ h =
-    let r = contentWritten kind content out .answer in
-    let m = write-meets kind content out out′ r (λ t. record { answer = r; buffer = h t .buffer }) in
-    (r, ap (λ (l : BufferLeft). l .answer) h, m .0, m .1)
+    library-moved (WriteContentTable kind content out) (contentWritten kind content out) out out′ answer′ h (write-meets kind content out out′)
 
 library-read-picture : (kind : ℕ) (bytes memory registers memory′ registers′ answer′ : List ℕ)
     → LibraryReadPicture kind bytes memory registers memory′ registers′ answer′
@@ -401,25 +406,17 @@ library-write-picture : (kind : ℕ) (memory registers out out′ answer′ : Li
     × Kept (r .number) out out′
 unfolding writePictureLeft
 library-write-picture kind memory registers out out′ answer′ h =
-    let r = pictureWritten kind memory registers out .answer in
-    let m = write-picture-meets kind memory registers out out′ r (λ t. record { answer = r; buffer = h t .buffer }) in
-    (r, ap (λ (l : BufferLeft). l .answer) h, m .0, m .1)
+    library-moved (WritePictureTable kind memory registers out) (pictureWritten kind memory registers out) out out′ answer′ h (write-picture-meets kind memory registers out out′)
 
 library-to-new : (bytes out out′ answer′ : List ℕ) → LibraryBuffer (toNewLeft bytes out) out′ answer′
     → (r : Moved) × (answer′ ≡ three r) × ToNewTable bytes out r × Kept (r .number) out out′
 unfolding toNewLeft
-library-to-new bytes out out′ answer′ h =
-    let r = toNew bytes out .answer in
-    let m = to-new-meets bytes out out′ r (λ t. record { answer = r; buffer = h t .buffer }) in
-    (r, ap (λ (l : BufferLeft). l .answer) h, m .0, m .1)
+library-to-new bytes out out′ answer′ h = library-moved (ToNewTable bytes out) (toNew bytes out) out out′ answer′ h (to-new-meets bytes out out′)
 
 library-to-old : (bytes out out′ answer′ : List ℕ) → LibraryBuffer (toOldLeft bytes out) out′ answer′
     → (r : Moved) × (answer′ ≡ three r) × ToOldTable bytes out r × Kept (r .number) out out′
 unfolding toOldLeft
-library-to-old bytes out out′ answer′ h =
-    let r = toOld bytes out .answer in
-    let m = to-old-meets bytes out out′ r (λ t. record { answer = r; buffer = h t .buffer }) in
-    (r, ap (λ (l : BufferLeft). l .answer) h, m .0, m .1)
+library-to-old bytes out out′ answer′ h = library-moved (ToOldTable bytes out) (toOld bytes out) out out′ answer′ h (to-old-meets bytes out out′)
 
 pub demand-one : DemandOne
 demand-one =

@@ -36,12 +36,11 @@ pub record Conversions : Type 0 where
 -- The program on disk.
 pub record ModesKept : Type 0 where
   -- kind 1 is written only where neither register is set
-  pub noneLost : (taken : ℕ) (registers : List ℕ) → kindWritten taken registers ≡ pictureKind → anySet (modesOf registers) ≡ false
-  -- the next run, on the picture that a run of lent bytes has written, goes from the memory and all 100 register bytes that were left
-  pub nextRun : (taken : ℕ) (l : Lent (List ℕ)) → ran l .answer .number ≡ 0
-      → ((k : ℕ) → at (l .memory) k < 256) → ((k : ℕ) → at (l .registers) k < 256) → (list items : File)
-      → outcome (bytes (finished taken (ran l) .after)) list items
-      ≡ withList (kindWritten taken (ran l .registers)) (ran l .memory) (ran l .registers) list items
+  pub noneLost : (took : ℕ) (registers : List ℕ) → kindWritten took registers ≡ pictureKind → anySet (modesOf registers) ≡ false
+  -- the next run, on the picture that a run has written of a memory of bytes, goes from the memory and all 100 register bytes that were left
+  pub nextRun : (took : ℕ) (l : Lent (List ℕ)) → ran l .answer .number ≡ 0 → ((k : ℕ) → at (l .memory) k < 256) → (list items : File)
+      → outcome (bytes (finished took (ran l) .after)) list items
+      ≡ withList (kindWritten took (ran l .registers)) (ran l .memory) (ran l .registers) list items
 
 pub record DemandPictures : Type 0 where
   pub conversions : Conversions

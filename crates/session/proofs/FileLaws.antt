@@ -1,7 +1,7 @@
 -- What each way of taking a file answers and leaves, the kind that before.pic is taken for, and that a place is small. Assumes nothing.
 use mathlib.Core.Path.{_≡_, refl, sym, ap, ap₂, subst, _∙_}
 use mathlib.Core.Bool.{Bool, true, false, cond, not, _&&_}
-use mathlib.Core.List.{List, [], _∷_}
+use mathlib.Core.List.{List}
 use Prim.Native.Nat.{ℕ, _-_, _/_, _<_, _≤_}
 use native.Mathlib.Nat.{sub-zero}
 use native.Mathlib.Omega.{arith}
@@ -11,14 +11,13 @@ use lib.ListN.{length, take, drop, length-append, length-drop}
 use lib.Seq.{take-at}
 use borrow.Author.Tests.{eq-eqb, ne-eqb, lt-ltb, le-ltb, le-leb, lt-leb, ltb-false}
 use borrow.Rule.Slice.PartMut.{midOf, putMid, mid-len}
-use Rattle.bits.specs.Rows.{row, numberOf}
+use Rattle.bits.specs.Rows.{numberOf}
 use Rattle.bits.proofs.Rows.{taken}
 use Rattle.bits.proofs.Puts.{part-put, put-front}
-use Rattle.registers.specs.Modes.{wrongModes}
 use Rattle.blocks.specs.Block.{twoAt}
 use Rattle.contents.specs.declared.Moved.{Moved}
 use Rattle.contents.specs.File.{isPicture, done, refused, contentOf, fileJudged}
-use Rattle.contents.specs.Content.{answered, readAnswer, changed, over, targetFits, readRows, ContentLeft, contentRead}
+use Rattle.contents.specs.Content.{readAnswer, changed, over, targetFits, readRows, ContentLeft, contentRead}
 use Rattle.pictures.specs.Picture.{pictureRegisters, scrambled, contentModes, pictureFits, pictureReadRows, PictureLeft, pictureRead}
 use Rattle.contents.proofs.Bounds.{read-place, judged-place}
 use Rattle.contents.proofs.FileLaws.{Stands, file-stands}
@@ -142,11 +141,8 @@ module _ (b m g m′ g′ : List ℕ) (kind size : ℕ) (r : Moved) (ek : kind �
   parts = both-parts r _ (scrambled content) m (drop 8192 content) (midOf 0 (size - 0) g) m′ g′ q
 
   judged : r ≡ pictureJudged b
-  unfolding readAnswer answered
   judged =
-      parts .0
-      ∙ ap (λ (t : Bool). readAnswer kind b (pictureReadRows t (contentModes content)) (length content)) fit
-      ∙ ap (λ (k : ℕ). readAnswer k b (row 15 (wrongModes (contentModes content)) ∷ []) (length content)) ek
+      parts .0 ∙ ap₂ (λ (k : ℕ) (t : Bool). readAnswer k b (pictureReadRows t (contentModes content)) (length content)) ek fit
 
   found : r .number ≡ 0 → (m′ ≡ scrambled content) × (putMid 0 (size - 0) g g′ ≡ over (drop 8192 content) blankRegisters)
   found z =

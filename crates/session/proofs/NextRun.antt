@@ -1,13 +1,12 @@
--- What a run leaves is where the next begins: with its after.pic for before.pic, the program runs from the same memory and registers, mode registers too, and writes the same kind. Assumes nothing.
+-- What a run leaves is where the next begins: with its after.pic for before.pic, the program runs from the same memory and registers, mode registers too, and takes the kind that was written. Assumes nothing.
 use mathlib.Core.Path.{_≡_, refl, sym, ap, ap₂, _∙_}
 use mathlib.Core.Bool.{true, false}
-use mathlib.Core.List.{List, [], _∷_, _++_, append-nil}
+use mathlib.Core.List.{List, _++_, append-nil}
 use mathlib.Core.Logic.{_⊎_, inl, inr}
 use Prim.Native.Nat.{ℕ, _+_, _*_, _/_, _<_}
 use native.Mathlib.Omega.{arith}
 use lib.ListN.{length, take, drop, take-append-drop}
 use lib.Seq.{take-all, getD-take}
-use Rattle.bits.specs.Rows.{row}
 use Rattle.registers.specs.Modes.{modesOf, modeBytes, noneSet, wrongModes}
 use Rattle.registers.proofs.ModeLaws.{modes-last, unset-zeros}
 use Rattle.module.specs.Run.{Lent, ran}
@@ -20,18 +19,18 @@ use Rattle.contents.specs.declared.Moved.{Moved}
 use Rattle.contents.specs.File.{isPicture, done, blockAt, contentOf, fileJudged, blocksOf}
 use Rattle.contents.specs.Content.{readAnswer, over}
 use Rattle.contents.proofs.FileLaws.{Stands, file-stands, blocks-each}
-use Rattle.contents.proofs.AnswerLaws.{answered-no-row, read-rows}
+use Rattle.contents.proofs.AnswerLaws.{read-done}
 use Rattle.contents.proofs.RoundTrip.{all-content}
-use Rattle.pictures.specs.Picture.{pictureRegisters, pictureOf, scrambled, contentModes}
+use Rattle.pictures.specs.Picture.{pictureRegisters, pictureOf, scrambled, contentModes, pictureReadRows}
 use Rattle.pictures.proofs.PictureLaws.{picture-kinds, written-judged, length-picture, picture-rest, picture-scrambled}
 use Rattle.session.specs.Session.{File, bytes, kindOf, pictureJudged, pictureAnswer, kindWritten, afterOf, finished, blankRegisters, withList, outcome}
 use Rattle.session.proofs.FileLaws.{read-short, kind-four, kind-other}
 use Rattle.session.proofs.SessionLaws.{stands-first, after-done, after-size, front-length, front-right, written-picture}
 use Rattle.session.proofs.SessionDemand.{none-lost}
 
-module _ (taken : ℕ) (m g : List ℕ) (lm : length m ≡ 8192) (small : (k : ℕ) → at m k < 256) (lg : length g ≡ 100) (right : wrongModes (modesOf g) ≡ false) where
+module _ (took : ℕ) (m g : List ℕ) (lm : length m ≡ 8192) (small : (k : ℕ) → at m k < 256) (lg : length g ≡ 100) (right : wrongModes (modesOf g) ≡ false) where
   abbrev kind : ℕ
-  kind = kindWritten taken g
+  kind = kindWritten took g
 
   abbrev x : List ℕ
   x = take (pictureRegisters kind) g
@@ -40,7 +39,7 @@ module _ (taken : ℕ) (m g : List ℕ) (lm : length m ≡ 8192) (small : (k : �
   file = blocksOf kind (pictureOf m x)
 
   is : isPicture kind ≡ true
-  is = written-picture taken g
+  is = written-picture took g
 
   lx : length x ≡ pictureRegisters kind
   lx = front-length kind g lg
@@ -83,7 +82,7 @@ module _ (taken : ℕ) (m g : List ℕ) (lm : length m ≡ 8192) (small : (k : �
       go : (kind ≡ 1) ⊎ (kind ≡ 4) → over x blankRegisters ≡ g
       go (inl k) =
           let short : take (pictureRegisters kind) g ≡ take 96 g = ap (λ (n : ℕ). take (pictureRegisters n) g) k in
-          let modes : modesOf g ≡ noneSet = unset-zeros (modesOf g) right (none-lost taken g k) in
+          let modes : modesOf g ≡ noneSet = unset-zeros (modesOf g) right (none-lost took g k) in
           let last : drop 96 blankRegisters ≡ drop 96 g = sym (ap modeBytes modes) ∙ modes-last g lg in
           ap₂ (λ (l : List ℕ) (n : ℕ). l ++ drop n blankRegisters) short (lx ∙ ap pictureRegisters k) ∙ ap (λ (l : List ℕ). take 96 g ++ l) last ∙ take-append-drop 96 g
       go (inr k) =
@@ -94,27 +93,26 @@ module _ (taken : ℕ) (m g : List ℕ) (lm : length m ≡ 8192) (small : (k : �
   answered : pictureAnswer (bytes file) ≡ done (length (contentOf file))
   answered =
       let n = length (contentOf file) in
-      let rows = row 15 (wrongModes (contentModes (contentOf file))) ∷ [] in
+      let rows = pictureReadRows true (contentModes (contentOf file)) in
       sym (read-short 8704 pictureJudged file (omega (arith, size)))
       ∙ ap (λ (k : ℕ). readAnswer k file rows n) taken-again
-      ∙ sym (answered-no-row rows n (ap (λ (l : List ℕ). wrongModes (modesOf l)) rest ∙ front-right kind g is lg right, tt)
-      ∙ read-rows kind file rows n (done (length (pictureOf m x))) (sym judged) refl)
+      ∙ sym (read-done kind file rows n judged (refl, (ap (λ (l : List ℕ). wrongModes (modesOf l)) rest ∙ front-right kind g is lg right, tt)))
 
-  next-run : (list items : File) → outcome (bytes (afterOf taken 0 m g)) list items ≡ withList kind m g list items
+  next-after : (list items : File) → outcome (bytes (afterOf took 0 m g)) list items ≡ withList kind m g list items
   unfolding outcome
-  next-run list items =
-      ap (λ (b : List ℕ). outcome (bytes b) list items) (after-done taken 0 m g refl)
+  next-after list items =
+      ap (λ (b : List ℕ). outcome (bytes b) list items) (after-done took 0 m g refl)
       ∙ stands-first 112 (done (length (contentOf file))) (pictureAnswer (bytes file)) _ (sym answered) refl
       ∙ ap₂ (λ (k : ℕ) (l : List ℕ). withList k (scrambled (contentOf file)) (over l blankRegisters) list items) taken-again rest
       ∙ ap₂ (λ (memory registers : List ℕ). withList kind memory registers list items) (ap scrambled content ∙ picture-scrambled m x lm small) same-registers
 
--- of a run of lent bytes that is done, by the picture that it has written
-pub run-again : (taken : ℕ) (l : Lent (List ℕ)) → ran l .answer .number ≡ 0 → ((k : ℕ) → at (l .memory) k < 256) → ((k : ℕ) → at (l .registers) k < 256)
-    → (list items : File) → outcome (bytes (finished taken (ran l) .after)) list items ≡ withList (kindWritten taken (ran l .registers)) (ran l .memory) (ran l .registers) list items
+-- of a run that is done, of a memory of bytes, by the picture that it has written
+pub next-run : (took : ℕ) (l : Lent (List ℕ)) → ran l .answer .number ≡ 0 → ((k : ℕ) → at (l .memory) k < 256)
+    → (list items : File) → outcome (bytes (finished took (ran l) .after)) list items ≡ withList (kindWritten took (ran l .registers)) (ran l .memory) (ran l .registers) list items
 unfolding finished
-run-again taken l z memory registers list items =
+next-run took l z low list items =
     let m = ran l .memory in
     let g = ran l .registers in
-    let good = memory-left l z memory registers in
-    let lg = registers-left l z memory registers in
-    ap (λ (n : ℕ). outcome (bytes (afterOf taken n m g)) list items) z ∙ next-run taken m g (good .size) (good .low) lg (modes-right l z lg) list items
+    let memory = memory-left l z low in
+    let size = registers-left l z in
+    ap (λ (n : ℕ). outcome (bytes (afterOf took n m g)) list items) z ∙ next-after took m g (memory .size) (memory .low) size (modes-right l z size) list items

@@ -36,26 +36,26 @@ absent-content kind = refl
 -- ---- after.pic
 
 -- a run that is refused writes none
-pub refused-run : (taken : ℕ) (s : Left (List ℕ) Answer) → (s .answer .number ≡ 0 → ⊥) → finished taken s .after ≡ []
+pub refused-run : (took : ℕ) (s : Left (List ℕ) Answer) → (s .answer .number ≡ 0 → ⊥) → finished took s .after ≡ []
 unfolding finished
-refused-run taken s u = after-none taken (s .answer .number) (s .memory) (s .registers) u
+refused-run took s u = after-none took (s .answer .number) (s .memory) (s .registers) u
 
 -- a run that is done writes the picture of the memory and of the registers that it left, of the kind that was taken or of kind 4 where a mode register is set: 17 blocks
-pub done-run : (taken : ℕ) (s : Left (List ℕ) Answer) → s .answer .number ≡ 0
-    → (let kind = kindWritten taken (s .registers) in finished taken s .after ≡ blocksOf kind (pictureOf (s .memory) (take (pictureRegisters kind) (s .registers))))
+pub done-run : (took : ℕ) (s : Left (List ℕ) Answer) → s .answer .number ≡ 0
+    → (let kind = kindWritten took (s .registers) in finished took s .after ≡ blocksOf kind (pictureOf (s .memory) (take (pictureRegisters kind) (s .registers))))
 unfolding finished
-done-run taken s z = after-done taken (s .answer .number) (s .memory) (s .registers) z
+done-run took s z = after-done took (s .answer .number) (s .memory) (s .registers) z
 
-pub done-size : (taken : ℕ) (s : Left (List ℕ) Answer) → s .answer .number ≡ 0 → length (s .registers) ≡ 100 → length (finished taken s .after) ≡ 8704
-done-size taken s z l =
-    let kind = kindWritten taken (s .registers) in
-    ap length (done-run taken s z)
+pub done-size : (took : ℕ) (s : Left (List ℕ) Answer) → s .answer .number ≡ 0 → length (s .registers) ≡ 100 → length (finished took s .after) ≡ 8704
+done-size took s z l =
+    let kind = kindWritten took (s .registers) in
+    ap length (done-run took s z)
     ∙ after-size kind (s .memory) (take (pictureRegisters kind) (s .registers)) (front-length kind (s .registers) l)
 
 -- no set register is lost: kind 1 is written only where neither is set
-pub none-lost : (taken : ℕ) (regs : List ℕ) → kindWritten taken regs ≡ 1 → anySet (modesOf regs) ≡ false
+pub none-lost : (took : ℕ) (regs : List ℕ) → kindWritten took regs ≡ 1 → anySet (modesOf regs) ≡ false
 unfolding kindWritten
-none-lost taken regs e = go (eqb taken 4) (anySet (modesOf regs)) refl e
+none-lost took regs e = go (eqb took 4) (anySet (modesOf regs)) refl e
   where
     go : (t a : Bool) → anySet (modesOf regs) ≡ a → _≡_ {A = ℕ} (cond (t || a) 4 1) 1 → anySet (modesOf regs) ≡ false
     go true a h e = absurd (omega arith)

@@ -89,30 +89,30 @@ next-shown letter a b next next′ r old text after after′ e z q s =
     subst (λ (o : Outcome). Both o r old text after after′) (sym (stands-first letter a b next e z ∙ q)) s
 
 -- a run's lines and its picture
-pub finished-shown : (taken : ℕ) (o : Outcome) (s : Left (List ℕ) Answer) (m g out : List ℕ) (a : Answer) (n w : ℕ) (old text after after′ : List ℕ)
-    → o ≡ finished taken s → _≡_ {A = Left (List ℕ) Answer} (record { memory = m; registers = g; out = out; answer = a }) s
+pub finished-shown : (took : ℕ) (o : Outcome) (s : Left (List ℕ) Answer) (m g out : List ℕ) (a : Answer) (n w : ℕ) (old text after after′ : List ℕ)
+    → o ≡ finished took s → _≡_ {A = Left (List ℕ) Answer} (record { memory = m; registers = g; out = out; answer = a }) s
     → n ≤ length text → n ≡ length (printed 114 (a .number) (a .place) (a .byte) (a .steps) (a .taken) (a .given) out)
     → text ≡ printed 114 (a .number) (a .place) (a .byte) (a .steps) (a .taken) (a .given) out ++ drop n old
-    → w ≤ 8704 → w ≡ length (afterOf taken (a .number) m g) → after′ ≡ over (afterOf taken (a .number) m g) after
+    → w ≤ 8704 → w ≡ length (afterOf took (a .number) m g) → after′ ≡ over (afterOf took (a .number) m g) after
     → Both o (record { text = n; after = w }) old text after after′
 unfolding finished
-finished-shown taken o s m g out a n w old text after after′ e q h l t most c k =
-    subst (λ (x : Outcome). Both x (record { text = n; after = w }) old text after after′) (sym (e ∙ ap (finished taken) (sym q)))
+finished-shown took o s m g out a n w old text after after′ e q h l t most c k =
+    subst (λ (x : Outcome). Both x (record { text = n; after = w }) old text after after′) (sym (e ∙ ap (finished took) (sym q)))
     (record { room = h; count = l; printed = t; written = c; most = most }, k)
 
 -- ---- after.pic
 
-pub after-none : (taken number : ℕ) (m g : List ℕ) → (number ≡ 0 → ⊥) → afterOf taken number m g ≡ []
+pub after-none : (took number : ℕ) (m g : List ℕ) → (number ≡ 0 → ⊥) → afterOf took number m g ≡ []
 unfolding afterOf
-after-none taken number m g u =
-    let kind = kindWritten taken g in
+after-none took number m g u =
+    let kind = kindWritten took g in
     ap (λ (t : Bool). cond t (blocksOf kind (pictureOf m (take (pictureRegisters kind) g))) []) (ne-eqb number 0 u)
 
-pub after-done : (taken number : ℕ) (m g : List ℕ) → number ≡ 0
-    → (let kind = kindWritten taken g in afterOf taken number m g ≡ blocksOf kind (pictureOf m (take (pictureRegisters kind) g)))
+pub after-done : (took number : ℕ) (m g : List ℕ) → number ≡ 0
+    → (let kind = kindWritten took g in afterOf took number m g ≡ blocksOf kind (pictureOf m (take (pictureRegisters kind) g)))
 unfolding afterOf
-after-done taken number m g z =
-    let kind = kindWritten taken g in
+after-done took number m g z =
+    let kind = kindWritten took g in
     ap (λ (t : Bool). cond t (blocksOf kind (pictureOf m (take (pictureRegisters kind) g))) []) (eq-eqb number 0 z)
 
 -- of either kind it is 17 blocks
@@ -138,18 +138,18 @@ front-right kind g p n right = go (picture-kinds kind p)
         ∙ ap (λ (x : List ℕ). wrongModes (modesOf x)) (take-all 100 g (omega arith))
         ∙ right
 
-pub written-picture : (taken : ℕ) (g : List ℕ) → isPicture (kindWritten taken g) ≡ true
+pub written-picture : (took : ℕ) (g : List ℕ) → isPicture (kindWritten took g) ≡ true
 unfolding kindWritten
-written-picture taken g = either (λ (k : ℕ). isPicture k ≡ true) 4 1 (eqb taken 4 || anySet (modesOf g)) refl refl
+written-picture took g = either (λ (k : ℕ). isPicture k ≡ true) 4 1 (eqb took 4 || anySet (modesOf g)) refl refl
 
-module _ (taken number : ℕ) (m g a a′ : List ℕ) (kind size : ℕ) (r : Moved) (z : number ≡ 0) (lm : length m ≡ 8192) (lg : length g ≡ 100) (la : length a ≡ 8704)
-    (right : wrongModes (modesOf g) ≡ false) (ek : kind ≡ kindWritten taken g) (es : size ≡ pictureRegisters kind)
+module _ (took number : ℕ) (m g a a′ : List ℕ) (kind size : ℕ) (r : Moved) (z : number ≡ 0) (lm : length m ≡ 8192) (lg : length g ≡ 100) (la : length a ≡ 8704)
+    (right : wrongModes (modesOf g) ≡ false) (ek : kind ≡ kindWritten took g) (es : size ≡ pictureRegisters kind)
     (q : _≡_ {A = ContentLeft} (record { answer = r; buffer = a′ }) (pictureWritten kind m (take size g) a)) where
   abbrev x : List ℕ
   x = take (pictureRegisters kind) g
 
   is : isPicture kind ≡ true
-  is = ap isPicture ek ∙ written-picture taken g
+  is = ap isPicture ek ∙ written-picture took g
 
   lx : length x ≡ pictureRegisters kind
   lx = front-length kind g lg
@@ -168,10 +168,10 @@ module _ (taken number : ℕ) (m g a a′ : List ℕ) (kind size : ℕ) (r : Mov
       ∙ sym (answered-no-row rows 8704 (ap not (picture-right kind is), (ap not (are-fits kind (length m) (length x) is lm lx), (front-right kind g is lg right, (le-ltb (length a) 8704 (omega arith), tt)))))
 
   -- it is what is written
-  same : b ≡ afterOf taken number m g
-  same = ap (λ (k : ℕ). blocksOf k (pictureOf m (take (pictureRegisters k) g))) ek ∙ sym (after-done taken number m g z)
+  same : b ≡ afterOf took number m g
+  same = ap (λ (k : ℕ). blocksOf k (pictureOf m (take (pictureRegisters k) g))) ek ∙ sym (after-done took number m g z)
 
-  pub kept : (r .bytes ≤ 8704) × (r .bytes ≡ length (afterOf taken number m g)) × (a′ ≡ over (afterOf taken number m g) a)
+  pub kept : (r .bytes ≤ 8704) × (r .bytes ≡ length (afterOf took number m g)) × (a′ ≡ over (afterOf took number m g) a)
   kept =
       let n : r .bytes ≡ 8704 = ap (λ (y : Moved). y .bytes) all in (
         omega arith,

@@ -1,16 +1,15 @@
 -- The program on its three files: what it prints, and the picture that it writes. Document 01, The program; document 02, Seven and Eight. A letter is its ASCII code.
-use mathlib.Core.Bool.{cond, not, _&&_, _||_}
-use mathlib.Core.List.{List, [], _∷_, _++_, replicate}
+use mathlib.Core.Bool.{true, cond, not, _&&_, _||_}
+use mathlib.Core.List.{List, [], _++_, replicate}
 use Prim.Native.Nat.{ℕ}
 use lib.Dec.{eqb, leb, ltb}
 use lib.ListN.{length, take, drop}
-use Rattle.bits.specs.Rows.{row}
-use Rattle.registers.specs.Modes.{modesOf, modeBytes, noneSet, wrongModes, anySet}
+use Rattle.registers.specs.Modes.{modesOf, modeBytes, noneSet, anySet}
 use Rattle.blocks.specs.Block.{twoAt}
 use Rattle.contents.specs.declared.Moved.{Moved}
 use Rattle.contents.specs.File.{pictureKind, listKind, itemsKind, modesPictureKind, done, refused, contentOf, fileJudged, blocksOf}
 use Rattle.contents.specs.Content.{readAnswer, over}
-use Rattle.pictures.specs.Picture.{pictureWords, pictureRegisters, pictureFile, pictureOf, scrambled, contentModes}
+use Rattle.pictures.specs.Picture.{pictureWords, pictureRegisters, pictureFile, pictureOf, scrambled, contentModes, pictureReadRows}
 use Rattle.judge.specs.declared.Answer.{Answer}
 use Rattle.module.specs.Run.{Left, ran}
 use Rattle.report.specs.Report.{printed}
@@ -50,9 +49,9 @@ kindTaken absent = pictureKind
 kindTaken failed = pictureKind
 kindTaken (bytes b) = kindOf b
 
--- The picture judged as in Blocks on disk, "then 15 for bad flags".
+-- The picture judged as in Blocks on disk, "then 15 for bad flags": as a reader does, into targets that fit.
 abbrev pub pictureJudged : List ℕ → Moved
-pictureJudged b = readAnswer (kindOf b) b (row 15 (wrongModes (contentModes (contentOf b))) ∷ []) (length (contentOf b))
+pictureJudged b = readAnswer (kindOf b) b (pictureReadRows true (contentModes (contentOf b))) (length (contentOf b))
 
 -- "An absent before.pic .. refused with 20." "An absent run.lst is the empty list and an absent in.itm means no items." 16 blocks are 8,192 bytes.
 abbrev pub pictureAnswer : File → Moved
@@ -80,20 +79,20 @@ onlyLine letter a = record { text = printed letter (a .number) (a .place) 0 0 0 
 
 -- "Writes back the kind it took, or kind 4 if a register is set at the end."
 unfoldable pub kindWritten : ℕ → List ℕ → ℕ
-kindWritten taken regs = cond (eqb taken modesPictureKind || anySet (modesOf regs)) modesPictureKind pictureKind
+kindWritten took regs = cond (eqb took modesPictureKind || anySet (modesOf regs)) modesPictureKind pictureKind
 
 -- "If done writes after.pic": the picture of memory and registers after the run, and nothing where the number is not 0. One of kind 1 has M, X and Y, the first 96 register bytes.
 unfoldable pub afterOf : ℕ → ℕ → List ℕ → List ℕ → List ℕ
-afterOf taken number mem regs =
-    let kind = kindWritten taken regs in
+afterOf took number mem regs =
+    let kind = kindWritten took regs in
     cond (eqb number 0) (blocksOf kind (pictureOf mem (take (pictureRegisters kind) regs))) []
 
 -- "Otherwise there is one r line. After a run that is done, each given item follows": a run that is refused has given none.
 unfoldable pub finished : ℕ → Left (List ℕ) Answer → Outcome
-finished taken s =
+finished took s =
     record {
       text = printed 114 (s .answer .number) (s .answer .place) (s .answer .byte) (s .answer .steps) (s .answer .taken) (s .answer .given) (s .out);
-      after = afterOf taken (s .answer .number) (s .memory) (s .registers);
+      after = afterOf took (s .answer .number) (s .memory) (s .registers);
     }
 
 -- "Has 8,192 out bytes."
@@ -114,14 +113,14 @@ unlessRefused letter a next = cond (not (eqb (a .number) 0)) (onlyLine letter a)
 
 -- "It reads before.pic, run.lst and in.itm in that order": p, l and i. The last stage, with what the others took, runs.
 unfoldable pub withItems : ℕ → List ℕ → List ℕ → List ℕ → File → Outcome
-withItems taken memory registers list items =
+withItems took memory registers list items =
     unlessRefused 105 (contentAnswer itemsKind items)
-    (finished taken (ran (record { memory = memory; registers = registers; list = list; items = contentIn items; out = outBytes })))
+    (finished took (ran (record { memory = memory; registers = registers; list = list; items = contentIn items; out = outBytes })))
 
 -- The second, with the kind that was taken, the memory and the registers.
 unfoldable pub withList : ℕ → List ℕ → List ℕ → File → File → Outcome
-withList taken memory registers list items =
-    unlessRefused 108 (contentAnswer listKind list) (withItems taken memory registers (contentIn list) items)
+withList took memory registers list items =
+    unlessRefused 108 (contentAnswer listKind list) (withItems took memory registers (contentIn list) items)
 
 -- The first, and so the program.
 unfoldable pub outcome : File → File → File → Outcome

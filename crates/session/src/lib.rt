@@ -1,5 +1,7 @@
 // All of a run in a folder but the system's calls: what the program prints and writes, from what was found of its three files.
 // Document 01, The program; document 02, Seven and Eight.
+use contents::ITEMS;
+use contents::LIST;
 use contents::MODES_PICTURE;
 use contents::Moved;
 use contents::PICTURE;
@@ -179,10 +181,10 @@ fn print_run(a: judge::Answer, out: &[u8], text: &mut [u8]) -> usize
 }
 
 // The kind of after.pic.
-fn kind_written(taken: usize, registers: &[u8]) -> usize
-    ensures { λ r. ⌜ r ≡ kindWritten taken (now (registers .entry)) ⌝ }
+fn kind_written(took: usize, registers: &[u8]) -> usize
+    ensures { λ r. ⌜ r ≡ kindWritten took (now (registers .entry)) ⌝ }
 {
-    if taken == MODES_PICTURE {
+    if took == MODES_PICTURE {
         return MODES_PICTURE;
     }
     if any_set(modes_of(registers)) {
@@ -192,16 +194,16 @@ fn kind_written(taken: usize, registers: &[u8]) -> usize
 }
 
 // The picture after a run that is done, and its size; nothing after one that is not.
-fn keep(taken: usize, number: u8, memory: &[u8], registers: &[u8], after: &mut [u8]) -> usize
+fn keep(took: usize, number: u8, memory: &[u8], registers: &[u8], after: &mut [u8]) -> usize
     requires { ⌜ (length (now memory) ≡ 8192) × (length (now registers) ≡ 100) × (length (now after) ≡ 8704)
         × (number ≡ 0 → wrongModes (modesOf (now registers)) ≡ false) ⌝ }
-    ensures { λ r. ⌜ (r ≤ 8704) × (r ≡ length (afterOf taken number (now (memory .entry)) (now (registers .entry))))
-        × (now (after .exit) ≡ over (afterOf taken number (now (memory .entry)) (now (registers .entry))) (now (after .entry))) ⌝ }
+    ensures { λ r. ⌜ (r ≤ 8704) × (r ≡ length (afterOf took number (now (memory .entry)) (now (registers .entry))))
+        × (now (after .exit) ≡ over (afterOf took number (now (memory .entry)) (now (registers .entry))) (now (after .entry))) ⌝ }
 {
     if number != 0 {
         return 0;
     }
-    let kind = kind_written(taken, registers);
+    let kind = kind_written(took, registers);
     let size = pictures::registers_bytes(kind);
     let written = pictures::write_picture(kind, memory, &registers[..size], after);
     written.bytes
@@ -209,7 +211,7 @@ fn keep(taken: usize, number: u8, memory: &[u8], registers: &[u8], after: &mut [
 
 // The run, its lines and its picture.
 fn finish(
-    taken: usize,
+    took: usize,
     memory: &mut [u8],
     registers: &mut [u8],
     list: &[u8],
@@ -221,7 +223,7 @@ fn finish(
     requires { ⌜ (length (now memory) ≡ 8192) × (length (now registers) ≡ 100) × (length (now out) ≡ 8192)
         × (length (now after) ≡ 8704) × (16708 ≤ length (now text)) ⌝ }
     ensures text { λ r. ⌜ Shown
-        (finished taken (ran (record {
+        (finished took (ran (record {
           memory = now (memory .entry);
           registers = now (registers .entry);
           list = now (list .entry);
@@ -230,7 +232,7 @@ fn finish(
         })))
         r (now (text .entry)) (now (text .exit)) ⌝ }
     ensures after { λ r. ⌜ now (after .exit) ≡ over
-        (finished taken (ran (record {
+        (finished took (ran (record {
           memory = now (memory .entry);
           registers = now (registers .entry);
           list = now (list .entry);
@@ -241,13 +243,13 @@ fn finish(
 {
     let a = module::run(memory, registers, list, items, out);
     let n = print_run(a, out, text);
-    let w = keep(taken, a.number, memory, registers, after);
+    let w = keep(took, a.number, memory, registers, after);
     Counts { text: n, after: w }
 }
 
 // The last stage, in.itm: its line, or the run on it and on what was taken before.
 fn with_items(
-    taken: usize,
+    took: usize,
     memory: &mut [u8],
     registers: &mut [u8],
     list: &[u8],
@@ -258,20 +260,20 @@ fn with_items(
 ) -> Counts
     requires { ⌜ (length (now memory) ≡ 8192) × (length (now registers) ≡ 100)
         × (length (now after) ≡ 8704) × (16708 ≤ length (now text)) ⌝ }
-    ensures text { λ r. ⌜ Shown (withItems taken (now (memory .entry)) (now (registers .entry)) (now (list .entry))
+    ensures text { λ r. ⌜ Shown (withItems took (now (memory .entry)) (now (registers .entry)) (now (list .entry))
         (fileOf i (now (items .entry)))) r (now (text .entry)) (now (text .exit)) ⌝ }
-    ensures after { λ r. ⌜ now (after .exit) ≡ over (withItems taken (now (memory .entry)) (now (registers .entry))
+    ensures after { λ r. ⌜ now (after .exit) ≡ over (withItems took (now (memory .entry)) (now (registers .entry))
         (now (list .entry)) (fileOf i (now (items .entry))) .after) (now (after .entry)) ⌝ }
 {
     let mut lent = blank();
-    let read_i = take_content(i, 3, items, &mut lent);
+    let read_i = take_content(i, ITEMS, items, &mut lent);
     if read_i.number != 0 {
         return print_line(b'i', read_i, text);
     }
     let n = read_i.bytes;
     let mut out = blank();
     finish(
-        taken,
+        took,
         memory,
         registers,
         list,
@@ -284,7 +286,7 @@ fn with_items(
 
 // The second stage, run.lst: its line, or the last stage.
 fn with_list(
-    taken: usize,
+    took: usize,
     memory: &mut [u8],
     registers: &mut [u8],
     l: Found,
@@ -296,18 +298,18 @@ fn with_list(
 ) -> Counts
     requires { ⌜ (length (now memory) ≡ 8192) × (length (now registers) ≡ 100)
         × (length (now after) ≡ 8704) × (16708 ≤ length (now text)) ⌝ }
-    ensures text { λ r. ⌜ Shown (withList taken (now (memory .entry)) (now (registers .entry)) (fileOf l (now (list .entry)))
+    ensures text { λ r. ⌜ Shown (withList took (now (memory .entry)) (now (registers .entry)) (fileOf l (now (list .entry)))
         (fileOf i (now (items .entry)))) r (now (text .entry)) (now (text .exit)) ⌝ }
-    ensures after { λ r. ⌜ now (after .exit) ≡ over (withList taken (now (memory .entry)) (now (registers .entry))
+    ensures after { λ r. ⌜ now (after .exit) ≡ over (withList took (now (memory .entry)) (now (registers .entry))
         (fileOf l (now (list .entry))) (fileOf i (now (items .entry))) .after) (now (after .entry)) ⌝ }
 {
     let mut lent = blank();
-    let read_l = take_content(l, 2, list, &mut lent);
+    let read_l = take_content(l, LIST, list, &mut lent);
     if read_l.number != 0 {
         return print_line(b'l', read_l, text);
     }
     let n = read_l.bytes;
-    with_items(taken, memory, registers, &lent[..n], i, items, after, text)
+    with_items(took, memory, registers, &lent[..n], i, items, after, text)
 }
 
 // The program, from what was found of before.pic, run.lst and in.itm and the buffers that they were read into: the text to

@@ -14,7 +14,7 @@ use Rattle.contents.specs.File.{refused, contentOf}
 use Rattle.contents.proofs.FileLaws.{Stands, file-stands}
 use Rattle.contents.proofs.PayloadLaws.{payloads-room, content-read}
 use Rattle.contents.specs.Content.{answered, targetFits, readRows, contentRead}
-use Rattle.contents.proofs.AnswerLaws.{answered-none, read-refused, read-rows, left-old, left-new, refused-not}
+use Rattle.contents.proofs.AnswerLaws.{answered-none, read-refused, read-rows, left-unmoved, left-changed, refused-not}
 use Rattle.contents.proofs.read_content.Statement.{statement}
 use Rattle.contents.proofs.read_content.Tie as tie
 
@@ -34,7 +34,7 @@ unfolding contentRead
 returns c =
     let a = c .before .before .before .before .args in
     let j = c .before .judge-file in
-    left-old (j .result) _ _ _ (read-refused (a .kind) (now (a .bytes)) _ _ (j .result) (j .ensures) (c .if1 .taken)) (c .if1 .taken)
+    left-unmoved (j .result) _ _ _ (read-refused (a .kind) (now (a .bytes)) _ _ (j .result) (j .ensures) (c .if1 .taken)) (c .if1 .taken)
 
 returns-2 : tie.Need-returns-2
 unfolding contentRead
@@ -43,7 +43,7 @@ returns-2 c =
     let j = c .before .before .before .before .judge-file in
     let f : targetFits (a .kind) (now (a .bytes)) (now (a .target)) ≡ false =
     ap (λ (t : Bool). not t && leb (length (contentOf (now (a .bytes)))) (length (now (a .target)))) (sym (c .before .before .is-picture .ensures) ∙ c .before .if2 .taken) in
-    left-old (c .refused .result) _ _ _
+    left-unmoved (c .refused .result) _ _ _
     (c .refused .ensures ∙ unfit _ f _ ∙ read-rows (a .kind) (now (a .bytes)) _ _ (j .result) (j .ensures) (c .before .before .before .if1 .left))
     (refused-not (c .refused .result) 26 0 (c .refused .ensures) (λ x. omega arith))
 
@@ -57,7 +57,7 @@ returns-3 c =
     let l : length (now (a .target)) < length (contentOf b) = omega (arith, ap (λ x. x .bytes) (j .ensures ∙ s .answer), c .before .if3 .taken) in
     let f : targetFits (a .kind) b (now (a .target)) ≡ false =
     ap₂ (λ (x y : Bool). not x && y) (sym (c .before .before .before .is-picture .ensures) ∙ c .before .before .if2 .left) (lt-leb (length (contentOf b)) (length (now (a .target))) l) in
-    left-old (c .refused2 .result) _ _ _
+    left-unmoved (c .refused2 .result) _ _ _
     (c .refused2 .ensures ∙ unfit _ f _ ∙ read-rows (a .kind) b _ _ (j .result) (j .ensures) (c .before .before .before .before .if1 .left))
     (refused-not (c .refused2 .result) 26 0 (c .refused2 .ensures) (λ x. omega arith))
 
@@ -83,7 +83,7 @@ returns-4 c =
     let n : j .result .bytes ≡ length (contentOf b) = ap (λ x. x .bytes) (j .ensures ∙ s .answer) in
     let f : targetFits (a .kind) b t ≡ true =
     ap₂ (λ (x y : Bool). not x && y) (sym (e .before .before .is-picture .ensures) ∙ e .before .if2 .left) (le-leb (length (contentOf b)) (length t) (omega (arith, n, e .if3 .left))) in
-    left-new (j .result) _ _ _
+    left-changed (j .result) _ _ _
     (j .ensures ∙ s .answer ∙ answered-none (readRows (targetFits (a .kind) b t)) (length (contentOf b)) (ap (λ (x : Bool). numberOf (readRows x)) f) ∙ read-rows (a .kind) b _ _ (j .result) (j .ensures) z) _
     (content-read (a .kind) b s t _ (j .result .bytes) n (e .if3 .left) (c .before .before .part-of .ensures)) z
 

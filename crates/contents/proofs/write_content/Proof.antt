@@ -14,7 +14,7 @@ use Rattle.contents.specs.Content.{over, contentFits, writeRows, content
 use Rattle.contents.specs.Payloads.{payloads}
 use Rattle.contents.proofs.FileLaws.{size-le, kind-le}
 use Rattle.contents.proofs.PayloadLaws.{laid-sealed}
-use Rattle.contents.proofs.AnswerLaws.{answered-no-row, answered-first, left-old, left-new, refused-not}
+use Rattle.contents.proofs.AnswerLaws.{answered-no-row, answered-first, left-unmoved, left-changed, refused-not}
 use Rattle.contents.proofs.write_content.Statement.{statement}
 use Rattle.contents.proofs.write_content.Tie as tie
 
@@ -31,7 +31,7 @@ returns : tie.Need-returns
 unfolding contentWritten
 returns c =
     let r = c .refused in
-    left-old (r .result) _ _ _
+    left-unmoved (r .result) _ _ _
     (r .ensures ∙ answered-first _ _ 22 (λ x. omega arith) (inl (ap not (sym (c .before .before .kind-right .ensures) ∙ not-true _ (c .before .if1 .taken)), refl)))
     (refused-not (r .result) 22 0 (r .ensures) (λ x. omega arith))
 
@@ -42,7 +42,7 @@ returns-2 c =
     let r = c .refused2 in
     let f : contentFits (a .kind) (now (a .content)) ≡ false =
     ap (λ (t : Bool). not t && sizeFits (a .kind) (length (now (a .content)))) (sym (c .before .before .is-picture .ensures) ∙ c .before .if2 .taken) in
-    left-old (r .result) _ _ _ (r .ensures ∙ answered-first _ _ 26 (λ x. omega arith) (inr (ap not (kind-ok (c .before .before .before)), inl (ap not f, refl))))
+    left-unmoved (r .result) _ _ _ (r .ensures ∙ answered-first _ _ 26 (λ x. omega arith) (inr (ap not (kind-ok (c .before .before .before)), inl (ap not f, refl))))
     (refused-not (r .result) 26 0 (r .ensures) (λ x. omega arith))
 
 returns-3 : tie.Need-returns-3
@@ -53,7 +53,7 @@ returns-3 c =
     let f : contentFits (a .kind) (now (a .content)) ≡ false =
     ap₂ (λ (x y : Bool). not x && y) (sym (c .before .before .before .before .is-picture .ensures) ∙ c .before .before .before .if2 .left)
     (sym (c .before .before .size-fits .ensures) ∙ not-true _ (c .before .if3 .taken)) in
-    left-old (r .result) _ _ _ (r .ensures ∙ answered-first _ _ 26 (λ x. omega arith) (inr (ap not (kind-ok (c .before .before .before .before .before)), inl (ap not f, refl))))
+    left-unmoved (r .result) _ _ _ (r .ensures ∙ answered-first _ _ 26 (λ x. omega arith) (inr (ap not (kind-ok (c .before .before .before .before .before)), inl (ap not f, refl))))
     (refused-not (r .result) 26 0 (r .ensures) (λ x. omega arith))
 
 block-count-requires : tie.Need-block-count-requires
@@ -65,7 +65,7 @@ returns-4 c =
     let a = c .before .before .before .before .before .before .before .before .before .before .before .args in
     let r = c .refused4 in
     let h : length (now (a .out)) < 512 * blockCount (length (now (a .content))) = omega (arith, c .before .before .block-count .ensures, c .before .if4 .taken) in
-    left-old (r .result) _ _ _
+    left-unmoved (r .result) _ _ _
     (r .ensures
     ∙ answered-first _ _ 27 (λ x. omega arith)
     (inr (ap not (kind-ok (c .before .before .before .before .before .before .before)), inr (ap not (both (c .before .before .before)), inl (lt-ltb _ _ h, refl)))))
@@ -93,7 +93,7 @@ returns-5 c =
     let h : 512 * blockCount (length (now (a .content))) ≤ length (now (a .out)) = omega (arith, e, d .if4 .left) in
     let p = c .before .before .before .before .before .before .before .put-part in
     let rows = writeRows (a .kind) (contentFits (a .kind) (now (a .content))) (512 * blockCount (length (now (a .content)))) (length (now (a .out))) in
-    left-new (r .result) _ _ _
+    left-changed (r .result) _ _ _
     (r .ensures
     ∙ ap (λ (k : ℕ). done (512 * k)) e
     ∙ answered-no-row rows _ (ap not (kind-ok (d .before .before .before .before .before .before)), (ap not (both (d .before .before)), (le-ltb _ _ h, tt)))) _

@@ -12,7 +12,7 @@ use Rattle.contents.specs.File.{isPicture, done, contentOf, fileJudged}
 use Rattle.pictures.specs.Picture.{pictureRegisters, contentModes, pictureFits, pictureReadRows, pictureRead}
 use Rattle.contents.proofs.FileLaws.{file-stands}
 use Rattle.contents.proofs.AnswerLaws.{refused-not, answered-no-row, answered-first, read-refused, read-rows}
-use Rattle.pictures.proofs.PictureLaws.{fits-are, picture-judged, both-old, both-new}
+use Rattle.pictures.proofs.PictureLaws.{fits-are, picture-judged, both-unmoved, both-changed}
 use Rattle.pictures.proofs.read_picture.Statement.{statement}
 use Rattle.pictures.proofs.read_picture.Tie as tie
 
@@ -35,7 +35,7 @@ unfolding pictureRead
 returns c =
     let a = c .before .before .before .before .before .args in
     let j = c .before .judge-file in
-    both-old (j .result) _ _ _ _ _ (read-refused (a .kind) (now (a .bytes)) _ _ (j .result) (j .ensures) (c .if1 .taken)) (c .if1 .taken)
+    both-unmoved (j .result) _ _ _ _ _ (read-refused (a .kind) (now (a .bytes)) _ _ (j .result) (j .ensures) (c .if1 .taken)) (c .if1 .taken)
 
 returns-2 : tie.Need-returns-2
 unfolding pictureRead
@@ -44,7 +44,7 @@ returns-2 c =
     let j = c .before .before .before .before .judge-file in
     let r = c .refused in
     let f : pictureFits (a .kind) (length (now (a .memory))) (length (now (a .registers))) ≡ false = sym (c .before .before .picture-fits .ensures) ∙ not-true _ (c .before .if2 .taken) in
-    both-old (r .result) _ _ _ _ _
+    both-unmoved (r .result) _ _ _ _ _
     (r .ensures ∙ answered-first _ _ 26 (λ x. omega arith) (inl (ap not f, refl)) ∙ read-rows (a .kind) (now (a .bytes)) _ _ (j .result) (j .ensures) (c .before .before .before .if1 .left))
     (refused-not (r .result) 26 0 (r .ensures) (λ x. omega arith))
 
@@ -58,7 +58,7 @@ returns-3 c =
     let a = e .before .before .before .before .before .before .before .args in
     let j = e .before .before .before .judge-file in
     let r = c .refused2 in
-    both-old (r .result) _ _ _ _ _
+    both-unmoved (r .result) _ _ _ _ _
     (r .ensures
     ∙ answered-first _ _ 15 (λ x. omega arith) (inr (ap not (fits-ok e), inl (sym (c .before .before .flags-wrong .ensures) ∙ c .before .if3 .taken, refl)))
     ∙ read-rows (a .kind) (now (a .bytes)) _ _ (j .result) (j .ensures) (e .before .before .if1 .left))
@@ -82,7 +82,7 @@ returns-4 c =
     let t = c .before .before .before .before .unload-picture in
     let s = file-stands (a .kind) (now (a .bytes)) (judged-0 (e .before .before)) in
     let rows = pictureReadRows (pictureFits (a .kind) (length (now (a .memory))) (length (now (a .registers)))) (contentModes (contentOf (now (a .bytes)))) in
-    both-new (j .result) _ _ _ _ _
+    both-changed (j .result) _ _ _ _ _
     (j .ensures ∙ s .answer
     ∙ answered-no-row rows _ (ap not (fits-ok e), (sym (g .before .flags-wrong .ensures) ∙ g .if3 .left, tt))
     ∙ read-rows (a .kind) (now (a .bytes)) _ _ (j .result) (j .ensures) z)

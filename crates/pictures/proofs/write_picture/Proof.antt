@@ -10,7 +10,7 @@ use denote.Ref.{now}
 use Rattle.registers.specs.Modes.{modesOf, wrongModes}
 use Rattle.contents.specs.File.{kindRight}
 use Rattle.pictures.specs.Picture.{pictureFits, pictureWriteRows, pictureWritten}
-use Rattle.contents.proofs.AnswerLaws.{left-old, left-new, refused-not, answered-no-row, answered-first}
+use Rattle.contents.proofs.AnswerLaws.{left-unmoved, left-changed, refused-not, answered-no-row, answered-first}
 use Rattle.pictures.proofs.write_picture.Statement.{statement}
 use Rattle.pictures.proofs.write_picture.Tie as tie
 
@@ -28,7 +28,7 @@ returns : tie.Need-returns
 unfolding pictureWritten
 returns c =
     let r = c .refused in
-    left-old (r .result) _ _ _
+    left-unmoved (r .result) _ _ _
     (r .ensures ∙ answered-first _ _ 22 (λ x. omega arith) (inl (ap not (sym (c .before .before .kind-right .ensures) ∙ not-true _ (c .before .if1 .taken)), refl)))
     (refused-not (r .result) 22 0 (r .ensures) (λ x. omega arith))
 
@@ -38,7 +38,7 @@ returns-2 c =
     let a = c .before .before .before .before .before .before .before .before .args in
     let r = c .refused2 in
     let f : pictureFits (a .kind) (length (now (a .memory))) (length (now (a .registers))) ≡ false = sym (c .before .before .picture-fits .ensures) ∙ not-true _ (c .before .if2 .taken) in
-    left-old (r .result) _ _ _ (r .ensures ∙ answered-first _ _ 26 (λ x. omega arith) (inr (ap not (kind-ok (c .before .before .before)), inl (ap not f, refl))))
+    left-unmoved (r .result) _ _ _ (r .ensures ∙ answered-first _ _ 26 (λ x. omega arith) (inr (ap not (kind-ok (c .before .before .before)), inl (ap not f, refl))))
     (refused-not (r .result) 26 0 (r .ensures) (λ x. omega arith))
 
 returns-3 : tie.Need-returns-3
@@ -46,7 +46,7 @@ unfolding pictureWritten
 returns-3 c =
     let e = c .before .before .before .before in
     let r = c .refused3 in
-    left-old (r .result) _ _ _
+    left-unmoved (r .result) _ _ _
     (r .ensures
     ∙ answered-first _ _ 15 (λ x. omega arith)
     (inr (ap not (kind-ok (e .before .before)), inr (ap not (fits-ok e), inl (sym (modes-are (c .before .before)) ∙ c .before .if3 .taken, refl)))))
@@ -58,7 +58,7 @@ returns-4 c =
     let g = c .before .before in
     let e = g .before .before .before in
     let r = c .refused4 in
-    left-old (r .result) _ _ _
+    left-unmoved (r .result) _ _ _
     (r .ensures
     ∙ answered-first _ _ 27 (λ x. omega arith)
     (inr (ap not (kind-ok (e .before .before)), inr (ap not (fits-ok e), inr (sym (modes-are (g .before)) ∙ g .if3 .left, inl (lt-ltb _ _ (c .before .if4 .taken), refl))))))
@@ -76,7 +76,7 @@ returns-5 c =
     let a = e .before .before .before .before .before .before .before .args in
     let r = c .done in
     let rows = pictureWriteRows (a .kind) (pictureFits (a .kind) (length (now (a .memory))) (length (now (a .registers)))) (modesOf (now (a .registers))) (length (now (a .out))) in
-    left-new (r .result) _ _ _
+    left-changed (r .result) _ _ _
     (r .ensures
     ∙ answered-no-row rows _ (ap not (kind-ok (e .before .before)), (ap not (fits-ok e), (sym (modes-are (g .before)) ∙ g .if3 .left, (le-ltb _ _ (h .if4 .left), tt)))))
     _ (c .before .before .before .put-picture .ensures) (ap (λ x. x .number) (r .ensures))

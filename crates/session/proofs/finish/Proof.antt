@@ -57,7 +57,7 @@ returns c =
     let s = ran (lent q) in
     let k = c .before .before .keep in
     let t = p .print-run in
-    finished-shown (a .taken) (finished (a .taken) s) s _ _ _ (q .run .result) (t .result) (k .result) (now (a .text)) (t .last .1 .1 .0)
+    finished-shown (a .took) (finished (a .took) s) s _ _ _ (q .run .result) (t .result) (k .result) (now (a .text)) (t .last .1 .1 .0)
     (now (a .after)) (k .last .1 .1 .1 .1 .0) refl (q .run .ensures) (t .ensures .0) (t .ensures .1 .0) (t .ensures .1 .1)
     (k .ensures .0) (k .ensures .1) (k .ensures .2)
 

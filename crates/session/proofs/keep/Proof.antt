@@ -15,7 +15,7 @@ use Rattle.session.proofs.keep.Tie as tie
 returns : tie.Need-returns
 returns c =
     let a = c .before .before .before .before .args in
-    let e = sym (after-none (a .taken) (a .number) (now (a .memory)) (now (a .registers)) (c .if1 .taken)) in
+    let e = sym (after-none (a .took) (a .number) (now (a .memory)) (now (a .registers)) (c .if1 .taken)) in
     (omega arith, ap length e, ap (λ (x : List _). over x (now (a .after))) e)
 
 slice-aggregate-write-picture : tie.Need-slice-aggregate-write-picture
@@ -31,7 +31,7 @@ returns-2 c =
     let a = s .args in
     let w = c .before .before .write-picture in
     let z = n .before .before .if1 .left in
-    kept (a .taken) (a .number) (now (a .memory)) (now (a .registers)) (now (a .after)) (w .last .1 .1 .1 .0) (n .before .kind-written .result) (n .registers-bytes .result) (w .result)
+    kept (a .took) (a .number) (now (a .memory)) (now (a .registers)) (now (a .after)) (w .last .1 .1 .1 .0) (n .before .kind-written .result) (n .registers-bytes .result) (w .result)
     z (s .pre .0) (s .pre .1) (s .pre .2) (s .pre .3 z) (n .before .kind-written .ensures) (n .registers-bytes .ensures) (w .ensures)
 
 pub keep-spec : {M : Type 1} → statement M

@@ -48,7 +48,7 @@ returns-2 c =
     let r = t .take-content in
     next-shown 105 (r .result) _ _ _ (f .finish .result) (now (a .text)) _ (now (a .after)) _ (r .ensures .0) (n .if1 .left)
     (ap₂
-    (λ (items out : List ℕ). finished (a .taken) (ran (record {
+    (λ (items out : List ℕ). finished (a .took) (ran (record {
       memory = now (a .memory);
       registers = now (a .registers);
       list = now (a .list);

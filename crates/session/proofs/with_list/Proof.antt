@@ -45,7 +45,7 @@ returns-2 c =
     let a = start t .args in
     let r = t .take-content in
     next-shown 108 (r .result) _ _ _ (w .with-items .result) (now (a .text)) _ (now (a .after)) _ (r .ensures .0) (n .if1 .left)
-    (ap (λ (list : List ℕ). withItems (a .taken) (now (a .memory)) (now (a .registers)) list (fileOf (a .i) (now (a .items))))
+    (ap (λ (list : List ℕ). withItems (a .took) (now (a .memory)) (now (a .registers)) list (fileOf (a .i) (now (a .items))))
     (sym (r .ensures .1 .0 (n .if1 .left) .1)))
     (w .with-items .ensures)
 

@@ -10,7 +10,7 @@ use denote.Ref.{now}
 use Rattle.registers.specs.Modes.{modeBytes, noneSet}
 use Rattle.contents.specs.Payloads.{laid}
 use Rattle.contents.proofs.FileLaws.{Stands, file-stands}
-use Rattle.contents.proofs.AnswerLaws.{left-old, left-new, refused-not, answered-no-row, answered-first, read-refused, read-rows}
+use Rattle.contents.proofs.AnswerLaws.{left-unmoved, left-changed, refused-not, answered-no-row, answered-first, read-refused, read-rows}
 use Rattle.pictures.specs.Conversion.{toNewRows, toNew}
 use Rattle.pictures.proofs.ConversionLaws.{picture-length, copied-over, new-sealed}
 use Rattle.pictures.proofs.convert.to_new.Statement.{statement}
@@ -24,7 +24,7 @@ returns : tie.Need-returns
 unfolding toNew
 returns c =
     let j = c .before .judge-file in
-    left-old (j .result) _ _ _ (read-refused 1 _ _ _ (j .result) (j .ensures) (c .if1 .taken)) (c .if1 .taken)
+    left-unmoved (j .result) _ _ _ (read-refused 1 _ _ _ (j .result) (j .ensures) (c .if1 .taken)) (c .if1 .taken)
 
 returns-2 : tie.Need-returns-2
 unfolding toNew
@@ -32,7 +32,7 @@ returns-2 c =
     let e = c .before .before in
     let j = e .before .judge-file in
     let r = c .refused in
-    left-old (r .result) _ _ _
+    left-unmoved (r .result) _ _ _
     (r .ensures ∙ answered-first _ _ 27 (λ x. omega arith) (inl (lt-ltb _ _ (c .before .if2 .taken), refl)) ∙ read-rows 1 _ _ _ (j .result) (j .ensures) (e .if1 .left))
     (refused-not (r .result) 27 0 (r .ensures) (λ x. omega arith))
 
@@ -54,7 +54,7 @@ returns-3 c =
     let out = now (a .out) in
     let j = e .before .judge-file in
     let r = c .done in
-    left-new (r .result) _ _ _
+    left-changed (r .result) _ _ _
     (r .ensures ∙ answered-no-row (toNewRows (length out)) _ (le-ltb _ _ (h .if2 .left), tt) ∙ read-rows 1 _ _ _ (j .result) (j .ensures) (e .if1 .left))
     _
     (c .before .before .before .seal-all .ensures

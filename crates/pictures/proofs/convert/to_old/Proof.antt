@@ -10,7 +10,7 @@ use denote.Ref.{now}
 use Rattle.registers.specs.Modes.{wrongModes, anySet}
 use Rattle.contents.specs.File.{contentOf}
 use Rattle.contents.proofs.FileLaws.{Stands, file-stands}
-use Rattle.contents.proofs.AnswerLaws.{left-old, left-new, refused-not, answered-no-row, answered-first, read-refused, read-rows}
+use Rattle.contents.proofs.AnswerLaws.{left-unmoved, left-changed, refused-not, answered-no-row, answered-first, read-refused, read-rows}
 use Rattle.pictures.specs.Picture.{contentModes}
 use Rattle.pictures.specs.Conversion.{toOldRows, toOld}
 use Rattle.pictures.proofs.PictureLaws.{picture-judged}
@@ -36,7 +36,7 @@ returns : tie.Need-returns
 unfolding toOld
 returns c =
     let j = c .before .judge-file in
-    left-old (j .result) _ _ _ (read-refused 4 _ _ _ (j .result) (j .ensures) (c .if1 .taken)) (c .if1 .taken)
+    left-unmoved (j .result) _ _ _ (read-refused 4 _ _ _ (j .result) (j .ensures) (c .if1 .taken)) (c .if1 .taken)
 
 returns-2 : tie.Need-returns-2
 unfolding toOld
@@ -45,7 +45,7 @@ returns-2 c =
     let e = w .before .before in
     let j = e .before .judge-file in
     let r = c .refused in
-    left-old (r .result) _ _ _
+    left-unmoved (r .result) _ _ _
     (r .ensures ∙ answered-first _ _ 15 (λ x. omega arith) (inl (sym (flags w) ∙ c .before .if2 .taken, refl)) ∙ read-rows 4 _ _ _ (j .result) (j .ensures) (e .if1 .left))
     (refused-not (r .result) 15 0 (r .ensures) (λ x. omega arith))
 
@@ -57,7 +57,7 @@ returns-3 c =
     let e = w .before .before in
     let j = e .before .judge-file in
     let r = c .refused2 in
-    left-old (r .result) _ _ _
+    left-unmoved (r .result) _ _ _
     (r .ensures
     ∙ answered-first _ _ 28 (λ x. omega arith) (inr (sym (flags w) ∙ n .before .if2 .left, inl (sym (sets n) ∙ c .before .if3 .taken, refl)))
     ∙ read-rows 4 _ _ _ (j .result) (j .ensures) (e .if1 .left))
@@ -72,7 +72,7 @@ returns-4 c =
     let e = w .before .before in
     let j = e .before .judge-file in
     let r = c .refused3 in
-    left-old (r .result) _ _ _
+    left-unmoved (r .result) _ _ _
     (r .ensures
     ∙ answered-first _ _ 27 (λ x. omega arith)
     (inr (sym (flags w) ∙ n .before .if2 .left, inr (sym (sets n) ∙ o .if3 .left, inl (lt-ltb _ _ (c .before .if4 .taken), refl))))
@@ -100,7 +100,7 @@ returns-5 c =
     let rows = toOldRows (contentModes (contentOf b)) (length out) in
     let j = e .before .judge-file in
     let r = c .done in
-    left-new (r .result) _ _ _
+    left-changed (r .result) _ _ _
     (r .ensures
     ∙ answered-no-row rows _ (sym (flags w) ∙ n .before .if2 .left, (sym (sets n) ∙ o .if3 .left, (le-ltb _ _ (h .if4 .left), tt)))
     ∙ read-rows 4 _ _ _ (j .result) (j .ensures) (e .if1 .left))
