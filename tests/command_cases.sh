@@ -196,6 +196,17 @@ python 'files.write("each/before.pic", files.blocks(4, bytes(8288)))'
 call "$staran" why each; [ $status -eq 1 ] && [ "$(head -n 1 "$work/out")" = 'p 25 0 0 0 0 0' ] && grep -qx 'Every block is good, but a picture of kind 4 has 8292 bytes, and not 8288.' "$work/out"; judge "why: a picture of kind 4 that is too short" $?
 folder each; python 'files.write("each/run.lst", files.blocks(2, bytes(9)))'
 call "$staran" why each; [ $status -eq 1 ] && [ "$(head -n 1 "$work/out")" = 'l 25 0 0 0 0 0' ] && grep -qx 'Every block is good, but lists are whole instructions of 8 bytes, and 9 bytes are not.' "$work/out"; judge "why: a list of nine bytes" $?
+# before.pic is looked at no further than is needed: a long one, and one that can be read only once
+folder each; truncate -s 3G each/before.pic
+call "$staran" why each; [ $status -eq 1 ] && [ "$(head -n 1 "$work/out")" = 'p 20 0 0 0 0 0' ]; judge "why: a picture of 3 GB" $?
+# shellcheck disable=SC2016
+call sh -c 'ulimit -v 1000000; exec "$0" each p 20 0 0' "$here/tools/why.py"; [ $status -eq 0 ] && grep -qx 'before.pic has 3221225472 bytes, 6291456 blocks.' "$work/out"; judge "why: it is not read" $?
+once() { rm -f each/before.pic; mkfifo each/before.pic; timeout 60 cat good/before.pic >each/before.pic & } # before.pic as a pipe
+folder each 02030000FF000000; once; call "$staran" why each; wait
+[ $status -eq 1 ] && [ "$(head -n 1 "$work/out")" = 'r 7 0 2 0 0 0' ] && grep -q 'byte 2  00  mode tag: no mode is given.*<-- here' "$work/out"; judge "why: a picture from a pipe" $?
+rm each/before.pic; folder each 02030200FF000000; once; call "$staran" why each; wait
+[ $status -eq 1 ] && [ "$(head -n 1 "$work/out")" = 'r 14 0 2 0 0 0' ] && grep -qx 'why: before.pic is no plain file, and is not read again' "$work/err"; judge "why: and what it had is not guessed" $?
+rm each/before.pic; folder each
 # with 12 and 13 no byte is wrong, and none is marked
 folder each 0404000000000000; call "$staran" why each
 [ $status -eq 1 ] && [ "$(head -n 1 "$work/out")" = 'r 12 0 0 0 0 0' ] && ! grep -q 'here$' "$work/out" && grep -qx 'No byte of it is wrong. The list takes 1 item.' "$work/out"; judge "why: 12, and no byte is marked" $?
@@ -218,6 +229,16 @@ for name, modes in ("one", None), ("four", [0] * 4), ("set", [1, 255, 1, 0]), ("
 for name, kind, size in ("short", 1, 8292), ("cut", 4, 8288), ("list", 2, 16):
     files.write("pictures/" + name, files.blocks(kind, bytes(size)))'
 cp pictures/one pictures/damaged; printf '\001\002' | dd of=pictures/damaged bs=1 seek=1600 conv=notrunc status=none
+python 'good = files.blocks(1, bytes(8288))
+def altered(name, block, changes):
+    front = bytearray(good[512 * block:512 * block + 508])
+    for at, value in changes:
+        front[at] = value
+    files.write("pictures/" + name, good[:512 * block] + bytes(front) + files.sums(front) + good[512 * block + 512:])
+altered("moved", 2, [(2, 3)])
+altered("used", 0, [(6, 200), (7, 0)])
+altered("stray", 5, [(8, 7), (11, 9)])
+altered("behind", 16, [(363, 1), (364, 2), (507, 3)])'
 : >pictures/empty; printf x >pictures/byte; head -c 40960 /dev/zero >pictures/long
 gives "convert new" 0 'new.pic: a picture of kind 4; the words, M, X and Y of pictures/one, and neither mode register set. A build before version 5.1 does not read it.' "$staran" convert new pictures/one new.pic
 cmp -s new.pic pictures/four && [ ! -s "$work/err" ] && [ "$(wc -l <"$work/out")" -eq 1 ]; judge "it is kind 4, and nothing else is said" $?
@@ -245,10 +266,17 @@ new|four|22|four, block 0|It is a good picture of kind 4 as it stands: there is 
 new|set|22|set, block 0|It is a good picture of kind 4 as it stands: there is nothing to convert.
 old|one|22|one, block 0|It is a good picture of kind 1 as it stands: there is nothing to convert.
 new|list|22|list, block 0|  kind         2  it must be 1, picture   <-- here
+new|moved|23|moved, block 2|  number       3  it must be 2, its place   <-- here
+new|used|24|used, block 0|  used       200  of 496 bytes of payload; 496 in every block but the last   <-- here
+new|stray|24|stray, block 5|  byte 8       7  it must be 0: it has no use   <-- here
+new|behind|24|behind, block 16|  byte 364     2  it must be 0: it is payload behind what is used   <-- here
 new|short|25|short|Every block is good, but a picture of kind 1 has 8288 bytes, and not 8292.
 old|cut|25|cut|Every block is good, but a picture of kind 4 has 8292 bytes, and not 8288.
 ROWS
 call "$staran" convert new pictures/list x.pic; [ $status -eq 1 ] && ! grep -q 'nothing to convert' "$work/out"; judge "of a list that is not said" $?
+call "$staran" convert new pictures/stray x.pic; [ "$(grep -c '<-- here$' "$work/out")" -eq 1 ]; judge "of 24 the first byte that is wrong is marked, and no other" $?
+cp pictures/list $'pictures/\377'; PYTHONIOENCODING=utf-8:strict call "$staran" convert new $'pictures/\377' x.pic
+[ $status -eq 1 ] && [ ! -s "$work/err" ] && LC_ALL=C grep -q $'at byte 0 of \377, which has 1 block' "$work/out"; judge "a name that is no text" $?
 cp old.pic there.pic
 complains "convert: a file that is there is not written over" 2 'staran: there.pic: it is there, and is not written over: name a file that is not there' "$staran" convert new pictures/one there.pic
 cmp -s there.pic old.pic; judge "and is as it was" $?
@@ -259,7 +287,8 @@ cmp -s there.pic old.pic; judge "all of which leave it as it was" $?
 ln -s nothing dangling.pic; complains "convert: a link that leads nowhere is there too" 2 'dangling.pic: it is there' "$staran" convert new there.pic dangling.pic
 [ ! -e nothing ]; judge "and nothing is made where it leads" $?
 complains "convert: a folder for the file to be made" 2 'staran: good: a folder; name the file that is to be made in it' "$staran" convert new there.pic good
-complains "convert: no file" 2 'staran: missing: no such file' "$staran" convert new missing x.pic
+complains "convert: no file, with the reason" 2 'missing: No such file or directory' "$staran" convert new missing x.pic
+complains "convert: a name that is too long" 2 'staran: a name has at most 4,095 bytes' "$staran" convert new there.pic "$(printf '%4094s' '' | tr ' ' x)"
 complains "convert: a folder" 2 'staran: good: a folder; the picture in it is before.pic or after.pic' "$staran" convert old good x.pic
 complains "convert: an empty name" 2 'an empty name is no file' "$staran" convert new '' x.pic
 complains "convert: another" 2 'an empty name is no file' "$staran" convert new there.pic ''
@@ -290,7 +319,8 @@ converted "names that are dashes alone" --- -- new -- --- --
 converted "names of tasks" new old new new old
 converted "quotes, a dollar and a star" "a'q\"\$d*" '*' new "a'q\"\$d*" '*'
 converted "a backslash" 'from\nhere' 'to\tthere' new 'from\nhere' 'to\tthere'
-complains "convert: and it is said as it is" 2 'staran: from\nhere: no such file' "$staran" convert new 'from\nhere' x.pic
+complains "convert: and it is said as it is" 2 'from\nhere: No such file or directory' "$staran" convert new 'from\nhere' x.pic
+mkdir 'a\nfolder'; complains "convert: by the command too" 2 'staran: a\nfolder: a folder;' "$staran" convert new 'a\nfolder' x.pic
 converted "paths from the root" from to new "$work/from" "$work/to"
 converted "a path from the root and one from here" from to new "$work/from" to
 converted "into a folder" from good/to new from good/to

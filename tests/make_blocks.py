@@ -53,17 +53,26 @@ def blocks(kind, content):
     return out
 
 
+def used_fits(used, number, count):
+    """May a block at its place use so many bytes of payload?"""
+    return used == 496 if number < count - 1 else used <= 496 and (used > 0 or count == 1)
+
+
+def strays(block):
+    """The bytes of a block, by their numbers, that must be 0 and are not: the four behind its head, and the payload behind what is used."""
+    used = block[6] + 256 * block[7]
+    return [k for k in [*range(8, 12), *range(12 + used, 508)] if block[k]]
+
+
 def block_fault(kind, block, number, count):
     """The first of 21 to 24 that a block at its place meets, or 0."""
-    used = block[6] + 256 * block[7]
-    last = number == count - 1
     if block[508:] != sums(block[:508]):
         return 21
     if block[:2] != two(kind):
         return 22
     if block[2:6] != two(number) + two(count):
         return 23
-    if used > 496 or (not last and used != 496) or (last and used == 0 and count > 1) or any(block[8:12] + block[12 + used:508]):
+    if not used_fits(block[6] + 256 * block[7], number, count) or strays(block):
         return 24
     return 0
 
@@ -289,9 +298,12 @@ def write(path, data, replace=True):
 
 def set_beside(path):
     """The tags of the mode registers that are set in the before.pic beside a file; none where there is no such picture."""
+    beside = os.path.join(os.path.dirname(path), 'before.pic')
     try:
-        with open(os.path.join(os.path.dirname(path), 'before.pic'), 'rb') as file:
-            data = file.read()
+        if not os.path.isfile(beside):
+            return ()
+        with open(beside, 'rb') as file:
+            data = file.read(34305)
     except OSError:
         return ()
     return () if file_fault(taken(data), data) != (0, 0) else set_by(modes_in(data))

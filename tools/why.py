@@ -138,11 +138,14 @@ def show_modes(steps, place, kind, start):
 
 def show_instruction(folder, number, place, byte):
     data = files.content(files.LIST, contents(os.path.join(folder, 'run.lst')), 'run.lst')
-    picture = contents(os.path.join(folder, 'before.pic'))
-    files.content(files.taken(picture), picture, 'before.pic')
-    start = files.set_by(files.modes_in(picture))
     steps = [data[at:at + 8] for at in range(0, len(data), 8)]
     i = steps[place]
+    by_register = files.touches(i) and i[2] in files.MODE_REGISTERS
+    start = {}
+    if by_register:
+        picture = contents(os.path.join(folder, 'before.pic'))
+        files.content(files.taken(picture), picture, 'before.pic')
+        start = files.set_by(files.modes_in(picture))
     modes = {**start, **{j[2]: j[3] for j in steps[:place] if j[0] == files.SET_MODE}}
     lacks = {12: 'The list takes %s.' % counted(sum(j[1] == 4 for j in steps), 'item'),
              13: 'The list gives %s.' % counted(sum(j[0] in (4, 5) for j in steps), 'item')}
@@ -151,7 +154,7 @@ def show_instruction(folder, number, place, byte):
         print('  byte %d  %02x  %s%s' % (k, i[k], text, '   <-- here' if k == byte and number not in lacks else ''))
     if number in lacks:
         print('No byte of it is wrong. ' + lacks[number])
-    if files.touches(i) and i[2] in files.MODE_REGISTERS:
+    if by_register:
         show_modes(steps, place, files.taken(picture), start)
 
 
@@ -163,15 +166,17 @@ def show_block(name, data, kinds, place):
     def pair(at):
         return block[at] + 256 * block[at + 1]
     print('Block %d, counted from 0, at byte %d of %s, which has %s:' % (place, 512 * place, name, counted(len(data) // 512, 'block')))
-    right = files.sums(block[:508])
-    rows = [('kind', pair(0), kind, 'it must be ' + ', or '.join('%d, %s' % (k, files.NAMES[k]) for k in kinds)),
-            ('number', pair(2), place, 'it must be %d, its place' % place),
-            ('blocks', pair(4), len(data) // 512, 'it must be %d, for so many are there' % (len(data) // 512)),
-            ('used', pair(6), None, 'of 496 bytes of payload; 496 in every block but the last'),
-            ('s1', pair(508), right[0] + 256 * right[1], 'the sum of its bytes is %d' % (right[0] + 256 * right[1])),
-            ('s2', pair(510), right[2] + 256 * right[3], 'the weighted sum of its bytes is %d' % (right[2] + 256 * right[3]))]
-    for name, found, must, text in rows:
-        print('  %-7s %6d  %s%s' % (name, found, text, '   <-- here' if must is not None and found != must else ''))
+    count, right = len(data) // 512, files.sums(block[:508])
+    rows = [('kind', pair(0), pair(0) == kind, 'it must be ' + ', or '.join('%d, %s' % (k, files.NAMES[k]) for k in kinds)),
+            ('number', pair(2), pair(2) == place, 'it must be %d, its place' % place),
+            ('blocks', pair(4), pair(4) == count, 'it must be %d, for so many are there' % count),
+            ('used', pair(6), files.used_fits(pair(6), place, count), 'of 496 bytes of payload; 496 in every block but the last'),
+            ('s1', pair(508), block[508:510] == right[:2], 'the sum of its bytes is %d' % (right[0] + 256 * right[1])),
+            ('s2', pair(510), block[510:] == right[2:], 'the weighted sum of its bytes is %d' % (right[2] + 256 * right[3]))]
+    strays = files.strays(block) if files.used_fits(pair(6), place, count) else []
+    rows += [('byte %d' % k, block[k], False, 'it must be 0: %s' % ('it has no use' if k < 12 else 'it is payload behind what is used')) for k in strays[:1]]
+    for name, found, fits, text in rows:
+        print('  %-8s %5d  %s%s' % (name, found, text, '' if fits else '   <-- here'))
 
 
 def show_registers(name, data, number):
@@ -203,9 +208,12 @@ def show_size(path, kind, number):
         print('Every block is good, but %s.' % files.size_fault(kind, len(files.payload(contents(path)))))
 
 
-def contents(path):
+def contents(path, most=-1):
+    """The bytes of a file, or so many of them at most. What is no plain file, as a pipe, was read by the program and is not read again."""
+    if os.path.exists(path) and not os.path.isfile(path):
+        raise files.Refused('%s is no plain file, and is not read again' % os.path.basename(path))
     with open(path, 'rb') as file:
-        return file.read()
+        return file.read(most)
 
 
 def show_file(path, kinds, number, place):
@@ -229,7 +237,7 @@ def show_folder(folder, letter, number, place, byte):
         show_file(path, [files.LIST if letter == 'l' else files.ITEMS], number, place)
     else:
         # before.pic may be of either kind; its first two bytes, 4 and 0 or not, say which it is taken for
-        kind = files.taken(contents(path)) if os.path.isfile(path) else files.PICTURE
+        kind = files.taken(contents(path, 2)) if os.path.isfile(path) else files.PICTURE
         show_file(path, [kind] if kind == files.MODES_PICTURE or place else [kind, files.MODES_PICTURE], number, place)
 
 
@@ -251,6 +259,7 @@ def main(words):
 
 
 if __name__ == '__main__':
+    sys.stdout.reconfigure(errors='surrogateescape')  # a file may have any bytes for its name
     try:
         main(sys.argv[1:])
     except files.Refused as refused:
