@@ -85,7 +85,7 @@ extern "C" {
 
 /* The version of this header, and the linked library's: see staran_version. */
 #define STARAN_VERSION_MAJOR 5
-#define STARAN_VERSION_MINOR 1
+#define STARAN_VERSION_MINOR 2
 #define STARAN_VERSION (STARAN_VERSION_MAJOR * UINT32_C(65536) + STARAN_VERSION_MINOR)
 
 /* Lengths in bytes. The registers of a picture of kind 1 are M, X and Y, the first 96 bytes of a run's; of one of kind 4 they are all 100,
@@ -125,6 +125,7 @@ extern "C" {
 #define STARAN_DISK_NUMBERS 3
 #define STARAN_LIST_NUMBERS 2
 #define STARAN_LIST_AND_ITEMS_NUMBERS 3
+#define STARAN_ISOLATED_NUMBERS 2
 #define STARAN_PASS_NUMBERS 1
 
 /* Where each number of a run's or a step's answer stands: answer[STARAN_ANSWER_BYTE] is the byte. */
@@ -454,6 +455,34 @@ void staran_closing_list(uint32_t a, uint32_t s, uint32_t n, const uint8_t *mark
  * Stack: at most 256 bytes. */
 void staran_spreading_list(uint32_t a, uint32_t s, uint32_t n, const uint8_t *marks, size_t marks_length, uint8_t *list,
                            size_t list_length, uint8_t *items, size_t items_length, uint32_t answer[STARAN_LIST_AND_ITEMS_NUMBERS]);
+
+/* Says of a list whether it is one in which no station can disturb another: kinds 0 to 3 and 6 alone, mode 0 in every access of memory,
+ * no flips and no shifts. Then what becomes of a station depends on that station alone; the list may still write every station, as a sum
+ * writes S in every word. Nothing else of the list is judged, and nothing runs.
+ *
+ * What 0 promises: take two runs of the list that are done, whose memories, M, X, Y and items may differ in any other way but agree on
+ * word P, on bit P of M, X and Y, on bit P of each item taken, and in the mode registers, which are those asked about. Afterwards word P,
+ * bit P of M, X and Y, and the mode registers are the same in both, and both out buffers are as they were. That holds for each P.
+ *
+ * list        a multiple of 8 bytes, at most 32,768, else 3
+ * registers   100 bytes, else 2, with which the run will start. The four bytes of the mode registers count alone, and are refused with 15 as
+ *             a run refuses them: M, X and Y may hold anything
+ * answer      number, place
+ *
+ * Judged: 2, 3, 15, as by staran_run_4, at place 0; then 40, at the first instruction (its number, counted from 0) that breaks the condition:
+ * - its kind is 4, 5 or over 6; or
+ * - byte 5 or byte 6 is not 0, of whatever kind it is; or
+ * - it touches memory (kinds 0 and 1 with source 0, kinds 2 and 3 always) and its mode is not 0. It is 0 with tag 1 and 0 in byte 3; and,
+ *   whatever byte 3 is, with tag 2 or 3 where that register is then set, at the start or by an earlier kind 6, and holds 0. A register
+ *   that is not set holds no mode, and tag 0 and tags over 3 give none: 40 too.
+ * A kind 6 with tag 2 or 3 sets its register, whatever bytes 1, 4 and 7 are, and may load any mode, as long as no access uses it; with
+ * another tag it sets nothing. Else 0 and place 0: also for an empty list, and for a list whose run is refused all the same (1, 4, 12, or
+ * 6 to 9 and 11 of an instruction). An answer of 40 does not say that a station is disturbed, but that nothing is promised.
+ * The lists for sums, differences, equal and less are such lists; those for greatest, closing and spreading are not.
+ * Nothing is written but the answer.
+ * Stack: at most 64 bytes. */
+void staran_isolated(const uint8_t *list, size_t list_length, const uint8_t *registers, size_t registers_length,
+                     uint32_t answer[STARAN_ISOLATED_NUMBERS]);
 
 /* Reads the blocks of a list or of items.
  *

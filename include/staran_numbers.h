@@ -11,9 +11,10 @@ enum {
     STARAN_DONE = 0,
     /* run, step: the memory is not 8,192 bytes */
     STARAN_REFUSED_MEMORY_LENGTH = 1,
-    /* run: the registers are not 100 bytes */
+    /* run, isolated: the registers are not 100 bytes */
     STARAN_REFUSED_REGISTERS_LENGTH = 2,
-    /* run, step: the list is not a multiple of 8 bytes, or over 32,768; a step's instruction is not 8 bytes */
+    /* run, step, isolated: the list is not a multiple of 8 bytes, or over 32,768; a step's instruction is not 8
+       bytes */
     STARAN_REFUSED_LIST_LENGTH = 3,
     /* run, step: the items are not a multiple of 32 bytes, or over 32,768 */
     STARAN_REFUSED_ITEMS_LENGTH = 4,
@@ -39,8 +40,8 @@ enum {
     /* run, step: memory is touched with tag 2, register A, or tag 3, register B, and that register is not set: its
        flag is 0 at the start, and no earlier kind 6 set it */
     STARAN_REFUSED_MODE_UNSET = 14,
-    /* run, step, reading, writing, converting: the mode registers, as they are lent or as a picture of kind 4 has
-       them: a flag is over 1, or a mode is not 0 though its flag is 0 */
+    /* run, step, isolated, reading, writing, converting: the mode registers, as they are lent or as a picture of
+       kind 4 has them: a flag is over 1, or a mode is not 0 though its flag is 0 */
     STARAN_REFUSED_MODE_REGISTERS = 15,
     /* run, step, pass: byte 6, 16p + m: p is over 8, a group of more than 256 lines */
     STARAN_REFUSED_GROUP_TOO_WIDE = 16,
@@ -86,7 +87,11 @@ enum {
     /* searches for equal and less: the number is 2^n or more, n being the width */
     STARAN_REFUSED_NUMBER_TOO_LARGE = 34,
     /* closing and spreading: the marks are not 32 bytes */
-    STARAN_REFUSED_MARKS_LENGTH = 35
+    STARAN_REFUSED_MARKS_LENGTH = 35,
+    /* isolated: the instruction at the place breaks the condition under which one station cannot disturb another:
+       its kind is not 0 to 3 or 6; byte 5, the flip, or byte 6, the shift, is not 0; or it touches memory and its
+       mode is not 0, or none is given */
+    STARAN_REFUSED_NOT_ISOLATED = 40
 };
 
 /* What a number means, in words: when it is given. A number that is never given has a sentence too; the pointer is never null.
@@ -174,6 +179,10 @@ static inline const char *staran_meaning(uint32_t number)
         return "the number is 2^n or more, n being the width";
     case STARAN_REFUSED_MARKS_LENGTH:
         return "the marks are not 32 bytes";
+    case STARAN_REFUSED_NOT_ISOLATED:
+        return "the instruction at the place breaks the condition under which one station cannot disturb another: "
+               "its kind is not 0 to 3 or 6; byte 5, the flip, or byte 6, the shift, is not 0; or it touches memory "
+               "and its mode is not 0, or none is given";
     default:
         return "no such number is ever given";
     }

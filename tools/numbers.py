@@ -19,13 +19,13 @@ What the program and the library give back, when, and what to do about it. `./st
 and `./staran why FOLDER` runs a folder and says what its number means there. In C a number has the name below with `STARAN_` in front, and
 `staran_meaning` gives its meaning as text. tools/numbers.py makes this page from docs/numbers.tsv, where the table is kept.
 
-**Place** is counted from 0. It is the instruction for 5 to 9, 11 to 14 and 16 to 18, the block for 21 to 24, and otherwise 0; of a step it is always 0.
+**Place** is counted from 0. It is the instruction for 5 to 9, 11 to 14, 16 to 18 and 40, the block for 21 to 24, and otherwise 0; of a step it is always 0.
 **Byte**, 0 to 7, is the first byte of that instruction that is wrong by the number given. A run and a step answer with it, and the program prints it behind
 the place on every line. It is 0 where the table has none: for done, where no instruction is spoken of, and for 12 and 13, whose instruction is right by itself.
 **Order**: the first number that applies is given. A run judges 1, 2, 3, 4, 15; then each instruction in turn, 5 to 9, 14, 18, 16, 17, 11 within it; then 12;
 then 13. A step judges 1, 3, 4, 15 and so on. Reading judges the kind asked for (22), 20, then each block in turn, 21 to 24 within it, then 25, then 26, then 15;
 writing 22, 26, 15, 27: in both 15 is of a picture of kind 4 alone. Converting a picture judges the file as reading does, to 25; then, new to old, 15 and 28; then 27.
-A list's builder judges 35, 30, 31, 32, 34, 33, in this order, those of them that it has.
+A list's builder judges 35, 30, 31, 32, 34, 33, in this order, those of them that it has. Who asks whether a list is isolated is answered 2, 3, 15; then 40.
 A refusal has 0 for all counts and changes nothing that was lent; the program then writes no after.pic.
 10 is not given: since version 4.0 it is 18, 16 or 17.
 

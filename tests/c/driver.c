@@ -3,12 +3,14 @@
  *     driver lengths   calls every function with good and bad lengths, and counts
  *     driver judging   has instructions judged by a run and by a step, and counts
  *     driver modes     has lists judged and run with mode registers, and counts
+ *     driver isolated  asks of lists whether they are isolated, runs those that are, and counts
  *     driver searches  builds searches over a field, runs them, and counts
  *     driver closing   builds lists that close up a field and spread it back, runs them, and counts
  *     driver pictures  reads, writes and converts pictures of either kind, and counts
  *     driver unwritten makes calls that leave their buffers on buffers that cannot be written, and counts
  * The exit status is 0 where nothing failed. tests/c/run builds and runs it. */
 #include "closing.h"
+#include "isolated.h"
 #include "judging.h"
 #include "lengths.h"
 #include "lent.h"
@@ -33,6 +35,8 @@ int main(int count, char **words)
         return judging();
     if (count == 2 && strcmp(words[1], "modes") == 0)
         return modes();
+    if (count == 2 && strcmp(words[1], "isolated") == 0)
+        return isolated();
     if (count == 2 && strcmp(words[1], "searches") == 0)
         return searches();
     if (count == 2 && strcmp(words[1], "closing") == 0)
@@ -41,6 +45,6 @@ int main(int count, char **words)
         return pictures();
     if (count == 2 && strcmp(words[1], "unwritten") == 0)
         return unwritten();
-    fputs("usage: driver cases | driver lengths | driver judging | driver modes | driver searches | driver closing | driver pictures | driver unwritten\n", stderr);
+    fputs("usage: driver cases | driver lengths | driver judging | driver modes | driver isolated | driver searches | driver closing | driver pictures | driver unwritten\n", stderr);
     return 2;
 }

@@ -356,6 +356,37 @@ static void move_lengths(const char *name, mover *build, int spreads)
     function(name);
 }
 
+/* ---- whether a list is isolated: every instruction stores a slice, so that the lengths alone decide; or the last one flips too */
+
+static void isolated_once(size_t registers, size_t list, int flips, int end)
+{
+    static const uint8_t store[8] = {2, 3, 1, 0, 13, 0, 0, 0};
+    uint32_t expected[STARAN_ISOLATED_NUMBERS] = {0, 0}, *answer;
+    check("isolated: registers %zu, list %zu, %s", registers, list, flips ? "the last flips" : "none flips");
+    nothing_lent(end);
+    lend_registers(draw_modes(), registers, end);
+    lend(LIST, list, end);
+    fill_with(LIST, store);
+    if (flips && list >= 8)
+        buffers[LIST].bytes[list / 8 * 8 - 3] = buffers[LIST].expected[list / 8 * 8 - 3] = 1;
+    if (registers != 100)
+        expected[0] = 2;
+    else if (list % 8 != 0 || list > 32768)
+        expected[0] = 3;
+    else if (flips && list >= 8)
+        expected[0] = 40, expected[1] = (uint32_t)(list / 8 - 1);
+    answer = lend_answer(STARAN_ISOLATED_NUMBERS, end);
+    staran_isolated(WHOLE(LIST), WHOLE(REGISTERS), answer);
+    settle(answer, STARAN_ISOLATED_NUMBERS, expected);
+}
+
+static void isolated_lengths(void)
+{
+    for (size_t i = 0; i < 2 * ENDS * COUNT(registers_lengths) * COUNT(list_lengths); i++)
+        isolated_once(registers_lengths[i / 2 / ENDS % COUNT(registers_lengths)], list_lengths[i / 2 / ENDS / COUNT(registers_lengths)], (int)(i / ENDS % 2), (int)(i % ENDS));
+    function("isolated");
+}
+
 /* ---- disk: kinds, file lengths, targets, damaged blocks */
 
 #define OVER_32_BITS(kind) (((size_t)1 << 32) + (kind))
@@ -607,6 +638,8 @@ static void refused_long(uint8_t *far, size_t long_by)
     LONG_CALL(step_5(WHOLE(MEMORY), record, far, long_by + 8, WHOLE(ITEMS), WHOLE(OUT), answer), STARAN_RUN_NUMBERS, 3);
     lend_bytes(LIST, deliver_outside, 8, LAST);
     LONG_CALL(step_5(WHOLE(MEMORY), record, WHOLE(LIST), far, long_by + 32, WHOLE(OUT), answer), STARAN_RUN_NUMBERS, 4);
+    LONG_CALL(isolated(far, long_by + 8, WHOLE(REGISTERS), answer), STARAN_ISOLATED_NUMBERS, 3);
+    LONG_CALL(isolated(WHOLE(LIST), far, long_by + 100, answer), STARAN_ISOLATED_NUMBERS, 2);
     lend(REGISTERS, 96, LAST);
     LONG_CALL(read_content(STARAN_CONTENT_LIST, far, long_by + 512, WHOLE(OUT), answer), 3, 20);
     LONG_CALL(read_picture(STARAN_CONTENT_PICTURE, far, long_by + 8704, WHOLE(MEMORY), WHOLE(REGISTERS), answer), 3, 20);
@@ -795,6 +828,7 @@ int lengths(void)
     greatest_lengths();
     move_lengths("closing_list", staran_closing_list, 0);
     move_lengths("spreading_list", staran_spreading_list, 1);
+    isolated_lengths();
     read_lengths();
     read_picture_lengths();
     damaged_blocks();

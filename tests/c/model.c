@@ -468,10 +468,10 @@ void model_convert(int old, const uint8_t *file, size_t length, uint8_t *out, si
 
 enum { NUMBER, PLACE, BYTE, STEPS, TAKEN, GIVEN, NUMBERS };
 
-/* Kind 6 sets the register of its tag to byte 3. */
+/* Kind 6 sets the register of its tag to byte 3. With a tag that names none, which a run refuses, it sets nothing. */
 static void set_mode(const uint8_t *i, uint8_t modes[4])
 {
-    if (i[0] == 6) {
+    if (i[0] == 6 && (i[2] == 2 || i[2] == 3)) {
         modes[2 * (i[2] - 2)] = 1;
         modes[2 * (i[2] - 2) + 1] = i[3];
     }
@@ -596,5 +596,52 @@ void model_run(int step, const model_lent *l, uint32_t answer[NUMBERS])
         act(i, l->memory, l->registers, l->items + 32 * answer[TAKEN], l->out + 32 * answer[GIVEN]);
         answer[TAKEN] += (uint32_t)takes(i);
         answer[GIVEN] += (uint32_t)gives(i);
+    }
+}
+
+/* ---- whether a list is isolated: what is lent is judged, then each instruction, by the mode registers before it */
+
+/* Is the mode of an access 0: the one given, or that of a register which is set? */
+static int mode_zero(const uint8_t modes[4], const uint8_t *i)
+{
+    switch (i[2]) {
+    case 1:
+        return i[3] == 0;
+    case 2:
+        return modes[0] == 1 && modes[1] == 0;
+    case 3:
+        return modes[2] == 1 && modes[3] == 0;
+    default:
+        return 0;
+    }
+}
+
+/* Does an instruction break the condition? */
+static int breaks(const uint8_t modes[4], const uint8_t *i)
+{
+    const int touches = i[0] == 2 || i[0] == 3 || ((i[0] == 0 || i[0] == 1) && i[1] == 0);
+    return i[0] == 4 || i[0] == 5 || i[0] > 6 || i[5] != 0 || i[6] != 0 || (touches && !mode_zero(modes, i));
+}
+
+void model_isolated(const uint8_t *list, size_t list_length, const uint8_t *registers, size_t registers_length, uint32_t answer[2])
+{
+    uint8_t modes[4];
+    answer[NUMBER] = answer[PLACE] = 0;
+    if (registers_length != 100)
+        answer[NUMBER] = 2;
+    else if (list_length % 8 != 0 || list_length > 32768)
+        answer[NUMBER] = 3;
+    else if (model_wrong_modes(registers + 96))
+        answer[NUMBER] = 15;
+    if (answer[NUMBER] != 0)
+        return;
+    memcpy(modes, registers + 96, 4);
+    for (size_t place = 0; place < list_length / 8; place++) {
+        if (breaks(modes, list + 8 * place)) {
+            answer[NUMBER] = 40;
+            answer[PLACE] = (uint32_t)place;
+            return;
+        }
+        set_mode(list + 8 * place, modes);
     }
 }

@@ -75,4 +75,7 @@ typedef struct {
 /* What a run (`step` 0) or a step (1) answers, and what it leaves in memory, registers and out: bit by bit, of any list. */
 void model_run(int step, const model_lent *lent, uint32_t answer[6]);
 
+/* Whether a list is isolated, for a run that starts with these registers: the number and the place that are answered. */
+void model_isolated(const uint8_t *list, size_t list_length, const uint8_t *registers, size_t registers_length, uint32_t answer[2]);
+
 #endif

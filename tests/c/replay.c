@@ -9,7 +9,7 @@
 #include <string.h>
 
 enum { RECORD = 1000, FEWEST_NUMBERS = 5, NUMBERS = 3 + STARAN_RUN_NUMBERS, COUNT = 6, WORDS = NUMBERS + COUNT, REPEAT = 254, SEAL = 255 };
-enum { RUN, STEP, SUM_RUN = 10, DIFFERENCE_RUN, EQUAL_RUN, LESS_RUN, GREATEST_RUN, CLOSING_RUN, SPREADING_RUN, READ_PICTURE, WRITE_PICTURE, MADE_NEW, MADE_OLD, KINDS };
+enum { RUN, STEP, SUM_RUN = 10, DIFFERENCE_RUN, EQUAL_RUN, LESS_RUN, GREATEST_RUN, CLOSING_RUN, SPREADING_RUN, READ_PICTURE, WRITE_PICTURE, MADE_NEW, MADE_OLD, ISOLATED, KINDS };
 
 /* A case, taken apart: every kind that is known here has COUNT buffers and at most four parameters. */
 typedef struct {
@@ -240,6 +240,11 @@ static unsigned call(const outside_case *c, int end, uint32_t words[WORDS])
         (kind == MADE_NEW ? staran_picture_to_new : staran_picture_to_old)(WHOLE(FILE_BYTES), WHOLE(LIST), a);
         memcpy(words, a, 12);
         return 1u << LIST;
+    case ISOLATED:
+        a = lend_answer(STARAN_ISOLATED_NUMBERS, end);
+        staran_isolated(WHOLE(LIST), WHOLE(REGISTERS), a);
+        memcpy(words, a, 4 * STARAN_ISOLATED_NUMBERS);
+        return 0;
     default:
         a = lend_answer(3, end);
         staran_write_picture(kind == 9 ? STARAN_CONTENT_PICTURE : p[0], WHOLE(MEMORY), WHOLE(REGISTERS), WHOLE(FILE_BYTES), a);

@@ -1,4 +1,5 @@
-/* A call that is refused, and a run of no instructions, write nothing at all, not even the same bytes back: every buffer but the answer's stands in memory that cannot be written. */
+/* A call that is refused, a run of no instructions, and the question whether a list is isolated, whatever its answer, write nothing at all, not even the same bytes back: every
+ * buffer but the answer's stands in memory that cannot be written. */
 #include "unwritten.h"
 
 #include "checks.h"
@@ -86,6 +87,43 @@ static void mode_registers(void)
     call_with(a_set, "kind 6 with an address", address, sizeof address, 0, 32, STARAN_REFUSED_MODE_UNUSED, 0, 4);
     call_with(a_set, "kind 6 with a flip", flip, sizeof flip, 0, 32, STARAN_REFUSED_MOVE_BARRED, 0, 5);
     call("a good kind 6 before a bad instruction", set_then_not, sizeof set_then_not, 0, 32, STARAN_REFUSED_MODE_UNSET, 1, 2);
+}
+
+/* Whether a list is isolated, asked with these mode registers. */
+static void question(const char *name, const uint8_t modes[4], size_t registers, const uint8_t *list, size_t length, uint32_t number, uint32_t place)
+{
+    const uint32_t expected[STARAN_ISOLATED_NUMBERS] = {number, place};
+    for (int end = 0; end < ENDS; end++) {
+        lend_registers(modes, registers, end);
+        lend_bytes(LIST, list, length, end);
+        uint32_t *answer = lend_answer(STARAN_ISOLATED_NUMBERS, end);
+        shut_rooms();
+        check("question that writes nothing: %s", name);
+        staran_isolated(WHOLE(LIST), WHOLE(REGISTERS), answer);
+        expect(answer, STARAN_ISOLATED_NUMBERS, expected);
+        open_rooms();
+    }
+}
+
+static void questions(void)
+{
+    static const uint8_t a_holds_0[4] = {1, 0, 0, 0}, flag[4] = {2, 0, 0, 0}, mode[4] = {1, 7, 0, 1};
+    static const uint8_t stays[] = {6, 0, 2, 0, 0, 0, 0, 0, 2, 3, 2, 0, 13, 0, 0, 0, 6, 0, 3, 255, 0, 0, 0, 0, 0, 0, 1, 0, 9, 0, 0, 0x46},
+                         flips[] = {2, 3, 1, 0, 13, 0, 0, 0, 0, 0, 1, 0, 9, 1, 0, 0x46}, by_b[] = {2, 3, 2, 0, 13, 0, 0, 0, 2, 3, 3, 0, 13, 0, 0, 0};
+    static uint8_t longest[32768], longer[32776];
+    for (size_t i = 0; i < sizeof longer; i++)
+        longer[i] = stays[i % sizeof stays];
+    memcpy(longest, longer, sizeof longest);
+    question("no instruction", unset, 100, stays, 0, STARAN_DONE, 0);
+    question("an isolated list", unset, 100, stays, sizeof stays, STARAN_DONE, 0);
+    question("the longest isolated list", a_holds_0, 100, longest, sizeof longest, STARAN_DONE, 0);
+    question("registers of 96 bytes", unset, 96, stays, sizeof stays, STARAN_REFUSED_REGISTERS_LENGTH, 0);
+    question("a list of 7 bytes", unset, 100, stays, 7, STARAN_REFUSED_LIST_LENGTH, 0);
+    question("a list too long", unset, 100, longer, sizeof longer, STARAN_REFUSED_LIST_LENGTH, 0);
+    question("a flag over 1", flag, 100, stays, sizeof stays, STARAN_REFUSED_MODE_REGISTERS, 0);
+    question("a mode behind flag 0, and no instruction", mode, 100, stays, 0, STARAN_REFUSED_MODE_REGISTERS, 0);
+    question("a flip", unset, 100, flips, sizeof flips, STARAN_REFUSED_NOT_ISOLATED, 1);
+    question("register B unset", a_holds_0, 100, by_b, sizeof by_b, STARAN_REFUSED_NOT_ISOLATED, 1);
 }
 
 /* A refused builder's counts are 0. S has its start at 2n. */
@@ -265,6 +303,7 @@ int unwritten(void)
 {
     instructions();
     mode_registers();
+    questions();
     pictures();
     written_pictures();
     sums("a width of 0", 0, 0, 0, 0, STARAN_REFUSED_WIDTH);

@@ -4,6 +4,7 @@
  *     library TIMES list INSTRUCTION COUNT      a run of a list that has the instruction, in hex digits, COUNT times
  *     library TIMES none INSTRUCTION COUNT      the same with Y all zeros: no line responds
  *     library TIMES set INSTRUCTION COUNT       the same with mode register A set to mode 0
+ *     library TIMES isolated INSTRUCTION COUNT  asks whether that list is isolated, with mode register A set so; without INSTRUCTION the list is 4,096 instructions of sum lists
  * tests/count-library runs it. */
 #include "staran.h"
 
@@ -23,11 +24,14 @@ static uint8_t marks[STARAN_ITEM_BYTES], closing[STARAN_CLOSING_LIST_BYTES(WIDTH
 static uint8_t spreading[STARAN_SPREADING_LIST_BYTES(WIDTH)], spreading_items[STARAN_SPREADING_ITEMS_BYTES(WIDTH)];
 static staran_registers record;
 static uint8_t item[32], passed[32];
+static size_t many_length = LONGEST; /* of what stands in `many` */
 static uint32_t answer[STARAN_RUN_NUMBERS]; /* the longest of all */
 
 static void equal_list(void) { staran_equal_list(0, WIDTH, NUMBER, equal, sizeof equal, searched, sizeof searched, answer); }
 static void less_list(void) { staran_less_list(0, WIDTH, NUMBER, less, sizeof less, searched, sizeof searched, answer); }
 static void greatest_list(void) { staran_greatest_list(0, WIDTH, greatest, sizeof greatest, answer); }
+static void isolated(void) { staran_isolated(many, many_length, registers, sizeof registers, answer); }
+static void isolated_sum(void) { staran_isolated(list, sizeof list, registers, sizeof registers, answer); }
 static void closing_list(void)
 {
     staran_closing_list(0, 32, WIDTH, marks, sizeof marks, closing, sizeof closing, closing_items, sizeof closing_items, answer);
@@ -105,6 +109,7 @@ static void (*later_named(const char *name))(void)
     } later[] = {{"equal-list", equal_list},         {"run-equal", run_equal},       {"less-list", less_list},       {"run-less", run_less},
                  {"greatest-list", greatest_list},   {"run-greatest", run_greatest}, {"closing-list", closing_list}, {"run-closing", run_closing},
                  {"spreading-list", spreading_list}, {"run-spreading", run_spreading},
+                 {"isolated", isolated}, {"isolated-sum", isolated_sum},
                  {"read-with-modes", read_with_modes}, {"write-with-modes", write_with_modes}, {"to-new", to_new}, {"to-old", to_old}};
     for (size_t i = 0; i < sizeof later / sizeof *later; i++)
         if (strcmp(name, later[i].name) == 0)
@@ -176,7 +181,7 @@ int main(int count, char **words)
         memset(marks, mark_byte(words[3]), sizeof marks);
     prepare();
     if (count == 5)
-        length = prepare_list(words[3], (size_t)atoi(words[4]));
+        length = many_length = prepare_list(words[3], (size_t)atoi(words[4]));
     if (strcmp(words[2], "none") == 0) {
         memset(registers + 64, 0, STARAN_ITEM_BYTES);
         words[2] = "list";
@@ -185,6 +190,8 @@ int main(int count, char **words)
         registers[96] = 1;
         words[2] = "list";
     }
+    if (strcmp(words[2], "isolated") == 0)
+        registers[96] = 1;
     int times = atoi(words[1]);
     void (*later)(void) = later_named(words[2]);
     if (later != NULL) {

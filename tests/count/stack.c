@@ -122,6 +122,35 @@ static void make_marks(void)
 static void closing_list(size_t k) { CALL(staran_closing_list, MOVED(k)); }
 static void spreading_list(size_t k) { CALL(staran_spreading_list, MOVED(k)); }
 
+/* ---- whether a list is isolated: of a sum list, of lists by the mode registers, of none and of what is refused; then of each instruction above, alone. Register A is set to mode 0,
+ * B is not set */
+
+static uint8_t sum[STARAN_SUM_LIST_BYTES(WIDEST)];
+static const uint8_t by_registers[] = {STARAN_SET_MODE(STARAN_TAG_B, 7), STARAN_STORE_BY(STARAN_SOURCE_Y, STARAN_TAG_A, 5, 0), STARAN_SET_MODE(STARAN_TAG_A, 255),
+                                       STARAN_SET_M_BY(STARAN_TAG_A, 5, 0, 0)};
+static const struct {
+    const uint8_t *list;
+    size_t whole, length, registers;
+    uint8_t flag; /* of register B */
+} asked[] = {{sum, sizeof sum, 0, 0, 0},
+             {sum, sizeof sum, sizeof sum, 0, 0},
+             {by_registers, sizeof by_registers, 0, 0, 0},
+             {by_registers, sizeof by_registers, 16, 0, 0},
+             {sum, sizeof sum, 0, 4, 0},
+             {sum, sizeof sum, 1, STARAN_REGISTERS_BYTES, 0},
+             {sum, sizeof sum, 1, 0, 0},
+             {instructions[0], sizeof instructions, 0, 0, 0},
+             {sum, sizeof sum, 0, 0, 2}};
+enum { ASKED = COUNT(asked) + INSTRUCTIONS };
+
+static void isolated(size_t k)
+{
+    const size_t row = k < COUNT(asked) ? k : 0;
+    registers[96] = 1, registers[97] = 0, registers[98] = asked[row].flag, registers[99] = 0;
+    CALL(staran_isolated, k < COUNT(asked) ? asked[k].list : instructions[k - COUNT(asked)], k < COUNT(asked) ? asked[k].whole - asked[k].length : STARAN_INSTRUCTION_BYTES,
+         registers, sizeof registers - asked[row].registers, answer);
+}
+
 /* ---- files: what one of the two readers or writers takes, the other refuses, and so with the conversions. Kinds 1 and 4 are pictures, 2 a list, 3 items. Of kind 4 there is
  * one picture with neither mode register set, one with A set, and one with a flag over 1. OTHER_ and a kind is a block of that kind, of 24 bytes, which are no picture */
 
@@ -244,6 +273,7 @@ static const struct {
     {"staran_greatest_list", 5, greatest_list, COUNT(searches), DONE | NUMBERS(30, 31) | NUMBERS(33, 33)},
     {"staran_closing_list", 10, closing_list, COUNT(moved), DONE | NUMBERS(30, 33) | NUMBERS(35, 35)},
     {"staran_spreading_list", 10, spreading_list, COUNT(moved), DONE | NUMBERS(30, 33) | NUMBERS(35, 35)},
+    {"staran_isolated", 5, isolated, ASKED, DONE | NUMBERS(2, 3) | NUMBERS(15, 15) | NUMBERS(40, 40)},
     {"staran_read_content", 6, read_content, COUNT(reads), DONE | NUMBERS(20, 26)},
     {"staran_write_content", 6, write_content, COUNT(writes), DONE | NUMBERS(22, 22) | NUMBERS(26, 27)},
     {"staran_read_picture", 8, read_picture, COUNT(reads), DONE | NUMBERS(15, 15) | NUMBERS(20, 26)},
@@ -262,6 +292,7 @@ int main(void)
     make_instructions();
     make_marks();
     make_files();
+    staran_sum_list(0, WIDEST, 2 * WIDEST, WIDEST, sum, sizeof sum, answer);
     for (size_t f = 0; f < COUNT(functions); f++) {
         size_t deepest = 0;
         uint64_t given = 0;

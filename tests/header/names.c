@@ -1,6 +1,6 @@
 /* Holds the header's names to bytes and numbers that stand here as they stand in document 01, in document 02 (Four, the resolved item; Six, the offending byte; Seven, the
- * mode registers; Eight, pictures with them) and, of the searches, the closing and the spreading, in docs/LISTS.md, from C and from C++: tests/c/run builds and runs it.
- * Says each name that does not hold, then every number with its meaning, for tests/c/run to compare with docs/numbers.tsv. */
+ * mode registers; Eight, pictures with them; Fourteen, isolation) and, of the searches, the closing and the spreading, in docs/LISTS.md, from C and from C++: tests/c/run builds
+ * and runs it. Says each name that does not hold, then every number with its meaning, for tests/c/run to compare with docs/numbers.tsv. */
 #include "staran.h"
 
 #include <stddef.h>
@@ -100,7 +100,7 @@ static void searches(void)
     hold("number too large", answer[0] == STARAN_REFUSED_NUMBER_TOO_LARGE && STARAN_REFUSED_NUMBER_TOO_LARGE == 34);
     hold("the longest searches", STARAN_SEARCH_LIST_BYTES(64) == 1552 && STARAN_SEARCH_ITEMS_BYTES(64) == 2048 && STARAN_GREATEST_LIST_BYTES(64) == 5640);
     hold("the numbers of the answers", STARAN_RUN_NUMBERS == 6 && STARAN_DISK_NUMBERS == 3 && STARAN_LIST_NUMBERS == 2 &&
-                                           STARAN_LIST_AND_ITEMS_NUMBERS == 3 && STARAN_PASS_NUMBERS == 1);
+                                           STARAN_LIST_AND_ITEMS_NUMBERS == 3 && STARAN_ISOLATED_NUMBERS == 2 && STARAN_PASS_NUMBERS == 1);
 }
 
 /* The closing and the spreading of one bit, from bit 3 to bit 9 and back, by macros and built; words 2 and 3 are marked, which go to words 0 and 1, by 2 each. */
@@ -316,6 +316,38 @@ static void mode_registers(void)
     hold("registers of 96 bytes", answer[STARAN_ANSWER_NUMBER] == STARAN_REFUSED_REGISTERS_LENGTH);
 }
 
+/* The number and the place that the question gives whether a list is isolated. */
+static void asked(const char *what, const uint8_t *list, size_t length, size_t registers_length, uint32_t number, uint32_t place)
+{
+    uint32_t answer[STARAN_ISOLATED_NUMBERS];
+    staran_isolated(list, length, registers, registers_length, answer);
+    hold(what, answer[0] == number && answer[1] == place);
+}
+
+/* A sum list is isolated; a greatest list is not, by the flip at place 2; one that stores by register A is where that holds mode 0. */
+static void isolation(void)
+{
+    const uint8_t by_a[] = {STARAN_SET_MODE(STARAN_TAG_B, STARAN_MODE_WORD), STARAN_STORE_BY(STARAN_SOURCE_Y, STARAN_TAG_A, 13, STARAN_NO_FLIP)};
+    uint8_t built[STARAN_GREATEST_LIST_BYTES(8)];
+    uint32_t answer[STARAN_LIST_NUMBERS];
+    memset(registers, 0, sizeof registers);
+    staran_sum_list(0, 8, 16, 8, built, sizeof built, answer);
+    asked("a sum list is isolated", built, answer[1], sizeof registers, STARAN_DONE, 0);
+    asked("a list asked about with 96 registers", built, answer[1], STARAN_PICTURE_REGISTERS_BYTES, STARAN_REFUSED_REGISTERS_LENGTH, 0);
+    asked("a list asked about that is a byte short", built, answer[1] - 1, sizeof registers, STARAN_REFUSED_LIST_LENGTH, 0);
+    staran_greatest_list(0, 8, built, sizeof built, answer);
+    asked("a greatest list is not isolated", built, answer[1], sizeof registers, STARAN_REFUSED_NOT_ISOLATED, 2);
+    asked("a list by A, which is not set", by_a, sizeof by_a, sizeof registers, STARAN_REFUSED_NOT_ISOLATED, 1);
+    registers[96] = 1;
+    asked("a list by A, which holds mode 0", by_a, sizeof by_a, sizeof registers, STARAN_DONE, 0);
+    registers[97] = STARAN_MODE_WORD;
+    asked("a list by A, which holds mode 255", by_a, sizeof by_a, sizeof registers, STARAN_REFUSED_NOT_ISOLATED, 1);
+    registers[96] = 2;
+    asked("a list asked about with a flag over 1", by_a, sizeof by_a, sizeof registers, STARAN_REFUSED_MODE_REGISTERS, 0);
+    hold("the number of a list that is not isolated", STARAN_REFUSED_NOT_ISOLATED == 40);
+    memset(registers, 0, sizeof registers);
+}
+
 static void refusals(void)
 {
     const uint8_t kind[] = {STARAN_INSTRUCTION(7, 0, 0, 0, 0, 0, 0, 0)}, source[] = {STARAN_STORE(STARAN_SOURCE_MEMORY, 0, 0, 0)};
@@ -365,10 +397,11 @@ int main(void)
     resolves();
     answers();
     mode_registers();
+    isolation();
     refusals();
     hold("the contents on disk",
          STARAN_CONTENT_PICTURE == 1 && STARAN_CONTENT_LIST == 2 && STARAN_CONTENT_ITEMS == 3 && STARAN_CONTENT_PICTURE_WITH_MODES == 4);
-    hold("the linked version is the header's", staran_version() == STARAN_VERSION && STARAN_VERSION == 327681);
+    hold("the linked version is the header's", staran_version() == STARAN_VERSION && STARAN_VERSION == 327682);
     hold("a number that is never given", strcmp(staran_meaning(100), "no such number is ever given") == 0);
     hold("a number that is not given any more", strcmp(staran_meaning(10), staran_meaning(100)) == 0);
     for (uint32_t number = 0; number <= 100; number++)

@@ -48,7 +48,7 @@ skip₀ i e k =
     let h : 8 * suc k ≡ 8 + 8 * k = omega arith in
     ap (λ (z : ℕ). getD (bytesOf i ++ e) z 0) h ∙ getD-append-add (bytesOf i) e (8 * k) 0
 
-later : (i : Instruction) (e : List ℕ) (k : ℕ) → instructionAt (bytesOf i ++ e) (suc k) ≡ instructionAt e k
+pub later : (i : Instruction) (e : List ℕ) (k : ℕ) → instructionAt (bytesOf i ++ e) (suc k) ≡ instructionAt e k
 unfolding instructionAt
 later i e k =
     λ t. instruction (skip₀ i e k t) (skip i e k 1 t) (skip i e k 2 t) (skip i e k 3 t) (skip i e k 4 t) (skip i e k 5 t) (skip i e k 6 t) (skip i e k 7 t)

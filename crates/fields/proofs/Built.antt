@@ -18,7 +18,7 @@ use Rattle.builders.specs.declared.Built.{Built}
 use Rattle.builders.specs.declared.BuiltTwo.{BuiltTwo}
 use Rattle.builders.specs.Building.{builtWith, BuiltTwoLeft, builtTwo}
 use Rattle.fields.specs.Value.{listOf, runOf}
-use Rattle.fields.specs.Marks.{lentWith, runOfTwo}
+use Rattle.fields.specs.Marks.{listOfTwo, itemsOfTwo, lentWith, runOfTwo}
 use Rattle.fields.specs.Closing.{stateAfter}
 use Rattle.fields.proofs.Runs.{Quiet, leftBy, ran-quiet}
 
@@ -47,21 +47,22 @@ module _ (bytes itemBytes list items : List ℕ) where
       answered : ℕ → ℕ → BuiltTwo
       answered x y = record { number = 0; list = x; items = y }
 
-  pub two-run : (fault : ℕ) → fault ≡ 0 → (lent : Lent (List ℕ)) → runOfTwo (built fault) lent ≡ runOf bytes (lentWith (itemBytes ++ lent .items) lent)
+  pub two-listed : (fault : ℕ) → fault ≡ 0 → listOfTwo (built fault) ≡ bytes
   unfolding builtTwo
-  two-run fault e lent =
-      ap (λ (x : ℕ). runOfTwo (built x) lent) e
-      ∙ ap₂ (λ (l i : List ℕ). runOf l (lentWith (i ++ lent .items) lent))
-      (take-at bytes (drop (length bytes) list) (length bytes) refl) (take-at itemBytes (drop (length itemBytes) items) (length itemBytes) refl)
+  two-listed fault e = ap (λ (x : ℕ). listOfTwo (built x)) e ∙ take-at bytes (drop (length bytes) list) (length bytes) refl
+
+  two-items : (fault : ℕ) → fault ≡ 0 → itemsOfTwo (built fault) ≡ itemBytes
+  unfolding builtTwo
+  two-items fault e = ap (λ (x : ℕ). itemsOfTwo (built x)) e ∙ take-at itemBytes (drop (length itemBytes) items) (length itemBytes) refl
+
+  pub two-run : (fault : ℕ) → fault ≡ 0 → (lent : Lent (List ℕ)) → runOfTwo (built fault) lent ≡ runOf bytes (lentWith (itemBytes ++ lent .items) lent)
+  two-run fault e lent = ap₂ (λ (l i : List ℕ). runOf l (lentWith (i ++ lent .items) lent)) (two-listed fault e) (two-items fault e)
 
   -- and after its first k instructions
   pub two-after : (fault : ℕ) → fault ≡ 0 → (lent : Lent (List ℕ)) (k : ℕ)
       → stateAfter (built fault) lent k ≡ ranBy bytes (itemBytes ++ lent .items) (begun lent (registersOf (lent .registers))) k
-  unfolding builtTwo
   two-after fault e lent k =
-      ap (λ (x : ℕ). stateAfter (built x) lent k) e
-      ∙ ap₂ (λ (l i : List ℕ). ranBy l (i ++ lent .items) (begun lent (registersOf (lent .registers))) k)
-      (take-at bytes (drop (length bytes) list) (length bytes) refl) (take-at itemBytes (drop (length itemBytes) items) (length itemBytes) refl)
+      ap₂ (λ (l i : List ℕ). ranBy l (i ++ lent .items) (begun lent (registersOf (lent .registers))) k) (two-listed fault e) (two-items fault e)
 
 -- a run of quiet instructions, to its end: the fold of the list, on its items and those behind them
 pub two-ran : (l : List Instruction) → Each Quiet l → length l ≤ 4096 → (itemBytes list items : List ℕ) (fault : ℕ) → fault ≡ 0 → (lent : Lent (List ℕ))

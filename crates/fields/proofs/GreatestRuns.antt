@@ -235,7 +235,7 @@ module _ (a n : ℕ) (field : Field a n) (list : List ℕ) (room : greatestLengt
   greatest-written =
       answer-built (greatestFault a n (length list)) (encoded (greatestList a n)) list (greatestLength n) greatest-fault (greatest-length a n)
 
-  greatest-listed : listOf (greatestBuilt a n list) ≡ encoded (greatestList a n)
+  pub greatest-listed : listOf (greatestBuilt a n list) ≡ encoded (greatestList a n)
   unfolding greatestBuilt
   greatest-listed = list-built (greatestFault a n (length list)) (encoded (greatestList a n)) list greatest-fault
 

@@ -19,3 +19,7 @@ pub mod GreatestRuns
 pub mod ClosingLists
 pub mod ClosingRuns
 pub mod SpreadingRuns
+pub mod Isolation
+pub mod IsolatedLists
+pub mod Disturbed
+pub mod Examples

@@ -34,7 +34,7 @@ use Rattle.judge.specs.Modes.{modesBy, modeOf}
 use Rattle.judge.specs.Judge.{faultOf}
 use Rattle.module.specs.Act.{State, partAt, held, heldItem, sourceItem, passedBy, regsAfter, memAfter, acted}
 use Rattle.module.specs.Run.{ranBy}
-use Rattle.module.proofs.ActLaws.{masks-by-line}
+use Rattle.module.proofs.ActLaws.{acted-kind, masks-by-line}
 use Rattle.builders.specs.Lists.{decoded, Each, none, more}
 use Rattle.builders.specs.Word.{Word, heldBit, sourceBit, afterBit, actedWord, folded, ranWord}
 use Rattle.builders.proofs.Folds.{folded-append}
@@ -136,6 +136,11 @@ came-flipped i p e = ap (λ (c : ℕ). source (i .flip) (c / 16) (c % 16) p) e �
 
 -- ---- and what it makes of the line
 
+-- what was taken, with what it takes
+count-at : (n k : ℕ) → n ≡ k → (t : Bool) → n + cond t 1 0 ≡ cond t (suc k) k
+count-at n k e true = add-one n ∙ ap suc e
+count-at n k e false = add-zero n ∙ e
+
 module _ (p : ℕ) (hp : p < 256) where
   -- what the passed item f does
   module _ (i : Instruction) (f : List ℕ) (s : State) (v : Word) (sl : Sliced (s .regs .modes) i) (a : At p s v) where
@@ -181,10 +186,6 @@ module _ (p : ℕ) (hp : p < 256) where
     one-kind : eqb (i .kind) 0 ≡ true → eqb (i .kind) 1 ≡ false
     one-kind t = ne-eqb (i .kind) 1 (λ e. let z = eqb-true (i .kind) 0 t in omega arith)
 
-    count-at : (t : Bool) → s .taken + cond t 1 0 ≡ cond t (suc (v .taken)) (v .taken)
-    count-at true = add-one (s .taken) ∙ ap suc (a .count)
-    count-at false = add-zero (s .taken) ∙ a .count
-
   -- the law, for every instruction with mode 0: line p gets the source bit of the line from which its bit comes, by its own M bit
   pub acted-from : (i : Instruction) (items : List ℕ) (s : State) (v w : Word) → Sliced (s .regs .modes) i → At p s v → At (cameFrom i p) s w
       → At p (acted i items s) (afterBit i (sourceBit i (outsideAt (cameFrom i p) items) w) v)
@@ -198,7 +199,7 @@ module _ (p : ℕ) (hp : p < 256) where
         bitM = r .0;
         bitX = r .1;
         bitY = r .2;
-        count = count-at i f s v sl a (takes i);
+        count = count-at (s .taken) (v .taken) (a .count) (takes i);
       })
 
   -- with no flip and no shift that is line p itself
@@ -218,6 +219,20 @@ module _ (p : ℕ) (hp : p < 256) where
       let m = s .regs .modes in
       subst (λ (q : ℕ). At p (acted i items s) (afterBit i (sourceBit i (outsideAt q items) v) v)) (stays m i lc)
       (acted-from i items s v v (sliced-of m i lc) a (subst (λ (q : ℕ). At q s v) (sym (stays m i lc)) a))
+
+  -- kind 6 leaves the line, whatever the mode is that its tag names
+  pub set-at : (i : Instruction) (items : List ℕ) (s : State) (v : Word) → i .kind ≡ 6 → At p s v → At p (acted i items s) (actedWord i (outsideAt p items) v)
+  unfolding actedWord afterBit
+  set-at i items s v e a =
+      let f = sourceBit i (outsideAt p items) v in
+      subst (λ (t : State). At p t (actedWord i (outsideAt p items) v)) (sym (acted-kind i items s 6 e))
+      (record {
+        word = λ b h. a .word b h ∙ sym (ap (λ (k : ℕ). cond ((eqb k 2 || (eqb k 3 && eqb (v .m) 1)) && eqb b (i .addr)) f (v .bits b)) e);
+        bitM = a .bitM ∙ sym (ap (λ (k : ℕ). cond (eqb k 1) f (v .m)) e);
+        bitX = a .bitX ∙ sym (ap (λ (k : ℕ). cond (eqb k 0) (newX (i .logic) (v .x) (v .y) f) (v .x)) e);
+        bitY = a .bitY ∙ sym (ap (λ (k : ℕ). cond (eqb k 0) (newY (i .logic) (v .y) f) (v .y)) e);
+        count = count-at (s .taken) (v .taken) (a .count) (takes i);
+      })
 
   -- and a list of such ones, whatever the mode registers hold
   pub ran-at : (l : List Instruction) (items : List ℕ) (s : State) (v : Word) → Each (λ i. (m : Modes) → Local m i) l → At p s v

@@ -99,8 +99,8 @@ unfolding folded
 folded-modes [] items s none = refl
 folded-modes (i ∷ l) items s (more h e) = folded-modes l items (acted i items s) e ∙ modes-acted i items s ∙ h .keeps-modes (s .regs .modes)
 
-module _ (l : List Instruction) (quiet : Each Quiet l) (few : length l ≤ 4096) where
-  eighth : length (encoded l) / 8 ≡ length l
+module _ (l : List Instruction) where
+  pub eighth : length (encoded l) / 8 ≡ length l
   eighth = omega (arith, length-encoded l)
 
   back : decoded (encoded l) (length (encoded l) / 8) ≡ l
@@ -109,11 +109,16 @@ module _ (l : List Instruction) (quiet : Each Quiet l) (few : length l ≤ 4096)
       ∙ ap (λ (z : List ℕ). decoded z (length l)) (sym (append-nil (encoded l)))
       ∙ decoded-encoded l []
 
+  -- what each instruction has, each has that is read from the bytes
+  pub each-read : {P : Instruction → Type 0} → Each P l → (j : ℕ) → j < length (encoded l) / 8 → P (instructionAt (encoded l) j)
+  each-read e = each-at (encoded l) (length (encoded l) / 8) (subst (Each _) (sym back) e)
+
+module _ (l : List Instruction) (quiet : Each Quiet l) (few : length l ≤ 4096) where
   quiet-at : (j : ℕ) → j < length (encoded l) / 8 → Quiet (instructionAt (encoded l) j)
-  quiet-at = each-at (encoded l) (length (encoded l) / 8) (subst (Each Quiet) (sym back) quiet)
+  quiet-at = each-read l quiet
 
   taken-all : count (λ k. takes (instructionAt (encoded l) k)) (length (encoded l) / 8) ≡ takenBy l
-  taken-all = sym (taken-decoded (encoded l) (length (encoded l) / 8)) ∙ ap takenBy back
+  taken-all = sym (taken-decoded (encoded l) (length (encoded l) / 8)) ∙ ap takenBy (back l)
 
   -- number 0, as many steps as instructions, as many taken as take one, and nothing given
   pub judged-quiet : (lengths : Lengths) (m : Modes) → lengths .memory ≡ 8192 → lengths .registers ≡ 100 → wrongModes m ≡ false
@@ -124,7 +129,7 @@ module _ (l : List Instruction) (quiet : Each Quiet l) (few : length l ≤ 4096)
       (λ j h. quiet-at j h .formed (modesAfter (encoded l) m j))
       (λ j h t. let c = count-beyond (λ k. takes (instructionAt (encoded l) k)) j (length (encoded l) / 8) h t in omega (arith, taken-all))
       (λ j h t. absurd (true≢false (sym t ∙ quiet-at j h .gives-none)))
-      ∙ (λ t. record { number = 0; place = 0; byte = 0; steps = eighth t; taken = taken-all t; given = no-room t })
+      ∙ (λ t. record { number = 0; place = 0; byte = 0; steps = eighth l t; taken = taken-all t; given = no-room t })
     where
       no-room : count (λ k. gives (instructionAt (encoded l) k)) (length (encoded l) / 8) ≡ 0
       no-room = count-none (λ k. gives (instructionAt (encoded l) k)) (length (encoded l) / 8) (λ k h. quiet-at k h .gives-none)
@@ -139,7 +144,7 @@ module _ (l : List Instruction) (quiet : Each Quiet l) (few : length l ≤ 4096)
       let a : Answer = record { number = 0; place = 0; byte = 0; steps = length l; taken = takenBy l; given = 0 } in
       let given : Lent (List ℕ) = record { memory = lent .memory; registers = lent .registers; list = encoded l; items = lent .items; out = lent .out } in
       sym (ran-done given a (sym (judged-quiet (runLengths given) (modesOf (lent .registers)) hm hr stands hi enough)) refl (registersOf (lent .registers)) s (bytesOf (s .regs)) refl
-      (sym (ran-folded (encoded l) (lent .items) start (length (encoded l) / 8) ∙ ap (λ (z : List Instruction). folded (λ i. acted i (lent .items)) z start) back))
+      (sym (ran-folded (encoded l) (lent .items) start (length (encoded l) / 8) ∙ ap (λ (z : List Instruction). folded (λ i. acted i (lent .items)) z start) (back l)))
       refl)
       ∙ ap (λ (z : List ℕ). record { memory = s .mem; registers = bytesOf (s .regs); out = z; answer = a }) (folded-out l (lent .items) start quiet)
 

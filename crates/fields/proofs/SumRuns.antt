@@ -48,7 +48,7 @@ module _ (a b s n : ℕ) (fields : Fields a b s n) (buffer : List ℕ) where
     unfolding differenceBuilt
     difference-built = answer-built (fieldsFault 2 a b s n (length buffer)) (encoded (differenceList a b s n)) buffer (listLength 2 n) difference-sound (difference-length a b s n)
 
-    difference-listed : listOf (differenceBuilt a b s n buffer) ≡ encoded (differenceList a b s n)
+    pub difference-listed : listOf (differenceBuilt a b s n buffer) ≡ encoded (differenceList a b s n)
     unfolding differenceBuilt
     difference-listed = list-built (fieldsFault 2 a b s n (length buffer)) (encoded (differenceList a b s n)) buffer difference-sound
 

@@ -4,7 +4,6 @@ use mathlib.Core.Bool.{cond}
 use mathlib.Core.List.{List, [], _∷_, _++_}
 use Prim.Native.Nat.{ℕ, _+_, _*_, _<_, _≤_}
 use lib.Dec.{eqb}
-use lib.ListN.{take}
 use Rattle.bits.specs.Bits.{Bytes}
 use Rattle.bits.specs.Search.{Numbered}
 use Rattle.registers.specs.Rows.{registersOf}
@@ -15,7 +14,7 @@ use Rattle.module.specs.Run.{Lent, Left, begun, ranBy}
 use Rattle.builders.specs.Building.{BuiltTwoLeft}
 use Rattle.closing.specs.Closing.{closingBuilt, spreadingBuilt}
 use Rattle.fields.specs.Value.{wordBit, value}
-use Rattle.fields.specs.Marks.{runOfTwo, MarkedBy}
+use Rattle.fields.specs.Marks.{listOfTwo, itemsOfTwo, runOfTwo, MarkedBy}
 
 -- ---- the runs
 
@@ -28,7 +27,7 @@ spreadingRun a s n marks list items = runOfTwo (spreadingBuilt a s n marks list 
 
 -- The state in the middle of such a run, after its first k instructions.
 abbrev pub stateAfter : BuiltTwoLeft → Lent (List ℕ) → ℕ → State
-stateAfter b l = ranBy (take (b .answer .list) (b .list)) (take (b .answer .items) (b .items) ++ l .items) (begun l (registersOf (l .registers)))
+stateAfter b l = ranBy (listOfTwo b) (itemsOfTwo b ++ l .items) (begun l (registersOf (l .registers)))
 
 -- How many instructions of a list have a shift.
 unfoldable pub shiftsIn : List Instruction → ℕ

@@ -4,3 +4,4 @@ pub mod Items
 pub mod Value
 pub mod Marks
 pub mod Closing
+pub mod Isolation

@@ -18,9 +18,16 @@ use Rattle.fields.specs.Value.{value, listOf, runOf}
 abbrev pub lentWith : List ℕ → Lent (List ℕ) → Lent (List ℕ)
 lentWith items l = record { memory = l .memory; registers = l .registers; list = l .list; items = items; out = l .out }
 
--- A run of the list that a builder wrote, on the items that it wrote and, behind them, those of the lender, which the list does not take.
+-- The list that a builder of two buffers wrote, and the items: as many of the first bytes of each as it counted.
+abbrev pub listOfTwo : BuiltTwoLeft → List ℕ
+listOfTwo b = take (b .answer .list) (b .list)
+
+abbrev pub itemsOfTwo : BuiltTwoLeft → List ℕ
+itemsOfTwo b = take (b .answer .items) (b .items)
+
+-- A run of that list, on those items and, behind them, those of the lender, which the list does not take.
 abbrev pub runOfTwo : BuiltTwoLeft → Lent (List ℕ) → Left (List ℕ) Answer
-runOfTwo b l = runOf (take (b .answer .list) (b .list)) (lentWith (take (b .answer .items) (b .items) ++ l .items) l)
+runOfTwo b l = runOf (listOfTwo b) (lentWith (itemsOfTwo b ++ l .items) l)
 
 -- A run of the list that marks the words equal to a number; less than it; the greatest of the marked. The buffers that the builder was lent stand before what the run is.
 abbrev pub equalRun : ℕ → ℕ → ℕ → List ℕ → List ℕ → Lent (List ℕ) → Left (List ℕ) Answer

@@ -86,7 +86,7 @@ pub fn decode(list: &[u8], k: usize) -> Instruction
 }
 
 // Not a multiple of `unit`, or over 32,768?
-fn unfit(unit: usize, size: usize) -> bool
+pub fn unfit(unit: usize, size: usize) -> bool
     requires { ⌜ 0 < unit ⌝ }
     ensures { λ r. ⌜ r ≡ unfit unit size ⌝ }
 {

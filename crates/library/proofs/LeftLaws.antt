@@ -21,13 +21,16 @@ use Rattle.closing.specs.Closing.{closingBuilt, spreadingBuilt}
 use Rattle.builders.specs.Building.{BuiltLeft as Buffer, BuiltTwoLeft as Buffers}
 use Rattle.builders.proofs.Bounds.{Bounded as Bounded2, BoundedTwo, sum-bounds, difference-bounds, search-bounds, greatest-bounds}
 use Rattle.closing.proofs.Bounds.{closing-bounds, spreading-bounds}
+use Rattle.isolation.specs.declared.Isolation.{Isolation}
+use Rattle.isolation.specs.Isolation.{isolationOf}
+use Rattle.isolation.proofs.Answers.{place-few}
 use Rattle.contents.specs.declared.Moved.{Moved}
 use Rattle.contents.specs.File.{contentOf}
 use Rattle.contents.specs.Content.{ContentLeft, contentRead, contentWritten}
 use Rattle.contents.proofs.Bounds.{Bounded as Bounded3, answered-bounds, read-bounds, size-small, read-content-bounds, write-content-bounds}
 use Rattle.pictures.specs.Picture.{contentModes, pictureFits, pictureReadRows, pictureWriteRows, PictureLeft, pictureRead, pictureWritten}
 use Rattle.pictures.specs.Conversion.{toNewRows, toOldRows, toNew, toOld}
-use Rattle.library.specs.Left.{six, three, runLeft, stepLeft, PassLeft, passLeft, BufferLeft, builtLeft, sumLeft, differenceLeft, greatestLeft, TwoLeft, builtTwoLeft, equalLeft, lessLeft, closingLeft, spreadingLeft, movedLeft, readLeft, writeLeft, writePictureLeft, toNewLeft, toOldLeft, TargetsLeft, readPictureLeft}
+use Rattle.library.specs.Left.{six, three, runLeft, stepLeft, PassLeft, passLeft, BufferLeft, builtLeft, sumLeft, differenceLeft, greatestLeft, TwoLeft, builtTwoLeft, equalLeft, lessLeft, closingLeft, spreadingLeft, isolatedLeft, movedLeft, readLeft, writeLeft, writePictureLeft, toNewLeft, toOldLeft, TargetsLeft, readPictureLeft}
 
 -- ---- the array
 
@@ -105,6 +108,16 @@ module _ (a n : ℕ) (list : List ℕ) (l : Buffer) where
       → _≡_ {A = BufferLeft} (record { buffer = l .list; answer = w }) (greatestLeft a n list)
   unfolding greatestLeft
   greatest-left w e d = built-left l (greatestBuilt a n list) w e d
+
+-- ---- a question about a list
+
+module _ (list registers : List ℕ) (a : Isolation) where
+  pub isolated-small : a ≡ isolationOf list registers → a .place ≤ 4096
+  isolated-small e = subst (λ (x : Isolation). x .place ≤ 4096) (sym e) (place-few list registers)
+
+  pub isolated-left : (w : List ℕ) → a ≡ isolationOf list registers → w ≡ a .number ∷ a .place ∷ [] → w ≡ isolatedLeft list registers
+  unfolding isolatedLeft
+  isolated-left w e d = d ∙ ap (λ (x : Isolation). x .number ∷ x .place ∷ []) e
 
 -- ---- lists with their items
 

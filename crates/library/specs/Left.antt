@@ -9,6 +9,7 @@ use Rattle.builders.specs.Sums.{sumBuilt, differenceBuilt}
 use Rattle.builders.specs.Searches.{equalBuilt, lessBuilt, greatestBuilt}
 use Rattle.closing.specs.Closing.{closingBuilt, spreadingBuilt}
 use Rattle.builders.specs.Building.{BuiltLeft as Built, BuiltTwoLeft as BuiltTwo}
+use Rattle.isolation.specs.Isolation.{isolationOf}
 use Rattle.contents.specs.declared.Moved.{Moved}
 use Rattle.contents.specs.Content.{ContentLeft, contentRead, contentWritten}
 use Rattle.pictures.specs.Picture.{pictureRead, pictureWritten}
@@ -103,6 +104,12 @@ closingLeft a s n marks list items = builtTwoLeft (closingBuilt a s n marks list
 
 unfoldable pub spreadingLeft : ℕ → ℕ → ℕ → List ℕ → List ℕ → List ℕ → TwoLeft
 spreadingLeft a s n marks list items = builtTwoLeft (spreadingBuilt a s n marks list items)
+
+-- ---- a question about a list: no buffer is written
+
+-- The number, and the place.
+unfoldable pub isolatedLeft : List ℕ → List ℕ → List ℕ
+isolatedLeft list registers = let a = isolationOf list registers in a .number ∷ a .place ∷ []
 
 -- ---- a picture that is read: two buffers are written
 

@@ -2,6 +2,7 @@
 use builders::Built;
 use builders::BuiltTwo;
 use contents::Moved;
+use isolation::Isolation;
 ghost use mathlib.Core.Path.{_≡_};
 ghost use mathlib.Core.List.{[], _∷_};
 ghost use Prim.Native.Nat.{_≤_};
@@ -44,6 +45,14 @@ pub fn two(b: Built) -> [u32; 2]
     ensures { λ r. ⌜ r ≡ b .number ∷ b .count ∷ [] ⌝ }
 {
     [b.number as u32, b.count as u32]
+}
+
+// Number and place.
+pub fn number_and_place(a: Isolation) -> [u32; 2]
+    requires { ⌜ a .place ≤ 4096 ⌝ }
+    ensures { λ r. ⌜ r ≡ a .number ∷ a .place ∷ [] ⌝ }
+{
+    [a.number as u32, a.place as u32]
 }
 
 // Number, and the counts of the bytes of a list and of its items.

@@ -5,7 +5,7 @@ mod answers;
 
 use registers::Registers;
 ghost use mathlib.Core.Path.{_≡_};
-ghost use Rattle.library.specs.Left.{runLeft, stepLeft, passLeft, sumLeft, differenceLeft, equalLeft, lessLeft, greatestLeft, closingLeft, spreadingLeft, readLeft, writeLeft, readPictureLeft, writePictureLeft, toNewLeft, toOldLeft, version};
+ghost use Rattle.library.specs.Left.{runLeft, stepLeft, passLeft, sumLeft, differenceLeft, equalLeft, lessLeft, greatestLeft, closingLeft, spreadingLeft, isolatedLeft, readLeft, writeLeft, readPictureLeft, writePictureLeft, toNewLeft, toOldLeft, version};
 
 // A run of an instruction list. The 4 is the version since which the answer has six numbers: a program compiled for five does not link.
 #[no_mangle]
@@ -190,6 +190,15 @@ pub extern "C" fn staran_spreading_list(
     *answer = answers::two_counts(r);
 }
 
+// Whether a list is one in which no station can disturb another, for a run that starts with these registers.
+#[no_mangle]
+pub extern "C" fn staran_isolated(list: &[u8], registers: &[u8], answer: &mut [u32; 2])
+    ensures { λ _. ⌜ now (answer .exit) ≡ isolatedLeft (now (list .entry)) (now (registers .entry)) ⌝ }
+{
+    let a = isolation::isolated(list, registers);
+    *answer = answers::number_and_place(a);
+}
+
 // Reads the blocks of a list or of items.
 #[no_mangle]
 pub extern "C" fn staran_read_content(
@@ -275,7 +284,7 @@ pub extern "C" fn staran_picture_to_old(bytes: &[u8], out: &mut [u8], answer: &m
 // The version of the library that is linked, to be held to the header's.
 #[no_mangle]
 pub extern "C" fn staran_version() -> u32
-    ensures { λ r. ⌜ r ≡ version 5 1 ⌝ }
+    ensures { λ r. ⌜ r ≡ version 5 2 ⌝ }
 {
-    327681
+    327682
 }

@@ -23,7 +23,7 @@ use Rattle.registers.specs.Logic.{logicOf}
 use Rattle.registers.specs.Modes.{modesOf, modeBytes}
 use Rattle.registers.specs.Rows.{registersOf, bytesOf, withM, withModes}
 use Rattle.registers.proofs.LogicLaws.{newX-bit, newY-bit}
-use Rattle.registers.proofs.RowLaws.{length-bytes}
+use Rattle.registers.proofs.RowLaws.{length-bytes, registers-bytes}
 use Rattle.judge.specs.declared.Instruction.{Instruction}
 use Rattle.judge.specs.declared.Answer.{Answer}
 use Rattle.judge.specs.Instructions.{instructionAt}
@@ -137,10 +137,21 @@ module _ (l : Lent (List ℕ)) (z : ran l .answer .number ≡ 0) where
       subst (λ (x : Left (List ℕ) Answer). Bytes (x .memory) 8192) (ran-ended l z)
       (ran-memory (l .list) (l .items) (begun l (registersOf (l .registers))) (length (l .list) / 8) (record { size = size; low = low }))
 
-  pub registers-left : length (ran l .registers) ≡ 100
-  registers-left =
+  -- the three rows at its end
+  rows-left : Rows (λ x. length x ≡ 32) (λ f bits. length-listed (byteOf f) 32) (ended l z .regs)
+  rows-left =
       let regs = l .registers in
       let size : length regs ≡ 100 = run-registers (runLengths l) (modesOf regs) (l .list) (judged-done l z) in
-      let r = ran-rows (λ x. length x ≡ 32) (λ f bits. length-listed (byteOf f) 32) (l .list) (l .items) (begun l (registersOf regs)) (length (l .list) / 8)
-      (length-take-le 32 regs (omega arith), length-take-le 32 (drop 32 regs) (omega (arith, length-drop 32 regs)), length-take-le 32 (drop 64 regs) (omega (arith, length-drop 64 regs))) in
-      sym (ap (λ (x : Left (List ℕ) Answer). length (x .registers)) (ran-ended l z)) ∙ length-bytes (ended l z .regs) (r .0) (r .1) (r .2)
+      ran-rows (λ x. length x ≡ 32) (λ f bits. length-listed (byteOf f) 32) (l .list) (l .items) (begun l (registersOf regs)) (length (l .list) / 8)
+      (length-take-le 32 regs (omega arith), length-take-le 32 (drop 32 regs) (omega (arith, length-drop 32 regs)), length-take-le 32 (drop 64 regs) (omega (arith, length-drop 64 regs)))
+
+  pub registers-left : length (ran l .registers) ≡ 100
+  registers-left =
+      sym (ap (λ (x : Left (List ℕ) Answer). length (x .registers)) (ran-ended l z))
+      ∙ length-bytes (ended l z .regs) (rows-left .0) (rows-left .1) (rows-left .2)
+
+  -- as a record, they are those that it ended with
+  pub registers-ended : registersOf (ran l .registers) ≡ ended l z .regs
+  registers-ended =
+      sym (ap (λ (x : Left (List ℕ) Answer). registersOf (x .registers)) (ran-ended l z))
+      ∙ registers-bytes (ended l z .regs) (rows-left .0) (rows-left .1) (rows-left .2)

@@ -24,6 +24,7 @@ use Rattle.builders.proofs.searches.less_list as less_list
 use Rattle.builders.proofs.searches.greatest_list as greatest_list
 use Rattle.closing.proofs.closing_list as closing_list
 use Rattle.closing.proofs.spreading_list as spreading_list
+use Rattle.isolation.proofs.isolated as isolated
 use Rattle.contents.proofs.read_content as read_content
 use Rattle.contents.proofs.write_content as write_content
 use Rattle.pictures.proofs.read_picture as read_picture
@@ -42,6 +43,7 @@ use Rattle.library.proofs.staran_less_list as staran_less_list
 use Rattle.library.proofs.staran_greatest_list as staran_greatest_list
 use Rattle.library.proofs.staran_closing_list as staran_closing_list
 use Rattle.library.proofs.staran_spreading_list as staran_spreading_list
+use Rattle.library.proofs.staran_isolated as staran_isolated
 use Rattle.library.proofs.staran_read_content as staran_read_content
 use Rattle.library.proofs.staran_write_content as staran_write_content
 use Rattle.library.proofs.staran_read_picture as staran_read_picture
@@ -49,7 +51,7 @@ use Rattle.library.proofs.staran_write_picture as staran_write_picture
 use Rattle.library.proofs.staran_picture_to_new as staran_picture_to_new
 use Rattle.library.proofs.staran_picture_to_old as staran_picture_to_old
 use Rattle.library.proofs.staran_version as staran_version
-use Rattle.promises.specs.Clauses.{Run, Step, Pass, SumList, DifferenceList, EqualList, LessList, GreatestList, ClosingList, SpreadingList, ReadContent, WriteContent, ReadPicture, WritePicture, ToNew, ToOld, LibraryRun, LibraryStep, LibraryPass, LibraryBuffer, LibraryTwo, LibraryReadPicture, LibraryVersion}
+use Rattle.promises.specs.Clauses.{Run, Step, Pass, SumList, DifferenceList, EqualList, LessList, GreatestList, ClosingList, SpreadingList, Isolated, ReadContent, WriteContent, ReadPicture, WritePicture, ToNew, ToOld, LibraryRun, LibraryStep, LibraryPass, LibraryBuffer, LibraryTwo, LibraryIsolated, LibraryReadPicture, LibraryVersion}
 
 module _ {M : Type 1} (𝓤 : URA M) (H : Heap 𝓤) (A : Atoms 𝓤) (memory : Memory → SProp 𝓤) (runs : Routine → Fun 𝓤) where
   open Connectives (connectives 𝓤) using (⌜_⌝, ⊤ₛ)
@@ -109,6 +111,10 @@ module _ {M : Type 1} (𝓤 : URA M) (H : Heap 𝓤) (A : Atoms 𝓤) (memory : 
   pub spreading-list-clauses : Says spreading_list.ended (spreading_list.clauses 𝓤 H A memory runs) (λ κs a r e.
       ⌜ SpreadingList (a .0) (a .1 .0) (a .1 .1 .0) (now (a .1 .1 .1 .0)) (now (a .1 .1 .1 .1 .0)) (now (a .1 .1 .1 .1 .1 .0)) (now (e .1 .1 .1 .1 .0)) (now (e .1 .1 .1 .1 .1 .0)) r ⌝)
   spreading-list-clauses κs a g r e = (refl, refl)
+
+  pub isolated-clauses : Says isolated.ended (isolated.clauses 𝓤 H A memory runs) (λ κs a r e.
+      ⌜ Isolated (now (a .0)) (now (a .1 .0)) r ⌝)
+  isolated-clauses κs a g r e = (refl, refl)
 
   pub read-content-clauses : Says read_content.ended (read_content.clauses 𝓤 H A memory runs) (λ κs a r e.
       ⌜ ReadContent (a .0) (now (a .1 .0)) (now (a .1 .1 .0)) (now (e .1 .1 .0)) r ⌝)
@@ -181,6 +187,10 @@ module _ {M : Type 1} (𝓤 : URA M) (H : Heap 𝓤) (A : Atoms 𝓤) (memory : 
   pub library-spreading-list-clauses : Says staran_spreading_list.ended (staran_spreading_list.clauses 𝓤 H A memory runs) (λ κs a r e.
       ⌜ LibraryTwo (spreadingLeft (a .0) (a .1 .0) (a .1 .1 .0) (now (a .1 .1 .1 .0)) (now (a .1 .1 .1 .1 .0)) (now (a .1 .1 .1 .1 .1 .0))) (now (e .1 .1 .1 .1 .0)) (now (e .1 .1 .1 .1 .1 .0)) (now (e .1 .1 .1 .1 .1 .1 .0)) ⌝)
   library-spreading-list-clauses κs a g r e = (refl, refl)
+
+  pub library-isolated-clauses : Says staran_isolated.ended (staran_isolated.clauses 𝓤 H A memory runs) (λ κs a r e.
+      ⌜ LibraryIsolated (now (a .0)) (now (a .1 .0)) (now (e .1 .1 .0)) ⌝)
+  library-isolated-clauses κs a g r e = (refl, refl)
 
   pub library-read-content-clauses : Says staran_read_content.ended (staran_read_content.clauses 𝓤 H A memory runs) (λ κs a r e.
       ⌜ LibraryBuffer (readLeft (a .0) (now (a .1 .0)) (now (a .1 .1 .0))) (now (e .1 .1 .0)) (now (e .1 .1 .1 .0)) ⌝)

@@ -35,6 +35,9 @@ use Rattle.builders.proofs.Refusals.{fault-row, sound, no-fault}
 use Rattle.closing.proofs.Lengths.{closing-length, closing-items-length, spreading-length, spreading-items-length}
 use Rattle.closing.proofs.Refusals.{moving-row, moving-sound, moving-no-fault}
 use Rattle.builders.proofs.SearchRefusals.{search-row, search-sound, search-no-fault, greatest-row, greatest-sound, greatest-no-fault}
+use Rattle.isolation.specs.declared.Isolation.{Isolation}
+use Rattle.isolation.specs.Isolation.{isolationOf}
+use Rattle.isolation.proofs.Answers.{isolated-refusals, unbroken, kept-place}
 use Rattle.contents.specs.declared.Moved.{Moved}
 use Rattle.contents.specs.File.{contentOf, blockCount, blocksOf}
 use Rattle.contents.specs.Content.{answered, readAnswer, changed, over, targetFits, contentFits, readRows, writeRows, ContentLeft, contentRead, contentWritten}
@@ -43,9 +46,9 @@ use Rattle.contents.proofs.Numbers as blocks
 use Rattle.pictures.specs.Picture.{pictureOf, scrambled, contentModes, pictureFits, pictureReadRows, pictureRead, pictureWriteRows, pictureWritten}
 use Rattle.pictures.specs.Conversion.{newContent, oldContent, toNewRows, toOldRows, toNew, toOld}
 use Rattle.pictures.proofs.PictureLaws.{both-parts}
-use Rattle.library.specs.Left.{six, three, runLeft, stepLeft, PassLeft, passLeft, BufferLeft, sumLeft, differenceLeft, movedLeft, TwoLeft, builtTwoLeft, equalLeft, lessLeft, greatestLeft, closingLeft, spreadingLeft, readLeft, writeLeft, writePictureLeft, toNewLeft, toOldLeft, TargetsLeft, readPictureLeft}
-use Rattle.promises.specs.Clauses.{Run, Step, SumList, DifferenceList, GreatestList, ClosingList, SpreadingList, ReadContent, WriteContent, ReadPicture, WritePicture, ToNew, ToOld, LibraryRun, LibraryStep, LibraryPass, LibraryBuffer, LibraryTwo, LibraryReadPicture}
-use Rattle.promises.specs.DemandOne.{AnswerTable, RunTable, StepTable, PassTable, ListTable, TwoTable, FieldsTable, SearchTable, GreatestTable, MovingTable, ClosingTable, SpreadingTable, ReadTable, WriteTable, ReadContentTable, WriteContentTable, ReadPictureTable, WritePictureTable, ToNewTable, ToOldTable, Kept, AllKept, DemandOne}
+use Rattle.library.specs.Left.{six, three, runLeft, stepLeft, PassLeft, passLeft, BufferLeft, sumLeft, differenceLeft, movedLeft, TwoLeft, builtTwoLeft, equalLeft, lessLeft, greatestLeft, closingLeft, spreadingLeft, isolatedLeft, readLeft, writeLeft, writePictureLeft, toNewLeft, toOldLeft, TargetsLeft, readPictureLeft}
+use Rattle.promises.specs.Clauses.{Run, Step, SumList, DifferenceList, GreatestList, ClosingList, SpreadingList, Isolated, ReadContent, WriteContent, ReadPicture, WritePicture, ToNew, ToOld, LibraryRun, LibraryStep, LibraryPass, LibraryBuffer, LibraryTwo, LibraryIsolated, LibraryReadPicture}
+use Rattle.promises.specs.DemandOne.{AnswerTable, RunTable, StepTable, PassTable, ListTable, TwoTable, FieldsTable, SearchTable, GreatestTable, MovingTable, ClosingTable, SpreadingTable, IsolatedTable, ReadTable, WriteTable, ReadContentTable, WriteContentTable, ReadPictureTable, WritePictureTable, ToNewTable, ToOldTable, Kept, AllKept, DemandOne}
 
 -- ---- the tables, from the laws
 
@@ -370,6 +373,18 @@ module _ (a s n : ℕ) (marks list items list′ items′ answer′ : List ℕ) 
       let m = spreading-meets a s n marks list items list′ items′ r (λ t. record { answer = r; list = h t .list; items = h t .items }) in
       (r, ap (λ (l : TwoLeft). l .answer) h, m .0, m .1, m .2)
 
+isolated-meets : (list registers : List ℕ) (r : Isolation) → Isolated list registers r → IsolatedTable list registers r
+isolated-meets list registers r h =
+    subst (IsolatedTable list registers) (sym h)
+    (record { refused = isolated-refusals list registers; row-0 = unbroken list registers; done-is = kept-place list registers })
+
+library-isolated : (list registers answer′ : List ℕ) → LibraryIsolated list registers answer′
+    → (r : Isolation) × (answer′ ≡ r .number ∷ r .place ∷ []) × IsolatedTable list registers r
+unfolding isolatedLeft
+library-isolated list registers answer′ h =
+    let r = isolationOf list registers in
+    (r, h, isolated-meets list registers r refl)
+
 -- of a buffer and three numbers, by what the entry behind them meets
 library-moved : (Table : Moved → Type 0) (l : ContentLeft) (before buffer′ answer′ : List ℕ) → LibraryBuffer (movedLeft l) buffer′ answer′
     → ((r : Moved) → _≡_ {A = ContentLeft} (record { answer = r; buffer = buffer′ }) l → Table r × Kept (r .number) before buffer′)
@@ -435,6 +450,7 @@ demand-one =
       greatestList = greatest-meets;
       closingList = closing-meets;
       spreadingList = spreading-meets;
+      isolated = isolated-meets;
       readContent = read-meets;
       writeContent = write-meets;
       readPicture = read-picture-meets;
@@ -451,6 +467,7 @@ demand-one =
       libraryGreatestList = library-greatest;
       libraryClosingList = library-closing;
       librarySpreadingList = library-spreading;
+      libraryIsolated = library-isolated;
       libraryReadContent = library-read;
       libraryWriteContent = library-write;
       libraryReadPicture = library-read-picture;

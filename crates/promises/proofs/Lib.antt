@@ -7,5 +7,6 @@ pub mod DemandPictures
 pub mod DemandThree
 pub mod DemandSearch
 pub mod DemandClosing
+pub mod DemandIsolation
 pub mod Examples
 pub mod Uniqueness

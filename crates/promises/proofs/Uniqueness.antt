@@ -83,6 +83,7 @@ module _ {M : Type 1} (𝓤 : URA M) (H : Heap 𝓤) (A : Atoms 𝓤) (memory : 
         greatestList = equation 𝓤 _ (λ κs a g r e. refl);
         closingList = equation 𝓤 _ (λ κs a g r e. refl);
         spreadingList = equation 𝓤 _ (λ κs a g r e. refl);
+        isolated = equation 𝓤 _ (λ κs a g r e. refl);
         readContent = equation 𝓤 _ (λ κs a g r e. refl);
         writeContent = equation 𝓤 _ (λ κs a g r e. refl);
         readPicture = equation 𝓤 _ (λ κs a g r e. refl);
@@ -105,6 +106,7 @@ module _ {M : Type 1} (𝓤 : URA M) (H : Heap 𝓤) (A : Atoms 𝓤) (memory : 
         greatestList = equation 𝓤 _ (λ κs a g r e. refl);
         closingList = equation 𝓤 _ (λ κs a g r e. refl);
         spreadingList = equation 𝓤 _ (λ κs a g r e. refl);
+        isolated = equation 𝓤 _ (λ κs a g r e. refl);
         readContent = equation 𝓤 _ (λ κs a g r e. refl);
         writeContent = equation 𝓤 _ (λ κs a g r e. refl);
         readPicture = equation 𝓤 _ (λ κs a g r e. refl);
@@ -189,6 +191,7 @@ module _ {M : Type 1} (𝓤 : URA M) (H : Heap 𝓤) (A : Atoms 𝓤) (memory : 
         judge = equation 𝓤 _ (λ κs a g r e. refl);
         judgeStep = equation 𝓤 _ (λ κs a g r e. refl);
         decode = equation 𝓤 _ (λ κs a g r e. refl);
+        unfit = equation 𝓤 _ (λ κs a g r e. refl);
         settle = equation 𝓤 _ (λ κs a g r e. refl);
         fault = equation 𝓤 _ (λ κs a g r e. refl);
         takes = equation 𝓤 _ (λ κs a g r e. refl);

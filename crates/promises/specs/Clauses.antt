@@ -13,11 +13,13 @@ use Rattle.builders.specs.Sums.{sumBuilt, differenceBuilt}
 use Rattle.builders.specs.Searches.{equalBuilt, lessBuilt, greatestBuilt}
 use Rattle.closing.specs.Closing.{closingBuilt, spreadingBuilt}
 use Rattle.builders.specs.Building.{BuiltLeft as Buffer, BuiltTwoLeft as Buffers}
+use Rattle.isolation.specs.declared.Isolation.{Isolation}
+use Rattle.isolation.specs.Isolation.{isolationOf}
 use Rattle.contents.specs.declared.Moved.{Moved}
 use Rattle.contents.specs.Content.{ContentLeft, contentRead, contentWritten}
 use Rattle.pictures.specs.Picture.{PictureLeft, pictureRead, pictureWritten}
 use Rattle.pictures.specs.Conversion.{toNew, toOld}
-use Rattle.library.specs.Left.{runLeft, stepLeft, PassLeft, passLeft, BufferLeft, TwoLeft, TargetsLeft, readPictureLeft, version}
+use Rattle.library.specs.Left.{runLeft, stepLeft, PassLeft, passLeft, BufferLeft, TwoLeft, isolatedLeft, TargetsLeft, readPictureLeft, version}
 
 -- ---- the array
 
@@ -68,6 +70,10 @@ ClosingList a s n marks list items list′ items′ r =
 abbrev pub SpreadingList : (a s n : ℕ) (marks list items list′ items′ : List ℕ) → BuiltTwo → Type 0
 SpreadingList a s n marks list items list′ items′ r =
     _≡_ {A = Buffers} (record { answer = r; list = list′; items = items′ }) (spreadingBuilt a s n marks list items)
+
+-- `isolation::isolated`, which writes no buffer
+abbrev pub Isolated : (list registers : List ℕ) → Isolation → Type 0
+Isolated list registers r = r ≡ isolationOf list registers
 
 -- ---- the disk
 
@@ -121,11 +127,15 @@ LibraryBuffer l buffer′ answer′ = _≡_ {A = BufferLeft} (record { buffer = 
 abbrev pub LibraryTwo : TwoLeft → (list′ items′ answer′ : List ℕ) → Type 0
 LibraryTwo l list′ items′ answer′ = _≡_ {A = TwoLeft} (record { list = list′; items = items′; answer = answer′ }) l
 
+-- `staran_isolated`
+abbrev pub LibraryIsolated : (list registers answer′ : List ℕ) → Type 0
+LibraryIsolated list registers answer′ = answer′ ≡ isolatedLeft list registers
+
 -- `staran_read_picture`
 abbrev pub LibraryReadPicture : (kind : ℕ) (bytes memory registers memory′ registers′ answer′ : List ℕ) → Type 0
 LibraryReadPicture kind bytes memory registers memory′ registers′ answer′ =
     _≡_ {A = TargetsLeft} (record { memory = memory′; registers = registers′; answer = answer′ }) (readPictureLeft kind bytes memory registers)
 
--- `staran_version`: 5.1
+-- `staran_version`: 5.2
 abbrev pub LibraryVersion : ℕ → Type 0
-LibraryVersion r = r ≡ version 5 1
+LibraryVersion r = r ≡ version 5 2

@@ -1,11 +1,11 @@
--- Demand 1, on a page: "Every public entry takes arbitrary bytes and lengths, and ends. A list is judged whole before its first instruction acts. A refusal gives the number and place that document 01 fixes, exactly when it says, and no lent byte has changed." Document 02, Six: "Demand 1 reads with the finer table", and a run's or step's refusal gives the offending byte; Seven adds 14 and 15, Eight 28 and 15 in pictures.
+-- Demand 1, on a page: "Every public entry takes arbitrary bytes and lengths, and ends. A list is judged whole before its first instruction acts. A refusal gives the number and place that document 01 fixes, exactly when it says, and no lent byte has changed." Document 02, Six: "Demand 1 reads with the finer table", and a run's or step's refusal gives the offending byte; Seven adds 14 and 15, Eight 28 and 15 in pictures, Fourteen 40.
 -- A record states each table of document 01; `DemandOne`, below them, has a field for each public entry and for each function of the library. A table is a list of rows with their numbers, in the order in which they are judged; `FirstRow rows n` says that row n is the first that holds, and `FirstByteRow rows n b` also that its condition about byte b is the first of its conditions that does. The names are those of specs/. It is proved in proofs/DemandOne.antt, and assumes nothing.
 -- What is lent is any list of bytes, and a kind, a start or a width any number: no contract of an entry has a `requires`, so no field has a condition on them. That an entry ends is part of every check. A name with ′ is what a buffer lent for writing holds afterwards; one lent for reading cannot change. What stands before a field's last arrow is the entry's promise, its contract's clauses as specs/Clauses.antt has them.
 use mathlib.Core.Path.{_≡_}
 use mathlib.Core.Bool.{true, false}
 use mathlib.Core.List.{List, [], _∷_}
 use mathlib.Core.Logic.{_↔_, _≢_}
-use Prim.Native.Nat.{ℕ, _*_, _^_, _<_, _≤_}
+use Prim.Native.Nat.{ℕ, _*_, _/_, _^_, _<_, _≤_}
 use lib.ListN.{length, replicate}
 use Rattle.bits.specs.Rows.{Row, NoRow, FirstRow}
 use Rattle.network.specs.declared.Passed.{Passed}
@@ -28,6 +28,10 @@ use Rattle.builders.specs.Field.{Field}
 use Rattle.builders.specs.Sums.{Fields, listLength, fieldRows}
 use Rattle.builders.specs.Searches.{searchLength, itemsLength, greatestLength, searchRows, greatestRows}
 use Rattle.closing.specs.Closing.{closingLength, closingItemsLength, spreadingLength, spreadingItemsLength, movingRows, FieldsApart}
+use Rattle.isolation.specs.declared.Isolation.{Isolation}
+use Rattle.isolation.specs.Isolation.{askRows}
+use Rattle.fields.specs.Isolation.{Keeps}
+use Rattle.isolation.specs.Numbers.{Answered}
 use Rattle.blocks.specs.Block.{blockBytes}
 use Rattle.contents.specs.declared.Moved.{Moved}
 use Rattle.contents.specs.File.{pictureKind, modesPictureKind, contentOf, sizeFits, blockCount}
@@ -36,7 +40,7 @@ use Rattle.contents.specs.Numbers.{Answers, Sound, ReadRefused}
 use Rattle.pictures.specs.Picture.{pictureFile, contentModes, pictureFits, pictureReadRows, pictureWriteRows}
 use Rattle.pictures.specs.Conversion.{toNewRows, toOldRows}
 use Rattle.library.specs.Left.{six, three, sumLeft, differenceLeft, equalLeft, lessLeft, greatestLeft, closingLeft, spreadingLeft, readLeft, writeLeft, writePictureLeft, toNewLeft, toOldLeft}
-use Rattle.promises.specs.Clauses.{Run, Step, Pass, SumList, DifferenceList, EqualList, LessList, GreatestList, ClosingList, SpreadingList, ReadContent, WriteContent, ReadPicture, WritePicture, ToNew, ToOld, LibraryRun, LibraryStep, LibraryPass, LibraryBuffer, LibraryTwo, LibraryReadPicture, LibraryVersion}
+use Rattle.promises.specs.Clauses.{Run, Step, Pass, SumList, DifferenceList, EqualList, LessList, GreatestList, ClosingList, SpreadingList, Isolated, ReadContent, WriteContent, ReadPicture, WritePicture, ToNew, ToOld, LibraryRun, LibraryStep, LibraryPass, LibraryBuffer, LibraryTwo, LibraryIsolated, LibraryReadPicture, LibraryVersion}
 
 -- ---- Network: "a zero item where byte 6 is none of the 37, and otherwise 0 and the passed item"; document 02, Six: "16, group over 256 lines; 17, m not below p in a byte 6 that is not 0", in this order
 pub record PassTable (lines : List ℕ) (flip code : ℕ) (r : Passed) : Type 0 where
@@ -105,6 +109,17 @@ ClosingTable a s n marks list items = MovingTable a s n marks list items (closin
 
 abbrev pub SpreadingTable : (a s n marks list items : ℕ) → BuiltTwo → Type 0
 SpreadingTable a s n marks list items = MovingTable a s n marks list items (spreadingLength n) (spreadingItemsLength n)
+
+-- ---- Whether a list is isolated: document 02, Fourteen. No row of an instruction stands here: the condition is `breaks`, and what a run refuses is the run's to say.
+
+-- `rows` are those of what is lent, 2, 3 and 15, m the mode registers at the start; `Answered` of isolation/specs/Numbers has the order: these at place 0, then 40 at the first instruction that breaks the condition.
+pub record IsolationTable (rows : List Row) (m : Modes) (list : List ℕ) (r : Isolation) : Type 0 where
+  pub refused : (n k : ℕ) → n ≢ 0 → ((r .number ≡ n) × (r .place ≡ k)) ↔ Answered rows m list n k
+  pub row-0 : (r .number ≡ 0) ↔ NoRow rows × Keeps m list (length list / 8)
+  pub done-is : r .number ≡ 0 → r .place ≡ 0
+
+abbrev pub IsolatedTable : (list registers : List ℕ) → Isolation → Type 0
+IsolatedTable list registers = let m = modesOf registers in IsolationTable (askRows (length registers) m list) m list
 
 -- ---- Blocks on disk: "Place is the block for 21 to 24, else 0"
 
@@ -195,6 +210,8 @@ pub record DemandOne : Type 0 where
       → ClosingTable a s n (length marks) (length list) (length items) r × Kept (r .number) list list′ × Kept (r .number) items items′
   pub spreadingList : (a s n : ℕ) (marks list items list′ items′ : List ℕ) (r : BuiltTwo) → SpreadingList a s n marks list items list′ items′ r
       → SpreadingTable a s n (length marks) (length list) (length items) r × Kept (r .number) list list′ × Kept (r .number) items items′
+  -- `isolated`
+  pub isolated : (list registers : List ℕ) (r : Isolation) → Isolated list registers r → IsolatedTable list registers r
   -- `read_content`, of a list or items
   pub readContent : (kind : ℕ) (bytes target target′ : List ℕ) (r : Moved)
       → ReadContent kind bytes target target′ r
@@ -247,6 +264,9 @@ pub record DemandOne : Type 0 where
   pub librarySpreadingList : (a s n : ℕ) (marks list items list′ items′ answer′ : List ℕ) → LibraryTwo (spreadingLeft a s n marks list items) list′ items′ answer′
       → (r : BuiltTwo) × (answer′ ≡ r .number ∷ r .list ∷ r .items ∷ []) × SpreadingTable a s n (length marks) (length list) (length items) r
       × Kept (r .number) list list′ × Kept (r .number) items items′
+  -- `staran_isolated`
+  pub libraryIsolated : (list registers answer′ : List ℕ) → LibraryIsolated list registers answer′
+      → (r : Isolation) × (answer′ ≡ r .number ∷ r .place ∷ []) × IsolatedTable list registers r
   -- `staran_read_content`
   pub libraryReadContent : (kind : ℕ) (bytes target target′ answer′ : List ℕ) → LibraryBuffer (readLeft kind bytes target) target′ answer′
       → (r : Moved) × (answer′ ≡ three r) × ReadContentTable kind bytes target r × Kept (r .number) target target′
@@ -267,5 +287,5 @@ pub record DemandOne : Type 0 where
       → (r : Moved) × (answer′ ≡ three r) × ToNewTable bytes out r × Kept (r .number) out out′
   pub libraryToOld : (bytes out out′ answer′ : List ℕ) → LibraryBuffer (toOldLeft bytes out) out′ answer′
       → (r : Moved) × (answer′ ≡ three r) × ToOldTable bytes out r × Kept (r .number) out out′
-  -- `staran_version` has no number of the tables: 5.1, and nothing else
-  pub libraryVersion : (r : ℕ) → LibraryVersion r → r ≡ 327681
+  -- `staran_version` has no number of the tables: 5.2, and nothing else
+  pub libraryVersion : (r : ℕ) → LibraryVersion r → r ≡ 327682

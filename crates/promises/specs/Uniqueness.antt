@@ -56,6 +56,7 @@ use Rattle.registers.proofs.rows.write_registers as write_registers
 use Rattle.judge.proofs.judge as judge
 use Rattle.judge.proofs.judge_step as judge_step
 use Rattle.judge.proofs.decode as decode
+use Rattle.judge.proofs.unfit as unfit
 use Rattle.judge.proofs.modes.settle as settle
 use Rattle.judge.proofs.rows.fault as fault
 use Rattle.judge.proofs.rows.takes as takes
@@ -83,6 +84,7 @@ use Rattle.builders.proofs.searches.less_list as less_list
 use Rattle.builders.proofs.searches.greatest_list as greatest_list
 use Rattle.closing.proofs.closing_list as closing_list
 use Rattle.closing.proofs.spreading_list as spreading_list
+use Rattle.isolation.proofs.isolated as isolated
 use Rattle.blocks.proofs.two_at as two_at
 use Rattle.blocks.proofs.fault as block_fault
 use Rattle.blocks.proofs.seal as seal
@@ -115,6 +117,7 @@ use Rattle.library.proofs.staran_less_list as staran_less_list
 use Rattle.library.proofs.staran_greatest_list as staran_greatest_list
 use Rattle.library.proofs.staran_closing_list as staran_closing_list
 use Rattle.library.proofs.staran_spreading_list as staran_spreading_list
+use Rattle.library.proofs.staran_isolated as staran_isolated
 use Rattle.library.proofs.staran_read_content as staran_read_content
 use Rattle.library.proofs.staran_write_content as staran_write_content
 use Rattle.library.proofs.staran_read_picture as staran_read_picture
@@ -170,6 +173,8 @@ module _ {M : Type 1} (𝓤 : URA M) (H : Heap 𝓤) (A : Atoms 𝓤) (memory : 
     pub closingList : OneOutcome 𝓤 closing_list.ended (closing_list.clauses 𝓤 H A memory runs) {O = Buffers} (λ κs r e. record { answer = r; list = now (e .1 .1 .1 .1 .0); items = now (e .1 .1 .1 .1 .1 .0) })
     -- `closing::spreading_list`
     pub spreadingList : OneOutcome 𝓤 spreading_list.ended (spreading_list.clauses 𝓤 H A memory runs) {O = Buffers} (λ κs r e. record { answer = r; list = now (e .1 .1 .1 .1 .0); items = now (e .1 .1 .1 .1 .1 .0) })
+    -- `isolation::isolated`
+    pub isolated : OneOutcome 𝓤 isolated.ended (isolated.clauses 𝓤 H A memory runs) (λ κs r e. r)
     -- `contents::read_content`
     pub readContent : OneOutcome 𝓤 read_content.ended (read_content.clauses 𝓤 H A memory runs) {O = ContentLeft} (λ κs r e. record { answer = r; buffer = now (e .1 .1 .0) })
     -- `contents::write_content`
@@ -196,6 +201,7 @@ module _ {M : Type 1} (𝓤 : URA M) (H : Heap 𝓤) (A : Atoms 𝓤) (memory : 
     pub greatestList : OneOutcome 𝓤 staran_greatest_list.ended (staran_greatest_list.clauses 𝓤 H A memory runs) {O = BufferLeft} (λ κs r e. record { buffer = now (e .1 .1 .0); answer = now (e .1 .1 .1 .0) })
     pub closingList : OneOutcome 𝓤 staran_closing_list.ended (staran_closing_list.clauses 𝓤 H A memory runs) {O = TwoLeft} (λ κs r e. record { list = now (e .1 .1 .1 .1 .0); items = now (e .1 .1 .1 .1 .1 .0); answer = now (e .1 .1 .1 .1 .1 .1 .0) })
     pub spreadingList : OneOutcome 𝓤 staran_spreading_list.ended (staran_spreading_list.clauses 𝓤 H A memory runs) {O = TwoLeft} (λ κs r e. record { list = now (e .1 .1 .1 .1 .0); items = now (e .1 .1 .1 .1 .1 .0); answer = now (e .1 .1 .1 .1 .1 .1 .0) })
+    pub isolated : OneOutcome 𝓤 staran_isolated.ended (staran_isolated.clauses 𝓤 H A memory runs) (λ κs r e. now (e .1 .1 .0))
     pub readContent : OneOutcome 𝓤 staran_read_content.ended (staran_read_content.clauses 𝓤 H A memory runs) {O = BufferLeft} (λ κs r e. record { buffer = now (e .1 .1 .0); answer = now (e .1 .1 .1 .0) })
     pub writeContent : OneOutcome 𝓤 staran_write_content.ended (staran_write_content.clauses 𝓤 H A memory runs) {O = BufferLeft} (λ κs r e. record { buffer = now (e .1 .1 .0); answer = now (e .1 .1 .1 .0) })
     pub readPicture : OneOutcome 𝓤 staran_read_picture.ended (staran_read_picture.clauses 𝓤 H A memory runs) {O = TargetsLeft} (λ κs r e. record { memory = now (e .1 .1 .0); registers = now (e .1 .1 .1 .0); answer = now (e .1 .1 .1 .1 .0) })
@@ -269,6 +275,7 @@ module _ {M : Type 1} (𝓤 : URA M) (H : Heap 𝓤) (A : Atoms 𝓤) (memory : 
     pub judge : OneOutcome 𝓤 judge.ended (judge.clauses 𝓤 H A memory runs) (λ κs r e. r)
     pub judgeStep : OneOutcome 𝓤 judge_step.ended (judge_step.clauses 𝓤 H A memory runs) (λ κs r e. r)
     pub decode : OneOutcome 𝓤 decode.ended (decode.clauses 𝓤 H A memory runs) (λ κs r e. r)
+    pub unfit : OneOutcome 𝓤 unfit.ended (unfit.clauses 𝓤 H A memory runs) (λ κs r e. r)
     pub settle : OneOutcome 𝓤 settle.ended (settle.clauses 𝓤 H A memory runs) (λ κs r e. r)
     pub fault : OneOutcome 𝓤 fault.ended (fault.clauses 𝓤 H A memory runs) (λ κs r e. r)
     pub takes : OneOutcome 𝓤 takes.ended (takes.clauses 𝓤 H A memory runs) (λ κs r e. r)

@@ -106,6 +106,11 @@ pub(crate) fn of_closing(r: builders::BuiltTwo, run: Numbers, done: bool) -> Num
     of_two(r, run, unfixed)
 }
 
+// The answer to the question whether a list is isolated.
+pub(crate) fn of_isolation(r: isolation::Isolation) -> Numbers {
+    three(r.number as u32, narrow(r.place), 0)
+}
+
 // The answer of an entry of the disk.
 pub(crate) fn of_disk(r: contents::Moved) -> Numbers {
     three(r.number as u32, narrow(r.place), narrow(r.bytes))

@@ -1,6 +1,7 @@
 // The entry that a case names is called on its buffers: each call takes those that it lends out of the room, and gives back those that may be written.
 use super::answers::Numbers;
 use super::answers::of_builder;
+use super::answers::of_isolation;
 use super::answers::of_none;
 use super::answers::three;
 use super::closings::call_closing;
@@ -72,6 +73,22 @@ fn call_both(record: &[u8], room: &mut [u8], minus: bool) -> Numbers {
     call_module(record, room, r.count, false)
 }
 
+// The question of kind 21, on just the bytes of the case.
+fn isolated_front(record: &[u8], list: &[u8], registers: &[u8]) -> isolation::Isolation {
+    let n = front(record, 2, list.len());
+    let m = front(record, 1, registers.len());
+    isolation::isolated(&list[0..n], &registers[0..m])
+}
+
+// It leaves every buffer as it is.
+fn call_isolated(record: &[u8], room: &mut [u8]) -> Numbers {
+    let mut list = [0u8; 33000];
+    let mut registers = [0u8; 104];
+    take(record, 2, room, &mut list);
+    take(record, 1, room, &mut registers);
+    of_isolation(isolated_front(record, &list, &registers))
+}
+
 // The entry that the case names.
 pub(crate) fn call(record: &[u8], room: &mut [u8]) -> Numbers {
     let kind = byte(record, 0);
@@ -99,5 +116,8 @@ pub(crate) fn call(record: &[u8], room: &mut [u8]) -> Numbers {
     if kind < 19 {
         return call_disk(record, room, kind);
     }
-    call_conversion(record, room, kind == 20)
+    if kind < 21 {
+        return call_conversion(record, room, kind == 20);
+    }
+    call_isolated(record, room)
 }

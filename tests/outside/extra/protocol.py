@@ -1,8 +1,8 @@
 """The making of the buffers and the digest once more, from PROTOCOL.md alone: checks that page and
 the stored files against each other for every buffer that a call leaves as it was, for runs, steps, passes,
 sums and differences built and run every number, for runs and steps the memory if none is stored, the registers if
-M, X and Y stay, and for the searches, for closing and spreading, for reading and writing of blocks and for pictures
-made new or old every word of the answer.
+M, X and Y stay, and for the searches, for closing and spreading, for reading and writing of blocks, for pictures
+made new or old and for isolation every word of the answer.
 
     python3 extra/protocol.py ../../crates/vectors/stdin ../../crates/vectors/stdout
 """
@@ -223,6 +223,24 @@ def on_disk(kind,p,B):
         if kind==6: lst[:given]=content
         else: mem[:]=turned(content[:8192]);reg[:]=content[8192:]
     return [no,place if no else 0,given,0,0]+[digest(b) for b in B]
+def isolated(kind,p,B):
+    """Kind 21 from the page's part on isolation: all words of the answer."""
+    reg,lst=B[1:3];no=place=0
+    assert not any(p) and not any(map(len,B[:1]+B[3:]))
+    if len(reg)!=100: no=2
+    elif len(lst)%8 or len(lst)>32768: no=3
+    elif any(reg[k]>1 or reg[k]==0<reg[k+1] for k in(96,98)): no=15
+    else:
+        # the tags by which an access has mode 0, byte 3 aside
+        zero={tag for tag,k in((2,96),(3,98)) if reg[k:k+2]==b'\1\0'}
+        for at in range(0,len(lst),8):
+            b=lst[at:at+8];sort,source,tag=b[:3]
+            access=sort in(2,3) or sort in(0,1) and source==0
+            if sort not in(0,1,2,3,6) or b[5] or b[6] or access and not(tag in zero or tag==1 and b[3]==0):
+                no,place=40,at//8
+                break
+            if sort==6 and tag in(2,3): zero=zero-{tag} if b[3] else zero|{tag}
+    return [no,place,0,0,0]+[digest(b) for b in B]
 kept={0:[2,3,5],1:[2,3,5],2:[0,1,2,3,5],3:[0,1,2,3,5],4:[0,1,3,4,5],5:[0,1,3,4,5],10:[3,5],11:[3,5]}
 lines=open(sys.argv[1]).read().split('\n');ans=open(sys.argv[2]).read().split('\n')
 assert lines[-1]=='' and ans[-1]=='' and len(lines)==len(ans)
@@ -231,7 +249,7 @@ for k in range(0,len(lines)-1):
     kind,p,B=make(bytes.fromhex(lines[k]))
     w=[int(v,16) for v in ans[k].split(' ')];assert len(ans[k])==9*len(w)-1 and len(w)>=5+len(B)
     if kind>=12 or 6<=kind<=9:
-        whole=on_disk if kind<10 or kind>16 else search if kind<15 else closing
+        whole=isolated if kind==21 else on_disk if kind<10 or kind>16 else search if kind<15 else closing
         assert w==whole(kind,p,B),k; checked+=len(B); continue
     expected=numbers(kind,p,B);assert len(w)==len(expected)+len(B),k
     if expected[0] is not None: assert w[:len(expected)]==expected,(k,expected)

@@ -70,7 +70,7 @@ fn smaller(case: &Case) -> Vec<Case> {
                 all.push(one);
             }
         }
-        if case.kind == RUN && k == LIST && length % 8 == 0 && length > 8 && length <= 640 {
+        if [RUN, ISOLATED].contains(&case.kind) && k == LIST && length % 8 == 0 && length > 8 && length <= 640 {
             // written out, so that any one instruction can be left out
             let list = case.make()[LIST].clone();
             for leave in 0..length / 8 {
@@ -93,11 +93,35 @@ fn smaller(case: &Case) -> Vec<Case> {
             all.push(one);
         }
     }
+    if case.kind == ISOLATED {
+        all.extend(without_gaps(case));
+    }
     if case.way().is_some() {
         all.extend(narrower(case));
         all.extend(fewer_marked(case));
     }
     all.retain(|c| c.record().len() <= LONGEST_RECORD);
+    all
+}
+
+/// A list in which the whole instructions before one patch, back to the patch before it, are left out.
+fn without_gaps(case: &Case) -> Vec<Case> {
+    let of_list = |patch: &&Patch| patch.target as usize == LIST;
+    let mut ends = vec![0];
+    ends.extend(case.patches.iter().filter(of_list).map(|patch| patch.offset as usize + patch.bytes.len()));
+    let mut all = vec![];
+    for from in case.patches.iter().filter(of_list).map(|patch| patch.offset) {
+        let before = ends.iter().copied().filter(|&end| end <= from as usize).max().unwrap_or(0);
+        let gap = (from as usize - before) as u16 / 8 * 8;
+        let mut one = case.clone();
+        one.lengths[LIST] -= gap;
+        for patch in one.patches.iter_mut().filter(|patch| patch.target as usize == LIST && patch.offset >= from) {
+            patch.offset -= gap;
+        }
+        if gap > 0 {
+            all.push(one);
+        }
+    }
     all
 }
 

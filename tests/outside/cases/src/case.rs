@@ -54,8 +54,9 @@ pub const READ_ASKED: u8 = 17;
 pub const WRITE_ASKED: u8 = 18;
 pub const TO_NEW: u8 = 19;
 pub const TO_OLD: u8 = 20;
+pub const ISOLATED: u8 = 21;
 
-pub const KINDS: [&str; 21] = [
+pub const KINDS: [&str; 22] = [
     "run",
     "step",
     "pass",
@@ -77,6 +78,7 @@ pub const KINDS: [&str; 21] = [
     "write picture as asked",
     "old picture to new",
     "new picture to old",
+    "isolated",
 ];
 
 pub const BUFFERS: [&str; COUNT] = ["memory", "registers", "list or output", "items", "out", "file or marks"];
@@ -246,6 +248,9 @@ impl Case {
         if self.kind == WRITE_ASKED {
             assert!(self.p[1..] == [0; 3]);
         }
+        if self.kind == ISOLATED {
+            assert!([MEMORY, ITEMS, OUT, FILE].iter().all(|&k| self.lengths[k] == 0) && self.p == [0; 4]);
+        }
         assert!(self.patches.len() < 256);
         for patch in &self.patches {
             if patch.target == SEAL {
@@ -406,9 +411,14 @@ impl Case {
         self.search().is_some() || self.way().is_some()
     }
 
-    /// Whether registers of the right length have mode registers: all kinds that run or step.
+    /// Whether registers of the right length have mode registers: all kinds that run or step, and isolation.
     pub fn has_modes(&self) -> bool {
-        self.run_numbers().is_some() && self.lengths[REGISTERS] as usize == RECORD
+        (self.run_numbers().is_some() || self.kind == ISOLATED) && self.lengths[REGISTERS] as usize == RECORD
+    }
+
+    /// Whether buffer 2 is a list that is judged as it is lent.
+    pub fn has_list(&self) -> bool {
+        [RUN, STEP, ISOLATED].contains(&self.kind)
     }
 
     /// The mode registers at the start are these bytes: set-flag and mode of A, then of B.
@@ -499,7 +509,7 @@ impl Case {
         build(a, b, s, width, list)
     }
 
-    /// A pass, a builder alone, reading, writing and making new or old.
+    /// A pass, a builder alone, reading, writing, making new or old, and isolation.
     fn call_other(&self, buffers: &mut Buffers) -> [u32; NUMBERS] {
         let [memory, registers, list, items, out, file] = buffers;
         let p = self.p;
@@ -524,6 +534,10 @@ impl Case {
             WRITE_ASKED => put(emulator::write_picture(p[0], memory, registers, file)),
             TO_NEW => put(emulator::old_to_new(file, list)),
             TO_OLD => put(emulator::new_to_old(file, list)),
+            ISOLATED => {
+                let said = emulator::isolated(list, registers);
+                [said.number, said.place, 0, 0, 0]
+            }
             _ => panic!("no such case"),
         }
     }
@@ -723,7 +737,7 @@ mod tests {
         let mut checked = 0;
         let asked: Vec<&str> = lines.iter().copied().filter(|l| l.len() >= 2 * (HEADER + BUFFER * COUNT) && l.bytes().all(|c| c.is_ascii_hexdigit())).collect();
         let answered: Vec<&str> = lines.iter().copied().filter(|l| Reply::from_line(l).is_some()).collect();
-        assert_eq!((asked.len(), answered.len()), (37, 37));
+        assert_eq!((asked.len(), answered.len()), (46, 46));
         for (line, reply) in asked.iter().zip(&answered) {
             let case = Case::from_line(line).unwrap();
             case.check();
@@ -731,7 +745,7 @@ mod tests {
             assert_eq!(case.answer().line(), *reply);
             checked += 1;
         }
-        assert_eq!(checked, 37);
+        assert_eq!(checked, 46);
         let mut case = Case::new(RUN, 1);
         case.lengths[LIST] = 8;
         assert_eq!(case.make()[LIST], [0x21, 0x01, 0xc5, 0x4f, 0xd1, 0xd0, 0x1a, 0xb2]);

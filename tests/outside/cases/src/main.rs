@@ -6,6 +6,7 @@ mod plan;
 mod against;
 mod bytes;
 mod closings;
+mod isolations;
 mod masks;
 mod modes;
 mod pictures;

@@ -628,11 +628,14 @@ impl Plan {
         self.write_plain(asked, content, output)
     }
 
-    /// One random case of any family; one in ten is a picture of kind 1 or 4, read, written, made new or made old. Of the
-    /// others one in eight is a search, one in eight a closing or spreading, one in eight a run or step with one
-    /// instruction at fault, one in eight a list by the mode registers, one in sixteen a list of masked stores, one in
-    /// sixteen a list of resolves.
+    /// One random case of any family; one in ten asks whether a list is isolated, and of the others one in ten is a picture
+    /// of kind 1 or 4, read, written, made new or made old. Of the rest one in eight is a search, one in eight a closing or
+    /// spreading, one in eight a run or step with one instruction at fault, one in eight a list by the mode registers, one
+    /// in sixteen a list of masked stores, one in sixteen a list of resolves.
     fn random_case(&mut self) -> Case {
+        if self.r.one_in(10) {
+            return self.random_isolation();
+        }
         if self.r.one_in(10) {
             return self.random_picture();
         }
@@ -700,7 +703,7 @@ impl Plan {
 
     /// The stored cases: those of document 01, planned and this many random ones, then the searches, then the
     /// masked stores, then the resolves, then closing and spreading, then the offending byte, then the mode registers,
-    /// then the pictures of kind 4.
+    /// then the pictures of kind 4, then isolation.
     /// What a later document adds stands behind, so that the cases before it stay.
     pub fn stored(&mut self, random: usize) {
         self.planned();
@@ -715,6 +718,7 @@ impl Plan {
         self.all_bytes();
         self.all_modes();
         self.all_pictures();
+        self.all_isolations();
     }
 
     fn planned(&mut self) {

@@ -2,12 +2,15 @@
 
 use crate::case::*;
 use crate::closings;
+use crate::isolations;
 use crate::pictures;
 use crate::searches::{room, values};
 use std::collections::{BTreeMap, BTreeSet};
 use std::fmt::Write;
 
 const DID: [&str; 7] = ["logic", "set M", "store", "masked store", "deliver", "resolve", "set mode register"];
+/// How many instructions of a list are shown.
+const SHOWN: usize = 24;
 const FROM: [&str; 5] = ["memory", "M", "X", "Y", "outside"];
 
 pub fn hex(bytes: &[u8]) -> String {
@@ -83,14 +86,22 @@ pub fn describe(case: &Case) -> String {
     if pictures::about(case) {
         describe_picture(&mut t, case, &buffers);
     }
-    if case.kind == RUN || case.kind == STEP {
+    if case.has_list() {
         if case.shape != 0 {
             writeln!(t, "the list is shaped ({})", case.shape).unwrap();
         }
+        // the first ones, and of the others those that are written in
+        let written = |k: usize| case.patches.iter().any(|patch| {
+            let at = patch.offset as usize;
+            patch.target as usize == LIST && at < 8 * k + 8 && 8 * k < at + patch.bytes.len()
+        });
+        let shown = |k: usize| k < SHOWN || case.kind == ISOLATED && written(k);
         for (k, b) in buffers[LIST].chunks(8).enumerate() {
-            if k == 24 {
+            if k == SHOWN {
                 writeln!(t, "  ... {} instructions in all", buffers[LIST].len() / 8).unwrap();
-                break;
+            }
+            if !shown(k) {
+                continue;
             }
             if b.len() == 8 {
                 writeln!(t, "  {:>4}: {}   {}", k, hex(b), instruction(b)).unwrap();
@@ -107,7 +118,7 @@ pub fn describe(case: &Case) -> String {
         match patch.target {
             SEAL => writeln!(t, "then block {} is sealed", at).unwrap(),
             REPEAT => writeln!(t, "then the memory repeats its first {} bytes", at).unwrap(),
-            k if k as usize == LIST && (case.kind == RUN || case.kind == STEP) && at % 8 == 0 => {
+            k if k as usize == LIST && case.has_list() && at % 8 == 0 => {
                 writeln!(t, "patch: list from instruction {} on, {} bytes", at / 8, patch.bytes.len()).unwrap()
             }
             k if k as usize == MARKS && case.way().is_some() => {
@@ -259,13 +270,17 @@ fn meaning(number: u32) -> &'static str {
         26 => "target or content of wrong size",
         27 => "output too short",
         28 => "a mode register set, which an old picture has not",
+        40 => "not isolated",
         _ => "the builder's",
     }
 }
 
-/// The answer of a run or step, also of one that was built before, and of reading, writing and making new or old, in
-/// words; of other entries nothing.
+/// The answer of a run or step, also of one that was built before, of reading, writing and making new or old, and of
+/// isolation, in words; of other entries nothing.
 pub fn answered(case: &Case, reply: &Reply) -> String {
+    if case.kind == ISOLATED {
+        return answered_of_isolation(case, reply);
+    }
     let Some(at) = case.run_numbers() else { return answered_by_blocks(case, reply) };
     let (before, run) = (&reply.words[..at.start], &reply.words[at]);
     if before.first().is_some_and(|&number| number != 0) {
@@ -294,6 +309,21 @@ fn answered_by_blocks(case: &Case, reply: &Reply) -> String {
         (_, 21..=24) if case.has_file() => format!("refused with {} at block {}: {}\n", number, place, meaning(number)),
         _ => format!("refused with {}: {}\n", number, meaning(number)),
     }
+}
+
+/// Where a list is not isolated, and all that its instruction there is said to be wrong for.
+fn answered_of_isolation(case: &Case, reply: &Reply) -> String {
+    let (number, place) = (reply.words[0], reply.words[1] as usize);
+    if number == 0 {
+        return "isolated: no instruction breaks the condition\n".to_string();
+    }
+    if number != 40 {
+        return format!("refused with {}: {}\n", number, meaning(number));
+    }
+    let buffers = case.make();
+    let b = &buffers[LIST][8 * place..8 * place + 8];
+    let why = isolations::why(&buffers[LIST], &buffers[REGISTERS], place).join(", ");
+    format!("{} at instruction {}: {}   {}: {}\n", meaning(number), place, hex(b), instruction(b), why)
 }
 
 pub fn differences(one: &str, x: Option<&str>, other: &str, y: Option<&str>) -> String {

@@ -67,7 +67,7 @@ enum Mode {
 }
 
 /// The register that a tag names: 2 is A, 3 is B.
-fn register_of(tag: u8) -> Option<usize> {
+pub(crate) fn register_of(tag: u8) -> Option<usize> {
     match tag {
         2 => Some(0),
         3 => Some(1),
@@ -124,7 +124,7 @@ fn zeros(b: &[u8], bytes: &[usize], number: u32) -> Result<(), Fault> {
 
 /// Kinds 0, 1 and 4 with source 0, and kinds 2 and 3 always, touch memory; kinds 5 and 6 do not, although their source
 /// byte is 0 (readings B6, J2).
-fn touches(b: &[u8]) -> bool {
+pub(crate) fn touches(b: &[u8]) -> bool {
     match b[0] {
         0 | 1 | 4 => b[1] == 0,
         2 | 3 => true,
