@@ -87,7 +87,7 @@ pub record DemandIsolation : Type 0 where
   -- the function answers 0 exactly where the list meets the condition, and neither 2, 3 nor 15 refuses what is lent
   pub exactly : (list registers : List ℕ)
       → (isolationOf list registers .number ≡ 0) ↔ NoRow (askRows (length registers) (modesOf registers) list) × (isolated (modesOf registers) list ≡ true)
-  -- "2, 3, 15 as a run gives them": row n is the first that holds exactly where it is in a run of the list on these registers, if the run refuses neither its memory nor its items
+  -- 2, 3 and 15 as a run gives them: row n is the first that holds exactly where it is in a run of the list on these registers, if the run refuses neither its memory nor its items
   pub asRun : (l : Lent (List ℕ)) → length (l .memory) ≡ 8192 → unfit 32 (length (l .items)) ≡ false → (n : ℕ) → n ≢ 0
       → (let m = modesOf (l .registers) in FirstRow (askRows (length (l .registers)) m (l .list)) n ↔ FirstRow (runRows (runLengths l) m (l .list)) n)
   pub built : (m : Modes) → Built m
