@@ -28,7 +28,7 @@ use Rattle.fields.proofs.Examples.{by-unset, by-zero, by-word, by-started, set-
 use Rattle.fields.proofs.Disturbed.{across-done, across-left}
 use Rattle.isolation.specs.Isolation.{askRows, isolationOf}
 use Rattle.isolation.proofs.Answers.{answers-exactly}
-use Rattle.promises.specs.DemandIsolation.{Built, across, zeros, oneElsewhere, lentMemory, Disturbed, DemandIsolation}
+use Rattle.promises.specs.DemandIsolation.{BuiltLists, across, zeros, oneElsewhere, lentMemory, Disturbed, DemandIsolation}
 
 -- ---- 2, 3 and 15
 
@@ -50,7 +50,7 @@ as-run l memory items n u =
 
 -- ---- the lists that are built
 
-built : (m : Modes) → Built m
+built : (m : Modes) → BuiltLists m
 built m =
     record {
       sum = λ a b s n list f. sum-isolated a b s n f list m;

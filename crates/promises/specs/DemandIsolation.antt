@@ -21,7 +21,7 @@ use Rattle.fields.specs.Isolation.{isolated, BreaksFirst, SameAt, Agree, storeB
 use Rattle.isolation.specs.Isolation.{askRows, isolationOf}
 
 -- Sums and differences, and equal and less of document 02, One, are such lists, as their builders write them and whatever the mode registers hold; greatest, closing and spreading are not.
-pub record Built (m : Modes) : Type 0 where
+pub record BuiltLists (m : Modes) : Type 0 where
   pub sum : (a b s n : ℕ) (list : List ℕ) → Fields a b s n → listLength 1 n ≤ length list → isolated m (listOf (sumBuilt a b s n list)) ≡ true
   pub difference : (a b s n : ℕ) (list : List ℕ) → Fields a b s n → listLength 2 n ≤ length list → isolated m (listOf (differenceBuilt a b s n list)) ≡ true
   pub equal : (a n number : ℕ) (list items : List ℕ) → Field a n → number < 2 ^ n → searchLength n ≤ length list → itemsLength n ≤ length items
@@ -90,6 +90,6 @@ pub record DemandIsolation : Type 0 where
   -- 2, 3 and 15 as a run gives them: row n is the first that holds exactly where it is in a run of the list on these registers, if the run refuses neither its memory nor its items
   pub asRun : (l : Lent (List ℕ)) → length (l .memory) ≡ 8192 → unfit 32 (length (l .items)) ≡ false → (n : ℕ) → n ≢ 0
       → (let m = modesOf (l .registers) in FirstRow (askRows (length (l .registers)) m (l .list)) n ↔ FirstRow (runRows (runLengths l) m (l .list)) n)
-  pub built : (m : Modes) → Built m
+  pub built : (m : Modes) → BuiltLists m
   pub throughRegister : ThroughRegister
   pub disturbed : Disturbed

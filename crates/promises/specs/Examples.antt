@@ -21,6 +21,7 @@ use Rattle.builders.specs.Sums.{sumBuilt, differenceBuilt}
 use Rattle.module.specs.Act.{State, acted}
 use Rattle.module.specs.Run.{Lent}
 use Rattle.fields.specs.Value.{value, listOf, sumRun, differenceRun}
+use Rattle.fields.specs.Isolation.{storeByA, setA}
 use Rattle.report.specs.Report.{printed}
 use Rattle.promises.specs.DemandThree.{Given}
 
@@ -109,18 +110,12 @@ pub record NamesByte : Type 0 where
   pub printedByte : (out : List ℕ) → printed 114 9 57 3 0 0 0 out ≡ 114 ∷ 32 ∷ 57 ∷ 32 ∷ 53 ∷ 55 ∷ 32 ∷ 51 ∷ 32 ∷ 48 ∷ 32 ∷ 48 ∷ 32 ∷ 48 ∷ 10 ∷ []
 
 -- Document 02, Seven: "a register counts as set if its flag is 1 at the start or an earlier kind 6 set it", and else it is "14, register unset (byte 2), after 9". A store of Y under the mode of register A, tag 2, where both registers are unset at the start; and lists of it and of a kind 6 that sets A to 255.
-abbrev storeByA : List ℕ
-storeByA = 2 ∷ 3 ∷ 2 ∷ 0 ∷ 13 ∷ 0 ∷ 0 ∷ 0 ∷ []
-
-abbrev setA : List ℕ
-setA = 6 ∷ 0 ∷ 2 ∷ 255 ∷ 0 ∷ 0 ∷ 0 ∷ 0 ∷ []
-
 pub record AsksMode : Type 0 where
   -- nobody set A
   pub nobodySet : faultOf noneSet (record { kind = 2; source = 3; tag = 2; mode = 0; addr = 13; flip = 0; code = 0; logic = 0 }) ≡ record { number = 14; byte = 2 }
   -- with a mode in byte 3 beside the tag: 9 comes before 14
   pub twoModes : faultOf noneSet (record { kind = 2; source = 3; tag = 2; mode = 255; addr = 13; flip = 0; code = 0; logic = 0 }) ≡ record { number = 9; byte = 3 }
   -- a list that sets A first is not refused
-  pub setFirst : judgedAlone noneSet (setA ++ storeByA) ≡ refusal 0 0 0
+  pub setFirst : judgedAlone noneSet (setA 255 ++ storeByA) ≡ refusal 0 0 0
   -- the same two the other way round: 14 at place 0, since a kind 6 behind the store does not count
-  pub setLater : judgedAlone noneSet (storeByA ++ setA) ≡ refusal 14 0 2
+  pub setLater : judgedAlone noneSet (storeByA ++ setA 255) ≡ refusal 14 0 2

@@ -28,29 +28,31 @@ returns c =
     c .answered .ensures
     ∙ refused-is list regs (w .ask-fault .result) (lent list regs _ _ (w .before .modes-of .ensures) (w .ask-fault .ensures)) (c .before .if1 .taken)
 
+-- what was found before the list is answered: the number of what is lent, and the first instruction that breaks the condition
+sought : (f : tie.After-first-breaking) → let w = f .before .before in
+    let a = w .before .before .before .before .args in
+    let list = now (a .list) in
+    let m = modesOf (now (a .registers)) in
+    (w .ask-fault .result ≡ numberOf (askRows (length (now (a .registers))) m list)) × (f .first-breaking .result ≡ firstBreaking m list)
+sought f =
+    let w = f .before .before in
+    let a = w .before .before .before .before .args in
+    let m = w .before .modes-of .ensures in (
+      lent (now (a .list)) (now (a .registers)) _ _ m (w .ask-fault .ensures),
+      f .first-breaking .ensures ∙ ap (λ (m : Modes). firstBreaking m (now (a .list))) m,
+    )
+
 returns-2 : tie.Need-returns-2
 returns-2 c =
     let f = c .before .before in
-    let w = f .before .before in
-    let a = w .before .before .before .before .args in
-    let list = now (a .list) in
-    let regs = now (a .registers) in
-    let m = w .before .modes-of .ensures in
-    c .answered2 .ensures
-    ∙ broken-is list regs (w .ask-fault .result) (lent list regs _ _ m (w .ask-fault .ensures)) (f .before .if1 .left)
-    (f .first-breaking .result) (f .first-breaking .ensures ∙ ap (λ (m : Modes). firstBreaking m list) m) (c .before .if2 .taken)
+    let a = f .before .before .before .before .before .before .args in
+    c .answered2 .ensures ∙ broken-is (now (a .list)) (now (a .registers)) _ (sought f .0) (f .before .if1 .left) _ (sought f .1) (c .before .if2 .taken)
 
 returns-3 : tie.Need-returns-3
 returns-3 c =
     let f = c .before .before in
-    let w = f .before .before in
-    let a = w .before .before .before .before .args in
-    let list = now (a .list) in
-    let regs = now (a .registers) in
-    let m = w .before .modes-of .ensures in
-    c .answered3 .ensures
-    ∙ kept-is list regs (w .ask-fault .result) (lent list regs _ _ m (w .ask-fault .ensures)) (f .before .if1 .left)
-    (f .first-breaking .result) (f .first-breaking .ensures ∙ ap (λ (m : Modes). firstBreaking m list) m) (c .before .if2 .left)
+    let a = f .before .before .before .before .before .before .args in
+    c .answered3 .ensures ∙ kept-is (now (a .list)) (now (a .registers)) _ (sought f .0) (f .before .if1 .left) _ (sought f .1) (c .before .if2 .left)
 
 pub isolated-spec : {M : Type 1} → statement M
 isolated-spec =
