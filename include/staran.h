@@ -85,7 +85,7 @@ extern "C" {
 
 /* The version of this header, and the linked library's: see staran_version. */
 #define STARAN_VERSION_MAJOR 5
-#define STARAN_VERSION_MINOR 2
+#define STARAN_VERSION_MINOR 3
 #define STARAN_VERSION (STARAN_VERSION_MAJOR * UINT32_C(65536) + STARAN_VERSION_MINOR)
 
 /* Lengths in bytes. The registers of a picture of kind 1 are M, X and Y, the first 96 bytes of a run's; of one of kind 4 they are all 100,
@@ -119,13 +119,20 @@ extern "C" {
  * one block. */
 #define STARAN_FILE_BYTES(n) ((n) == 0 ? (size_t)512 : 512 * (((size_t)(n) + 495) / 496))
 
+/* Room that is enough for the text of a list of n bytes, n at most 32,768, and what staran_reach writes of it. A line of text has at most
+ * 192 characters. */
+#define STARAN_TEXT_BYTES(n) (192 * ((size_t)(n) / 8))
+#define STARAN_REACH_BYTES(n) (2 * ((size_t)(n) / 8))
+
 /* How many numbers an answer has: of a run or a step, of reading or writing, of a list's builder, of a builder of a list with its
- * items, of a pass. */
+ * items, of the question whether a list is isolated, of what it reaches, of its text, of a pass. */
 #define STARAN_RUN_NUMBERS 6
 #define STARAN_DISK_NUMBERS 3
 #define STARAN_LIST_NUMBERS 2
 #define STARAN_LIST_AND_ITEMS_NUMBERS 3
 #define STARAN_ISOLATED_NUMBERS 2
+#define STARAN_REACH_NUMBERS 2
+#define STARAN_SHOW_NUMBERS 2
 #define STARAN_PASS_NUMBERS 1
 
 /* Where each number of a run's or a step's answer stands: answer[STARAN_ANSWER_BYTE] is the byte. */
@@ -483,6 +490,43 @@ void staran_spreading_list(uint32_t a, uint32_t s, uint32_t n, const uint8_t *ma
  * Stack: at most 64 bytes. */
 void staran_isolated(const uint8_t *list, size_t list_length, const uint8_t *registers, size_t registers_length,
                      uint32_t answer[STARAN_ISOLATED_NUMBERS]);
+
+/* Says of each instruction of a list how many words, that is stations, it reaches: a store under mode M reaches 2 to the number of M's zero
+ * bits, from 1 (mode 255, a word) to all 256 (mode 0, a bit slice). A store changes no bit of any other word; a masked store may change
+ * fewer.
+ *
+ * registers   100 bytes, else 2, with which the run will start. The four bytes of the mode registers count alone, and are refused with 15 as
+ *             a run refuses them: M, X and Y may hold anything
+ * list        a multiple of 8 bytes, at most 32,768, else 3
+ * out         2 bytes for each instruction: STARAN_REACH_BYTES
+ * answer      number, count of bytes written
+ *
+ * Judged: 2, 3, 15, as by staran_run_4; then 27 (out_length is under 2 bytes for each instruction).
+ * Done: bytes 2k and 2k + 1 of out are the count of instruction k, low byte first, and the bytes past them stay. The count is 0 for an
+ * instruction that does not store, and for one that is refused by its own bytes (5 to 9, 11, 16 to 18) or with 14, by the mode registers as
+ * the instructions before it leave them: such a list runs not at all.
+ * Refused: count 0, and out is as it was.
+ * Stack: at most 256 bytes. */
+void staran_reach(const uint8_t *registers, size_t registers_length, const uint8_t *list, size_t list_length, uint8_t *out,
+                  size_t out_length, uint32_t answer[STARAN_REACH_NUMBERS]);
+
+/* Writes the text of a list: a line for each instruction, as docs/TEXT.md has it, in ASCII, a line feed behind each line and no zero behind
+ * the last.
+ *
+ *   store mode 13 address 255 from outside ; reaches 32 words
+ *   bytes 02 04 00 0D 00 00 00 00 ; refused 7 byte 2
+ *
+ * list     a multiple of 8 bytes, at most 32,768, else 3; any bytes
+ * text     room for the text: STARAN_TEXT_BYTES is always enough
+ * answer   number, count of characters
+ *
+ * Judged: 3; then 27 (text_length is under the text's length).
+ * Done: the first characters of text are the text, and the bytes past it stay. An instruction that a run refuses by its own bytes stands
+ * there as `bytes`, with the number and the byte; a store is followed by how many words it reaches, `?` where it takes its mode from a
+ * register that no instruction before it sets.
+ * Refused: count 0, and text is as it was.
+ * Stack: at most 896 bytes. */
+void staran_show(const uint8_t *list, size_t list_length, uint8_t *text, size_t text_length, uint32_t answer[STARAN_SHOW_NUMBERS]);
 
 /* Reads the blocks of a list or of items.
  *

@@ -11,10 +11,10 @@ enum {
     STARAN_DONE = 0,
     /* run, step: the memory is not 8,192 bytes */
     STARAN_REFUSED_MEMORY_LENGTH = 1,
-    /* run, isolated: the registers are not 100 bytes */
+    /* run, isolated, reach: the registers are not 100 bytes */
     STARAN_REFUSED_REGISTERS_LENGTH = 2,
-    /* run, step, isolated: the list is not a multiple of 8 bytes, or over 32,768; a step's instruction is not 8
-       bytes */
+    /* run, step, isolated, reach, showing of a list as text, making of a list from text: the list is not a multiple
+       of 8 bytes, or over 32,768; a step's instruction is not 8 bytes; a text makes over 4,096 instructions */
     STARAN_REFUSED_LIST_LENGTH = 3,
     /* run, step: the items are not a multiple of 32 bytes, or over 32,768 */
     STARAN_REFUSED_ITEMS_LENGTH = 4,
@@ -40,8 +40,8 @@ enum {
     /* run, step: memory is touched with tag 2, register A, or tag 3, register B, and that register is not set: its
        flag is 0 at the start, and no earlier kind 6 set it */
     STARAN_REFUSED_MODE_UNSET = 14,
-    /* run, step, isolated, reading, writing, converting: the mode registers, as they are lent or as a picture of
-       kind 4 has them: a flag is over 1, or a mode is not 0 though its flag is 0 */
+    /* run, step, isolated, reach, reading, writing, converting: the mode registers, as they are lent or as a picture
+       of kind 4 has them: a flag is over 1, or a mode is not 0 though its flag is 0 */
     STARAN_REFUSED_MODE_REGISTERS = 15,
     /* run, step, pass: byte 6, 16p + m: p is over 8, a group of more than 256 lines */
     STARAN_REFUSED_GROUP_TOO_WIDE = 16,
@@ -69,7 +69,8 @@ enum {
     /* reading, writing: reading: the target is too short, or for a picture not exactly 8,192 and 96 bytes (kind 1)
        or 8,192 and 100 (kind 4); writing: the content is of a wrong size */
     STARAN_REFUSED_LENT_LENGTH = 26,
-    /* writing, converting: the output is shorter than the blocks */
+    /* writing, converting, reach, showing of a list as text: the output is shorter than the blocks; for reach, than
+       two bytes for each instruction; for a list shown as text, than the text */
     STARAN_REFUSED_OUTPUT_TOO_SHORT = 27,
     /* converting new to old: a mode register is set in a picture of kind 4, and one of kind 1 has no place for it */
     STARAN_REFUSED_MODE_SET = 28,
@@ -80,9 +81,10 @@ enum {
     /* sum and difference lists, closing and spreading: for a sum or difference, S overlaps A or B without having its
        start; for closing or spreading, S and A have a bit in common */
     STARAN_REFUSED_FIELDS_CROSS = 32,
-    /* builders of lists: the list buffer is under 8(1 + 5n) bytes for a sum, 8(2 + 5n) for a difference, 8(2 + 3n)
-       for a search for equal or less, 8(1 + 11n) for greatest, 8(10 + 19n) for closing, 8(1 + 18n) for spreading; or
-       the items buffer is under 32n bytes for equal or less, 288 for closing, 32(1 + 8n) for spreading */
+    /* builders of lists, making of a list from text: the list buffer is under 8(1 + 5n) bytes for a sum, 8(2 + 5n)
+       for a difference, 8(2 + 3n) for a search for equal or less, 8(1 + 11n) for greatest, 8(10 + 19n) for closing,
+       8(1 + 18n) for spreading, 8 for each instruction of a text; or the items buffer is under 32n bytes for equal
+       or less, 288 for closing, 32(1 + 8n) for spreading */
     STARAN_REFUSED_LIST_TOO_SHORT = 33,
     /* searches for equal and less: the number is 2^n or more, n being the width */
     STARAN_REFUSED_NUMBER_TOO_LARGE = 34,
@@ -91,7 +93,29 @@ enum {
     /* isolated: the instruction at the place breaks the condition under which one station cannot disturb another:
        its kind is not 0 to 3 or 6; byte 5, the flip, or byte 6, the shift, is not 0; or it touches memory and its
        mode is not 0, or none is given */
-    STARAN_REFUSED_NOT_ISOLATED = 40
+    STARAN_REFUSED_NOT_ISOLATED = 40,
+    /* making of a list from text: the text has over 1,048,576 characters */
+    STARAN_REFUSED_TEXT_LENGTH = 50,
+    /* making of a list from text: no instruction has this name */
+    STARAN_REFUSED_TEXT_NAME = 60,
+    /* making of a list from text: there is no such choice */
+    STARAN_REFUSED_TEXT_CHOICE = 61,
+    /* making of a list from text: there is no such function */
+    STARAN_REFUSED_TEXT_FUNCTION = 62,
+    /* making of a list from text: there is no such source, place or mode register */
+    STARAN_REFUSED_TEXT_SOURCE = 63,
+    /* making of a list from text: a number 0 to 255 has to stand here, or, behind mode, such a number or a or b */
+    STARAN_REFUSED_TEXT_NUMBER = 64,
+    /* making of a list from text: address, from or mod has to stand here */
+    STARAN_REFUSED_TEXT_WORD = 65,
+    /* making of a list from text: there is no such shift */
+    STARAN_REFUSED_TEXT_SHIFT = 66,
+    /* making of a list from text: this is more than the instruction takes */
+    STARAN_REFUSED_TEXT_TOO_MUCH = 67,
+    /* making of a list from text: this is no byte of two hex digits */
+    STARAN_REFUSED_TEXT_BYTE = 68,
+    /* making of a list from text: the line ends too early */
+    STARAN_REFUSED_TEXT_TOO_EARLY = 69
 };
 
 /* What a number means, in words: when it is given. A number that is never given has a sentence too; the pointer is never null.
@@ -106,7 +130,8 @@ static inline const char *staran_meaning(uint32_t number)
     case STARAN_REFUSED_REGISTERS_LENGTH:
         return "the registers are not 100 bytes";
     case STARAN_REFUSED_LIST_LENGTH:
-        return "the list is not a multiple of 8 bytes, or over 32,768; a step's instruction is not 8 bytes";
+        return "the list is not a multiple of 8 bytes, or over 32,768; a step's instruction is not 8 bytes; a text "
+               "makes over 4,096 instructions";
     case STARAN_REFUSED_ITEMS_LENGTH:
         return "the items are not a multiple of 32 bytes, or over 32,768";
     case STARAN_REFUSED_KIND:
@@ -160,7 +185,8 @@ static inline const char *staran_meaning(uint32_t number)
         return "reading: the target is too short, or for a picture not exactly 8,192 and 96 bytes (kind 1) or 8,192 "
                "and 100 (kind 4); writing: the content is of a wrong size";
     case STARAN_REFUSED_OUTPUT_TOO_SHORT:
-        return "the output is shorter than the blocks";
+        return "the output is shorter than the blocks; for reach, than two bytes for each instruction; for a list "
+               "shown as text, than the text";
     case STARAN_REFUSED_MODE_SET:
         return "a mode register is set in a picture of kind 4, and one of kind 1 has no place for it";
     case STARAN_REFUSED_WIDTH:
@@ -173,8 +199,8 @@ static inline const char *staran_meaning(uint32_t number)
     case STARAN_REFUSED_LIST_TOO_SHORT:
         return "the list buffer is under 8(1 + 5n) bytes for a sum, 8(2 + 5n) for a difference, 8(2 + 3n) for a "
                "search for equal or less, 8(1 + 11n) for greatest, 8(10 + 19n) for closing, 8(1 + 18n) for "
-               "spreading; or the items buffer is under 32n bytes for equal or less, 288 for closing, 32(1 + 8n) for"
-               " spreading";
+               "spreading, 8 for each instruction of a text; or the items buffer is under 32n bytes for equal or "
+               "less, 288 for closing, 32(1 + 8n) for spreading";
     case STARAN_REFUSED_NUMBER_TOO_LARGE:
         return "the number is 2^n or more, n being the width";
     case STARAN_REFUSED_MARKS_LENGTH:
@@ -183,6 +209,28 @@ static inline const char *staran_meaning(uint32_t number)
         return "the instruction at the place breaks the condition under which one station cannot disturb another: "
                "its kind is not 0 to 3 or 6; byte 5, the flip, or byte 6, the shift, is not 0; or it touches memory "
                "and its mode is not 0, or none is given";
+    case STARAN_REFUSED_TEXT_LENGTH:
+        return "the text has over 1,048,576 characters";
+    case STARAN_REFUSED_TEXT_NAME:
+        return "no instruction has this name";
+    case STARAN_REFUSED_TEXT_CHOICE:
+        return "there is no such choice";
+    case STARAN_REFUSED_TEXT_FUNCTION:
+        return "there is no such function";
+    case STARAN_REFUSED_TEXT_SOURCE:
+        return "there is no such source, place or mode register";
+    case STARAN_REFUSED_TEXT_NUMBER:
+        return "a number 0 to 255 has to stand here, or, behind mode, such a number or a or b";
+    case STARAN_REFUSED_TEXT_WORD:
+        return "address, from or mod has to stand here";
+    case STARAN_REFUSED_TEXT_SHIFT:
+        return "there is no such shift";
+    case STARAN_REFUSED_TEXT_TOO_MUCH:
+        return "this is more than the instruction takes";
+    case STARAN_REFUSED_TEXT_BYTE:
+        return "this is no byte of two hex digits";
+    case STARAN_REFUSED_TEXT_TOO_EARLY:
+        return "the line ends too early";
     default:
         return "no such number is ever given";
     }

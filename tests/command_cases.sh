@@ -1,5 +1,5 @@
 #!/bin/bash
-# The command ./staran from outside: exit statuses, names of folders, links, several folders, why, convert and numbers; and building, by a stand-in for `rt`
+# The command ./staran from outside: exit statuses, names of folders, links, several folders, why, convert, list and numbers; and building, by a stand-in for `rt`
 # in a copy of the command: a stale program, a failed and an interrupted build, a checkout that cannot be written, no python3. Also tests/make_blocks.py.
 # Prints a line for each case, and at last 'N passed, 0 failed'.
 #   tests/command_cases.sh
@@ -70,9 +70,11 @@ ln -s good linked; gives "a link to a folder" 0 "$done_line" "$staran" linked
 # shellcheck disable=SC2016
 gives "the folder one stands in" 0 "$done_line" sh -c 'cd good && exec "$0" .' "$staran"
 gives "a path from the root" 0 "$done_line" "$staran" "$work/good"
-folder why; folder numbers; folder convert; gives "a folder named as a task, after --" 0 "$done_line" "$staran" -- why
+folder why; folder numbers; folder convert; folder list; gives "a folder named as a task, after --" 0 "$done_line" "$staran" -- why
 gives "and by its path" 0 "$done_line" "$staran" ./numbers
 gives "and so one named convert" 0 "$done_line" "$staran" -- convert
+gives "and one named list" 0 "$done_line" "$staran" -- list
+gives "by its path too" 0 "$done_line" "$staran" ./list
 
 # ---- the command called through links
 mkdir -p bin/deep; ln -s "$staran" bin/staran; ln -s ../staran bin/deep/again
@@ -92,6 +94,7 @@ call "$staran" numbers 7; [ $status -eq 0 ] && grep -q 'no mode was given' "$wor
 call "$staran" numbers 9; [ $status -eq 0 ] && grep -q '^     byte: the first of 2, 3 and 4 that is not 0' "$work/out"; judge "numbers 9: which byte is given" $?
 call "$staran" numbers 14; [ $status -eq 0 ] && grep -q 'register is not set' <<<"$(tr -s ' \n' ' ' <"$work/out")" && grep -qx '     byte: 2' "$work/out"; judge "numbers 14: a register that is not set" $?
 call "$staran" numbers 15; [ $status -eq 0 ] && grep -q 'a flag is over 1' <<<"$(tr -s ' \n' ' ' <"$work/out")" && ! grep -q 'byte:' "$work/out"; judge "numbers 15: of no instruction" $?
+call "$staran" numbers 61; [ $status -eq 0 ] && grep -q '^ 61  making of a list from text: there is no such choice' "$work/out" && grep -q '^     do: behind logic write x' "$work/out"; judge "numbers 61: of a text" $?
 complains "numbers 19: there is none" 2 'the number 19 is never given' "$staran" numbers 19
 complains "numbers 10: it is not given any more" 2 'the number 10 is never given' "$staran" numbers 10
 timeout 60 "$staran" numbers >/dev/full 2>err; status=$?; : >out
@@ -107,6 +110,20 @@ call "$staran" why damaged; [ $status -eq 1 ] && grep -q '^Block 1' "$work/out" 
 call "$staran" why empty; [ $status -eq 1 ] && grep -q 'before.pic is not there' "$work/out"; judge "why: an absent picture" $?
 call "$staran" why good; [ $status -eq 0 ] && grep -q 'Done' "$work/out"; judge "why: a run that is done" $?
 complains "why: no folder" 2 'one folder' "$staran" why
+# the text of the instruction stands before its bytes, where an instruction is refused
+textual() { # NAME TEXT: of what why printed
+    [ $status -eq 1 ] && [ "$(grep -A 1 '^Text: ' "$work/out" | sed 's/^\(Instruction [0-9]*\),.*/\1/')" = "Text: $2" ]; judge "why: $1" $?
+}
+call "$staran" why bad; textual "the text of an instruction that is refused by itself" $'bytes 02 03 00 00 FF 00 00 00 ; refused 7 byte 2\nInstruction 0'
+folder each '0500000000000000 060003FF00000000 020402000D000000'; call "$staran" why each; textual "of one under a register that is not set" $'store mode a address 13 from outside ; reaches ? words\nInstruction 2'
+folder each '0500000000000000 0404000000000000'; call "$staran" why each; textual "of one that lacks an item" $'deliver outside\nInstruction 1'
+folder each "$(yes 0500000000000000 | head -n 257)"; call "$staran" why each; textual "of one without room for its item" $'resolve\nInstruction 256'
+call "$staran" why good; [ $status -eq 0 ] && ! grep -q '^Text: ' "$work/out"; judge "why: none of a run that is done" $?
+call "$staran" why damaged; [ $status -eq 1 ] && ! grep -q '^Text: ' "$work/out"; judge "why: nor of a file that is refused" $?
+folder ' -odd  name' 02030000FF000000; call "$staran" why ' -odd  name'; textual "whatever the folder's name" $'bytes 02 03 00 00 FF 00 00 00 ; refused 7 byte 2\nInstruction 0'
+folder each 02030000FF000000; mv each/run.lst each/kept; mkfifo each/run.lst; timeout 60 cat each/kept >each/run.lst & call "$staran" why each; wait
+[ $status -eq 1 ] && [ "$(head -n 1 "$work/out")" = 'r 7 0 2 0 0 0' ] && ! grep -q '^Text: ' "$work/out"; judge "why: a list from a pipe is not read again" $?
+rm each/run.lst each/kept
 # NUMBER LIST BYTE SENTENCE: the byte that the program names is marked, and no other, and its line has the sentence
 while read -r number list byte sentence <&3; do
     folder each "$list"; call "$staran" why each
@@ -334,6 +351,171 @@ timeout 60 "$staran" convert new pictures/one full.pic >/dev/full 2>err; status=
 timeout 60 "$staran" convert old pictures/set full.2 >/dev/full 2>err; status=$?
 [ $status -eq 2 ] && grep -qx 'staran: standard output: No space left on device' err && [ ! -e full.2 ]; judge "convert: and for a refusal" $?
 
+# ---- list: a list shown as text, made of it, and what its stores reach
+mkdir lists sheet
+printf '%s\n' 'set a 13' 'store mode a address 255 from outside ; reaches 32 words' 'logic y one x' 'bytes 02 04 00 0D 00 00 00 00 ; refused 7 byte 2' 'mstore word 9 from m flip 128 ; reaches 1 word' >lists/text
+"$blocks" --unfit list lists/list 0600020D00000000 02040200FF000000 000200000000001F 0204000D00000000 030101FF09800000
+"$blocks" list lists/empty; "$blocks" --unfit list lists/three 000200; printf x >lists/byte; cp "$here/crates/program/data/before.pic" lists/picture
+"$blocks" --unfit list lists/damaged "$(yes 0500000000000000 | head -n 200)"; printf '\001' | dd of=lists/damaged bs=1 seek=1600 conv=notrunc status=none
+call "$staran" list show lists/list; [ $status -eq 0 ] && cmp -s "$work/out" lists/text && [ ! -s "$work/err" ]; judge "list show: the text, and nothing else" $?
+call "$staran" list show lists/empty; [ $status -eq 0 ] && [ ! -s "$work/out" ] && [ ! -s "$work/err" ]; judge "list show: of no instructions" $?
+for place in 0 1 4 00 004; do
+    call "$staran" list show lists/list $place; [ $status -eq 0 ] && [ "$(cat "$work/out")" = "$(sed -n "$((10#$place + 1))p" lists/text)" ]; judge "list show: place $place" $?
+done
+complains "list show: a place behind the last" 2 'staran: 5: there is no such place: lists/list has 5 instructions, at the places 0 to 4' "$staran" list show lists/list 5
+complains "list show: one far behind it" 2 '99999999999999999999: there is no such place' "$staran" list show lists/list 99999999999999999999
+complains "list show: a place of none" 2 'staran: 0: there is no such place: lists/empty has no instruction' "$staran" list show lists/empty 0
+complains "list show: a place that is no number" 2 'staran: one: no place; the places of a list are numbers, and the first is 0: ./staran list show FILE 0' "$staran" list show lists/list one
+complains "list show: nor is that" 2 '-1: no place' "$staran" list show lists/list -1
+complains "list show: nor nothing" 2 ': no place' "$staran" list show lists/list ''
+"$blocks" list lists/one 0500000000000000; complains "list show: a place behind the only one" 2 'lists/one has 1 instruction, at place 0' "$staran" list show lists/one 1
+# TASK FILE|NUMBER|WHAT is refused; the number is said, and nothing on standard error
+while IFS='|' read -r task file number about <&3; do
+    call "$staran" list "$task" "lists/$file"
+    [ $status -eq 1 ] && [ ! -s "$work/err" ] && [ "$(head -n 1 "$work/out")" = "Refused: lists/$about." ] && [ "$(sed 1d "$work/out")" = "$("$staran" numbers "$number")" ]
+    judge "list $task: $number of $file" $?
+done 3<<'ROWS'
+show|byte|20|byte
+show|damaged|21|damaged, block 3
+show|picture|22|picture, block 0
+show|three|25|three
+reach|damaged|21|damaged, block 3
+reach|three|25|three
+ROWS
+call "$staran" list show lists/damaged 0; [ $status -eq 1 ] && [ "$(head -n 1 "$work/out")" = 'Refused: lists/damaged, block 3.' ]; judge "list show: of a damaged list no place either" $?
+complains "list show: no file, with the reason" 2 'missing: No such file or directory' "$staran" list show missing
+grep -qx 'staran: nothing was shown: the reason stands above' "$work/err"; judge "and that nothing was shown" $?
+complains "list show: a folder" 2 'staran: good: a folder; the list in it is run.lst' "$staran" list show good
+complains "list reach: a folder" 2 'staran: good: a folder; the list in it is run.lst' "$staran" list reach good
+complains "list show: an empty name" 2 'an empty name is no file' "$staran" list show ''
+complains "list show: a name that is too long" 2 'staran: a name has at most 4,095 bytes' "$staran" list show "$(printf '%4094s' '' | tr ' ' x)"
+complains "list: no words" 2 'show, make or reach: ./staran list show FILE' "$staran" list
+complains "list: none of its words" 2 'show, make or reach' "$staran" list lists/list
+complains "list show: no file" 2 'one list, and at most one place: ./staran list show FILE [PLACE]' "$staran" list show
+complains "list show: three words" 2 'one list, and at most one place' "$staran" list show lists/list 0 1
+complains "list reach: no file" 2 'one list: ./staran list reach FILE' "$staran" list reach
+complains "list reach: two files" 2 'one list: ./staran list reach FILE' "$staran" list reach lists/list lists/one
+complains "list make: one word" 2 'a text and a folder: ./staran list make TEXT FOLDER' "$staran" list make lists/text
+complains "list make: three words" 2 'a text and a folder' "$staran" list make lists/text sheet --replace
+# reach: BYTES|LINES, of which the last says what they come to
+while IFS='|' read -r bytes lines <&3; do
+    "$blocks" --unfit list lists/stores "$bytes"; call "$staran" list reach lists/stores
+    tr '|' '\n' <<<"$lines" >want; [ $status -eq 0 ] && cmp -s "$work/out" want && [ ! -s "$work/err" ]; judge "list reach: $(tail -n 1 want)" $?
+done 3<<'ROWS'
+|No store.
+0500000000000000 000200000000001F|No store.
+0500000000000000 020101FF09000000|1: store word 9 from m ; reaches 1 word|1 store; it reaches 1 word.
+020101FE09000000|0: store mode 254 address 9 from m ; reaches 2 words|1 store; it reaches 2 words.
+020101FF09000000 0301010009000000 020101FE09000000|0: store word 9 from m ; reaches 1 word|1: mstore slice 9 from m ; reaches 256 words|2: store mode 254 address 9 from m ; reaches 2 words|3 stores; the widest reaches 256 words.
+020101FF09000000 020101FF0A000000|0: store word 9 from m ; reaches 1 word|1: store word 10 from m ; reaches 1 word|2 stores; the widest reaches 1 word.
+0500000000000000 0201020009000000|1: store mode a address 9 from m ; reaches ? words|1 store; what instruction 1 reaches is not known: its register is not set in the list.
+0201020009000000 0301030009000000|0: store mode a address 9 from m ; reaches ? words|1: mstore mode b address 9 from m ; reaches ? words|2 stores; what the instructions 0 and 1 reach is not known: their registers are not set in the list.
+0201020009000000 060002FF00000000 0201020009000000 0201030009000000 0201030009000000|0: store mode a address 9 from m ; reaches ? words|2: store mode a address 9 from m ; reaches 1 word|3: store mode b address 9 from m ; reaches ? words|4: store mode b address 9 from m ; reaches ? words|4 stores; the widest that is known reaches 1 word; what the instructions 0, 3 and 4 reach is not known: their registers are not set in the list.
+0700000000000000|1 instruction is refused by itself: ./staran list show says which.|No store.
+0204000D00000000 020101FF09000000 0700000000000000|1: store word 9 from m ; reaches 1 word|2 instructions are refused by themselves: ./staran list show says which.|1 store; it reaches 1 word.
+ROWS
+call "$staran" list reach lists/list
+printf '%s\n' '1: store mode a address 255 from outside ; reaches 32 words' '4: mstore word 9 from m flip 128 ; reaches 1 word' '1 instruction is refused by itself: ./staran list show says which.' '2 stores; the widest reaches 32 words.' >want
+[ $status -eq 0 ] && cmp -s "$work/out" want; judge "list reach: places, and one that is refused by itself" $?
+# make
+gives "list make" 0 'sheet/run.lst: 5 instructions' "$staran" list make lists/text sheet
+cmp -s sheet/run.lst lists/list && [ ! -s "$work/err" ] && [ "$(wc -l <"$work/out")" -eq 1 ] && [ "$(ls -A sheet)" = run.lst ]; judge "it is the list that the text was of, and nothing else is said or made" $?
+echo resolve >lists/short
+complains "list make: a list that is there is not written over" 2 'staran: sheet/run.lst: it is there, and is replaced only if told to: ./staran list make --replace TEXT FOLDER' "$staran" list make lists/short sheet
+cmp -s sheet/run.lst lists/list; judge "and is as it was" $?
+gives "list make --replace" 0 'sheet/run.lst: 1 instruction' "$staran" list make --replace lists/short sheet
+cmp -s sheet/run.lst lists/one && [ "$(ls -A sheet)" = run.lst ] && [ ! -s "$work/err" ] && [ "$(stat -c %a sheet/run.lst)" = "$(printf '%o' $((0666 & ~0$(umask))))" ]; judge "it is the new one, for whom a new file is, and nothing is left beside it" $?
+printf 'resolve\n\nhalt\n' >lists/wrong
+complains "list make --replace: a text that is refused" 1 'lists/wrong:3:1: no instruction has this name; ' "$staran" list make --replace lists/wrong sheet
+cmp -s sheet/run.lst lists/one && [ "$(ls -A sheet)" = run.lst ]; judge "leaves the old one, and nothing beside it" $?
+complains "list make --replace: a text that is not there" 2 'missing: No such file or directory' "$staran" list make --replace missing sheet
+grep -qx 'staran: no list was made: the reason stands above' "$work/err" && cmp -s sheet/run.lst lists/one && [ "$(ls -A sheet)" = run.lst ]; judge "does so too" $?
+rm sheet/run.lst; gives "list make --replace: where there is none" 0 'sheet/run.lst: 5 instructions' "$staran" list make --replace lists/text sheet
+rm sheet/run.lst; ln -s ../nothing sheet/run.lst; complains "list make: a link that leads nowhere is there too" 2 'sheet/run.lst: it is there' "$staran" list make lists/text sheet
+call "$staran" list make --replace lists/text sheet; [ $status -eq 0 ] && [ ! -L sheet/run.lst ] && cmp -s sheet/run.lst lists/list && [ ! -e nothing ]; judge "list make --replace: it takes the link's place, and nothing is made where it leads" $?
+rm sheet/run.lst; mkdir sheet/run.lst; for option in --replace --; do complains "list make $option: run.lst is a folder" 2 'staran: sheet/run.lst: a folder, and no list is made in its place' "$staran" list make $option lists/text sheet; done
+[ -z "$(ls -A sheet/run.lst)" ]; judge "in which nothing is made" $?
+rmdir sheet/run.lst; : >lists/nothing; gives "list make: an empty text" 0 'sheet/run.lst: 0 instructions' "$staran" list make lists/nothing sheet; cmp -s sheet/run.lst lists/empty; judge "which makes the empty list" $?
+remake() { rm -f sheet/run.lst; call "$staran" list make "$1" sheet; } # TEXT
+sed 's/$/\r/' lists/text >lists/dos; remake lists/dos; [ $status -eq 0 ] && cmp -s sheet/run.lst lists/list; judge "list make: lines that end with CR LF" $?
+head -c -1 lists/text >lists/open; remake lists/open; [ $status -eq 0 ] && cmp -s sheet/run.lst lists/list; judge "list make: no line feed behind the last line" $?
+yes resolve | head -n 992 >lists/most; remake lists/most; [ $status -eq 0 ] && [ ! -s "$work/err" ] && [ "$(cat "$work/out")" = 'sheet/run.lst: 992 instructions' ]; judge "list make: as many as a run takes" $?
+yes resolve | head -n 993 >lists/more; remake lists/more; [ $status -eq 0 ] && [ "$(cat "$work/out")" = 'sheet/run.lst: 993 instructions' ] && [ "$(cat "$work/err")" = 'staran: sheet/run.lst: a run in a folder takes at most 992 instructions, and refuses this list with 20 (docs/COMMAND.md)' ]; judge "list make: of one more that is said" $?
+cp "$here/crates/program/data/before.pic" sheet; gives "and a run does so" 1 'l 20 0 0 0 0 0' "$staran" sheet
+call "$staran" list show sheet/run.lst; cmp -s "$work/out" lists/more; judge "and it is shown all the same" $?
+cp "$here/crates/program/data/before.pic" sheet; printf 'logic y one x ; all\nresolve\n' >lists/example; remake lists/example; gives "what is made, the program runs" 0 "$done_line" "$staran" sheet
+# a text that is refused: NUMBER WHERE TEXT; the words are those of docs/numbers.tsv, on one line
+said() { awk -F '\t' -v number="$1" '$1 == number { print $4 "; " $6 " (" $1 ")" }' "$here/docs/numbers.tsv"; }
+while read -r number where text <&3; do
+    printf '%b' "$text" >lists/bad; remake lists/bad
+    [ $status -eq 1 ] && [ ! -s "$work/out" ] && [ "$(cat "$work/err")" = "lists/bad:$where: $(said "$number")" ] && [ ! -e sheet/run.lst ]; judge "list make: $number at $where" $?
+done 3<<'ROWS'
+60 2:1 resolve\nResolve\n
+61 1:7 logic z one m\n
+62 1:9 logic x nxor m\n
+63 1:6 setm a\n
+64 1:12 store word 256 from m\n
+65 1:14 store word 9 m\n
+66 1:20 setm m shift 8 mod 8\n
+67 3:9 \n\nresolve m\n
+68 1:7 bytes 0G 01 02 03 04 05 06 07\n
+69 1:13 store word 9\n
+ROWS
+yes resolve | head -n 4097 >lists/many; remake lists/many; [ $status -eq 1 ] && [ ! -s "$work/out" ] && [ "$(cat "$work/err")" = "lists/many: $(said 3)" ] && [ ! -e sheet/run.lst ]; judge "list make: 4,097 instructions, which is of no line" $?
+yes '; a comment' | head -c 1048577 >lists/long; remake lists/long; [ $status -eq 1 ] && [ ! -s "$work/out" ] && [ "$(cat "$work/err")" = "lists/long: $(said 50)" ] && [ ! -e sheet/run.lst ]; judge "list make: 1,048,577 characters, which are of no line" $?
+grep -qF "    list.txt:3:7: $(said 61)" "$here/docs/COMMAND.md"; judge "docs/COMMAND.md: a refusal as it is said" $?
+complains "list make: no folder" 2 'staran: nowhere: no folder' "$staran" list make lists/text nowhere
+complains "list make: a file for the folder" 2 'staran: lists/text: no folder' "$staran" list make lists/text lists/text
+complains "list make: an empty name for it" 2 'an empty name is no folder' "$staran" list make lists/text ''
+complains "list make: an empty name for the text" 2 'an empty name is no file' "$staran" list make '' sheet
+complains "list make: a folder for the text" 2 'staran: good: a folder; name the file that has the text' "$staran" list make good sheet
+complains "list make: no text, with the reason" 2 'missing: No such file or directory' "$staran" list make missing sheet
+complains "list make: a name that is too long" 2 'staran: a name has at most 4,095 bytes' "$staran" list make "$(printf '%4094s' '' | tr ' ' x)" sheet
+if [ "$(id -u)" -ne 0 ]; then
+    cp lists/text lists/barred; chmod 000 lists/barred; complains "list make: a text that may not be read" 2 'lists/barred: Permission denied' "$staran" list make lists/barred sheet
+    complains "list show: a list that may not be read" 2 'lists/barred: Permission denied' "$staran" list show lists/barred
+    mkdir closed; chmod 555 closed; complains "list make: a folder that may not be written" 2 'closed/run.lst: Permission denied' "$staran" list make lists/text closed
+    complains "list make --replace: nor with it" 2 'staran: closed: no new list can be made there: Permission denied' "$staran" list make --replace lists/text closed
+    chmod 755 closed; "$blocks" list closed/run.lst; chmod 555 closed; complains "list make --replace: nor a list that is there" 2 'closed: no new list can be made there' "$staran" list make --replace lists/text closed
+    cmp -s closed/run.lst lists/empty; judge "which is as it was" $?
+    chmod 755 closed
+fi
+[ "$(ls -A sheet)" = $'after.pic\nbefore.pic' ]; judge "none of which made anything" $?
+# names of any kind: the text, the folder, and then the list in it
+both_ways() { # NAME TEXT FOLDER
+    mkdir -p -- "./$3"; cp lists/text "./$2"
+    call "$staran" list make -- "$2" "$3"; printf '%s\n' "$3/run.lst: 5 instructions" >want
+    [ $status -eq 0 ] && cmp -s "$work/out" want && cmp -s "./$3/run.lst" lists/list && call "$staran" list show -- "$3/run.lst" && [ $status -eq 0 ] && cmp -s "$work/out" lists/text
+    judge "list: $1" $?
+    printf 'resolve\nhalt\n' >"./$2"; call "$staran" list make --replace -- "$2" "$3"; printf '%s\n' "$2:2:1: $(said 60)" >want
+    [ $status -eq 1 ] && cmp -s "$work/err" want && cmp -s "./$3/run.lst" lists/list && [ "$(ls -A -- "./$3")" = run.lst ]; judge "list: and a refusal is said of it" $?
+    rm -rf -- "./$2" "./$3"
+}
+both_ways "blanks" 'a text  of words' 'a folder  of  words'
+both_ways "dashes in front" -text --folder
+both_ways "dashes alone" -- ---
+both_ways "a text that is named as the option, and a folder named as a task" --replace reach
+both_ways "quotes, a dollar and a star" "a'q\"\$t*" "a'q\"\$f*"
+both_ways "a backslash" 'text\nhere' 'folder\there'
+both_ways "line feeds" $'a\ntext\n' $'a\nfolder'
+both_ways "what is no text" $'text\377' $'folder\377'
+cp lists/text ./-text; call "$staran" list make -text sheet/; [ $status -eq 0 ] && [ "$(cat "$work/out")" = 'sheet/run.lst: 5 instructions' ]; judge "list make: a dash without --, and a slash behind the folder" $?
+call "$staran" list make --replace "$work/-text" "$work/sheet"; [ $status -eq 0 ] && [ "$(cat "$work/out")" = "$work/sheet/run.lst: 5 instructions" ]; judge "list make: paths from the root" $?
+# shellcheck disable=SC2016
+call sh -c 'cd sheet && CDPATH=/ exec "$0" list make --replace ../lists/short .' "$staran"; [ $status -eq 0 ] && [ "$(cat "$work/out")" = './run.lst: 1 instruction' ] && cmp -s sheet/run.lst lists/one; judge "list make: in the folder one stands in" $?
+call bin/deep/again list show sheet/run.lst; [ $status -eq 0 ] && [ "$(cat "$work/out")" = resolve ]; judge "list show: called through links" $?
+ln -s sheet sheeted; call "$staran" list make --replace lists/text sheeted; [ $status -eq 0 ] && cmp -s sheet/run.lst lists/list; judge "list make: a link to a folder" $?
+# shellcheck disable=SC2016
+call sh -c '"$0" list show lists/list | "$0" list make --replace /dev/stdin sheet' "$staran"; [ $status -eq 0 ] && cmp -s sheet/run.lst lists/list; judge "list make: a text from a pipe" $?
+rm sheet/run.lst; "$blocks" --unfit list lists/any "$(python 'import random; print(random.Random(6).randbytes(8 * 500).hex())')"
+call "$staran" list show lists/any; cp "$work/out" lists/any.txt; call "$staran" list make lists/any.txt sheet; [ $status -eq 0 ] && cmp -s sheet/run.lst lists/any; judge "list: 500 instructions of any bytes are shown, and made again as they were" $?
+for task in show reach; do
+    timeout 60 "$staran" list $task lists/list >/dev/full 2>err; status=$?; : >out
+    [ $status -eq 2 ] && grep -qx 'staran: standard output: No space left on device' err; judge "list $task: 2 for an output that takes nothing, with the reason" $?
+done
+timeout 60 "$staran" list make --replace lists/short sheet >/dev/full 2>err; status=$?
+[ $status -eq 2 ] && grep -qx 'staran: standard output: No space left on device' err && cmp -s sheet/run.lst lists/one; judge "list make: 2 for an output that takes nothing, and the list is made" $?
+
 # ---- several folders
 call "$staran" good bad 'two words  and more'
 printf '%s\n' good: "$done_line" "$(sed -n 2p <<<"$("$staran" good)")" bad: 'r 7 0 2 0 0 0' 'two words  and more:' "$done_line" "$(sed -n 2p <<<"$("$staran" good)")" >want
@@ -376,7 +558,7 @@ built() { # NAME CALLS STATUS [FOLDER]: a run gives the status, and rt has been 
     judge "$1" $?
 }
 built "no program: it is built, then run" 1 0
-grep -q 'some three minutes' "$work/err" && grep -qx "staran: 1 of $total crates: bits proved" "$work/err" && ! grep -q 'note:' "$work/err" && grep -q 'note:' "$copy/target/staran.log"
+grep -q 'some four minutes' "$work/err" && grep -qx "staran: 1 of $total crates: bits proved" "$work/err" && ! grep -q 'note:' "$work/err" && grep -q 'note:' "$copy/target/staran.log"
 judge "it says how long that takes and which of how many crates is proved, and keeps the notes" $?
 built "nothing changed: nothing is built" 1 0; [ ! -s "$work/err" ]; judge "and nothing is said" $?
 echo '// more' >>"$copy/crates/bits/src/lib.rt"; built "a source changed: it is built again" 2 0
@@ -414,6 +596,8 @@ if [ "$(id -u)" -ne 0 ]; then
 fi
 echo '// convert' >>"$copy/crates/bits/src/lib.rt"; copied convert new pictures/one built.pic >"$work/out" 2>"$work/err"; status=$?
 [ $status -eq 0 ] && [ "$(calls)" -eq 3 ] && grep -q 'building the program' "$work/err" && cmp -s built.pic pictures/four; judge "convert builds too" $?
+echo '// list' >>"$copy/crates/bits/src/lib.rt"; copied list show lists/list >"$work/out" 2>"$work/err"; status=$?
+[ $status -eq 0 ] && [ "$(calls)" -eq 4 ] && grep -q 'building the program' "$work/err" && cmp -s "$work/out" lists/text; judge "list builds too" $?
 mkdir few
 for tool in sh dirname readlink cat awk sed find sort sha256sum uname mktemp cp rm mv mkdir paste seq getconf wc head flock chmod sleep; do
     at=$(command -v $tool) && ln -s "$at" few/$tool
@@ -428,6 +612,9 @@ bare; [ $status -eq 0 ] && grep -qx 'r 0 0 0 519 1 3' "$work/out" && grep -q 'py
 bare why bad; [ $status -eq 1 ] && grep -q 'no mode was given' "$work/out" && grep -q 'python3 is not on PATH' "$work/err"; judge "no python3: why says what it can, and so" $?
 bare convert new pictures/one bare.pic; [ $status -eq 0 ] && cmp -s bare.pic pictures/four && [ ! -s "$work/err" ]; judge "no python3: a picture is converted" $?
 bare convert old pictures/set bare.2; [ $status -eq 1 ] && grep -q '^ 28  ' "$work/out" && grep -qx 'bare.2 was not made.' "$work/out" && grep -q 'python3 is not on PATH' "$work/err"; judge "no python3: and a refusal says what it can, and so" $?
+bare list show lists/list; [ $status -eq 0 ] && cmp -s "$work/out" lists/text && [ ! -s "$work/err" ]; judge "no python3: a list is shown" $?
+rm -f sheet/run.lst; bare list make lists/text sheet; [ $status -eq 0 ] && cmp -s sheet/run.lst lists/list && [ ! -s "$work/err" ]; judge "no python3: and made" $?
+bare list reach lists/list; [ $status -eq 0 ] && [ "$(tail -n 1 "$work/out")" = '2 stores; the widest reaches 32 words.' ] && [ ! -s "$work/err" ]; judge "no python3: and its stores told" $?
 
 # ---- the lists that docs/MACHINE.md works through: their commands as they stand there, what it says they print, and that the bytes of a table are those of its commands
 mkdir page; ln -s "$here/tests" page/tests; ln -s "$staran" page/staran
@@ -443,6 +630,7 @@ worked() { # HEADING FOLDER LINES
     section "$1" "$2"
     printed "$1" 1 >page/want
     call sh -c 'cd page && sh -eu commands'
+    sed -i "/^$2\/run.lst: /d" out # what is said of a list that was made of a text
     [ $status -eq 0 ] && [ "$(wc -l <page/want)" -eq "$3" ] && cmp -s page/want out; judge "the manual: $1" $?
     # shellcheck disable=SC2016
     grep -oE '^\| [0-9] \| `([0-9A-F]{2} ){7}[0-9A-F]{2}`' page/section | sed 's/.*`\(.*\)`/\1/' | tr -d ' ' >page/bytes
@@ -451,6 +639,15 @@ worked() { # HEADING FOLDER LINES
 worked "A first list, worked through" first 4
 "$blocks" --unfit list page/first/run.lst "$(sed 's/^02030100/02030000/' page/bytes)" && call "$staran" page/first
 [ $status -eq 1 ] && [ "$(cat out)" = 'r 7 5 2 0 0 0' ] && grep -q "(\`02 03 00 00 30 00 00 00\`) and the run is refused, \`$(cat out)\`:" page/section; judge "and without the tag of instruction 5" $?
+# its text: the table's column is what is shown but for the reach, what list reach prints, and the store that leaves its mode out
+"$blocks" list page/first/run.lst "$(cat page/bytes)"
+# shellcheck disable=SC2016
+sed -n 's/^| [0-9] | `[0-9A-F ]*` | `\([^`]*\)` |.*/\1/p' page/section >page/texts
+call "$staran" list show page/first/run.lst; [ $status -eq 0 ] && [ "$(wc -l <page/texts)" -eq 9 ] && sed 's/ ;.*//' out | cmp -s - page/texts; judge "and its texts" $?
+sed -n 's/^    \([0-9]: .*\|[0-9] stores; .*\)/\1/p' page/section >page/want
+call "$staran" list reach page/first/run.lst; [ $status -eq 0 ] && [ "$(wc -l <page/want)" -eq 5 ] && cmp -s page/want out; judge "and what it reaches" $?
+sed 's/^store slice 48/store 48/' page/first/list.txt >page/first/without.txt
+call sh -c 'cd page && ./staran list make --replace first/without.txt first'; [ $status -eq 1 ] && grep -q '^first/without.txt:6:7: .*(63)$' err; judge "and the store without its mode, as text" $?
 # document 02, Three: what the office's list writes now; what it wrote before is on the page the item of another run, of the list that flips M with the item, which comes after
 mirrored='Every second station, mirrored'
 worked "$mirrored" mirror 2

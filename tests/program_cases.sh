@@ -1,8 +1,8 @@
 #!/bin/bash
 # The program on folders of every kind, from outside: absent, empty, too long, damaged and unreadable files; which byte of an instruction is wrong; the
 # mode registers, and pictures of both kinds; what happens to an old after.pic; what is left behind; the command's exit status; two runs in one folder;
-# a picture of one kind made one of the other. Prints a line for each case, and at last 'N passed, 0 failed'. Run it from anywhere; it builds the program
-# if the sources have changed.
+# a picture of one kind made one of the other; lists shown as text and made of it. Prints a line for each case, and at last 'N passed, 0 failed'. Run it from
+# anywhere; it builds the program if the sources have changed.
 #   tests/program_cases.sh
 set -u
 here=$(cd "$(dirname "$0")/.." && pwd -P)
@@ -436,8 +436,9 @@ fresh; program new . x.pic; silent "a folder for a file" '.: Is a directory'; [ 
 fresh; program old before.pic nothing/x.pic; [ "$(cat "$work/out")" = 'c 22 0 0' ]; judge "a refusal comes before a file that cannot be made" $?
 fresh; program new before.pic nothing/x.pic; silent "a file that cannot be made" 'nothing/x.pic: No such file or directory'
 fresh; (ulimit -f 4; trap '' XFSZ; program new before.pic x.pic); [ ! -s "$work/out" ] && grep -q '^x.pic: ' "$work/err" && [ ! -e x.pic ]; judge "a write that fails half way: the reason is said, and nothing is left" $?
+usage='new or old, a file and the file to be made; show and a list; make, a text and the list to be made; or no word at all'
 while read -ra words <&3; do
-    fresh; program "${words[@]}"; silent "other words: ${words[*]}" 'new or old, a file and the file to be made, or no word at all'
+    fresh; program "${words[@]}"; silent "other words: ${words[*]}" "$usage"
     if [ -e x.pic ] || [ -e after.pic ]; then judge "other words make nothing" 1; fi
 done 3<<'CASES'
 new
@@ -447,8 +448,19 @@ newer before.pic x.pic
 ne before.pic x.pic
 New before.pic x.pic
 before.pic
+show
+show run.lst x.pic
+show run.lst x.pic y.pic
+shows run.lst
+sho run.lst
+Show run.lst
+make
+make before.pic
+make before.pic x.pic y.pic
+makes before.pic x.pic
+mak before.pic x.pic
 CASES
-fresh; program ''; silent "one empty word is no run" 'new or old, a file and the file to be made, or no word at all'; none "and no after.pic"
+fresh; program ''; silent "one empty word is no run" "$usage"; none "and no after.pic"
 
 # The pictures with every pair of flags and modes, and those with one fault in block 16, both ways: tests/make_blocks.py says the line and what is made.
 python3 -B - "$here/tests" "$work/pictures" >"$work/want" <<'PYTHON'
@@ -474,6 +486,283 @@ while read -r name way _ <&3; do
 done 3<"$work/want" >"$work/got" 2>"$work/err"
 count=$(wc -l <"$work/want") numbers=$(cut -d ' ' -f 4 "$work/want" | sort -nu | paste -s -d ' ')
 diff "$work/want" "$work/got" >"$work/out" && [ "$numbers" = '0 15 21 22 23 24 25 28' ]; judge "$count conversions: the line and the file made" $?
+
+# ---- a list shown as text, by the program itself (docs/TEXT.md): show, and the list's file
+shows() { # NAME TEXT: of run.lst; done with so many characters is printed, and the text, which is given with escapes; nothing is said
+    program show run.lst
+    { printf 's 0 0 %d\n' "$(printf '%b' "$2" | wc -c)"; printf '%b' "$2"; } >"$work/want"
+    cmp -s "$work/out" "$work/want" && [ ! -s "$work/err" ]
+    judge "$1" $?
+}
+refuses() { # NAME NUMBER PLACE: run.lst is refused, and its line is all that is printed
+    program show run.lst
+    [ "$(cat "$work/out")" = "s $2 $3 0" ] && [ ! -s "$work/err" ]
+    judge "$1" $?
+}
+# The bytes of an instruction and its text, for a list of them all.
+cat >"$work/rows" <<'ROWS'
+000400000000001A logic y load outside
+020402000D000000 store mode a address 13 from outside ; reaches ? words
+060002FF00000000 set a 255
+0600030D00000000 set b 13
+020402000D000000 store mode a address 13 from outside ; reaches 1 word
+0304030009800000 mstore mode b address 9 from outside flip 128 ; reaches 32 words
+0600020000000000 set a 0
+0303020000000000 mstore mode a address 0 from y ; reaches 256 words
+0201010007000000 store slice 7 from m ; reaches 256 words
+0302010780FF0000 mstore mode 7 address 128 from x flip 255 ; reaches 32 words
+020301FFFF010000 store word 255 from y flip 1 ; reaches 1 word
+020401FE00000000 store mode 254 address 0 from outside ; reaches 2 words
+0000010007013046 logic x-if-y+y xor slice 7 flip 1 shift 1 mod 8
+000001FF0900803F logic x-if-y one word 9 shift 1 mod 256
+0000010D09008722 logic both 2 mode 13 address 9 shift 128 mod 256
+000002000000002B logic both 11 mode a address 0
+000003000D010000 logic x zero mode b address 13 flip 1
+0001000000000001 logic x nor m
+0002000000000013 logic y not x
+0003000000000004 logic x clear y
+0004000000000015 logic y loadnot outside
+0001000000000027 logic both nand m
+0001000000000028 logic both and m
+0001000000000039 logic x-if-y xnor m
+000100000000004C logic x-if-y+y keep m
+000100000000004D logic x-if-y+y ornot m
+000100000000004E logic x-if-y+y or m
+0104000000FF1000 setm outside flip 255 shift 1 mod 2
+0100010009000000 setm slice 9
+0103000000005400 setm y shift 16 mod 32
+040001FF09000000 deliver word 9
+0401000000000000 deliver m
+0500000000000000 resolve
+020400000D000000 bytes 02 04 00 00 0D 00 00 00 ; refused 7 byte 2
+0700000000000000 bytes 07 00 00 00 00 00 00 00 ; refused 5 byte 0
+020501FF00000000 bytes 02 05 01 FF 00 00 00 00 ; refused 6 byte 1
+060001AB00000000 bytes 06 00 01 AB 00 00 00 00 ; refused 8 byte 2
+040300FF0D000000 bytes 04 03 00 FF 0D 00 00 00 ; refused 9 byte 3
+0203020109000000 bytes 02 03 02 01 09 00 00 00 ; refused 9 byte 3
+0203010009001000 bytes 02 03 01 00 09 00 10 00 ; refused 18 byte 6
+0002000000009000 bytes 00 02 00 00 00 00 90 00 ; refused 16 byte 6
+0002000000008800 bytes 00 02 00 00 00 00 88 00 ; refused 17 byte 6
+0002000000000050 bytes 00 02 00 00 00 00 00 50 ; refused 11 byte 7
+FFFFFFFFFFFFFFFF bytes FF FF FF FF FF FF FF FF ; refused 5 byte 0
+ROWS
+fresh; shows "show: the document's list" 'logic y one x\nresolve\n'
+fresh; blocks list run.lst; shows "show: a list of no instructions" ''
+fresh; blocks list run.lst "$(cut -d ' ' -f 1 "$work/rows")"; shows "show: an instruction of each form, and those that are refused by themselves" "$(cut -d ' ' -f 2- "$work/rows")\n"
+fresh; blocks list run.lst "$(times 992 0500000000000000)"; shows "show: as many as a run takes" "$(times 992 resolve)\n"
+fresh; blocks list run.lst "$(times 4096 000001FE0A80864B)"; [ "$(wc -c <run.lst)" -eq 34304 ]; judge "a list of 4,096 is 67 blocks" $?
+shows "show: and as many as a list has" "$(times 4096 'logic x-if-y+y 11 mode 254 address 10 flip 128 shift 64 mod 256')\n"
+
+# Whatever the bytes: of 4,096 instructions, drawn or one byte or two beside a right one, those that are refused by themselves are the ones that
+# tests/make_blocks.py refuses with both registers set, with its number and byte; and the stores reach what the zero digits of their mode say. A kind 6 that
+# names a register sets it, whatever else is wrong with it.
+fresh; python3 -B - "$here/tests" "$work/f" >"$work/want" <<'PYTHON'
+import random
+import sys
+sys.path.insert(0, sys.argv[1])
+import make_blocks as files
+draw = random.Random(17)
+right = [bytes.fromhex(line.split()[0]) for line in open(sys.argv[2] + '/../rows') if '; refused' not in line]
+list_, modes = [], {}
+for k in range(4096):
+    i = bytearray(draw.randbytes(8) if k % 8 == 0 else draw.choice(right))
+    for _ in range(draw.choice((0, 0, 1, 2))):
+        i[draw.randrange(8)] = draw.choice((0, 1, 2, 3, 4, 13, 16, 80, 136, 255))
+    list_.append(bytes(i))
+    number, byte = files.instruction_fault(i, {2, 3})
+    if i[0] == 6 and i[2] in (2, 3):
+        modes[i[2]] = i[3]
+    if number:
+        print('bytes %s ; refused %d byte %d' % (i.hex(' ').upper(), number, byte))
+    elif i[0] in (2, 3):
+        mode = i[3] if i[2] == 1 else modes.get(i[2])
+        words = '?' if mode is None else 2 ** bin(255 - mode).count('1')
+        print('reaches %s %s' % (words, 'word' if words == 1 else 'words'))
+    elif i[0] == 6:
+        print('set %s %d' % ('ab'[i[2] - 2], i[3]))
+    else:
+        print(['logic', 'setm', '', '', 'deliver', 'resolve'][i[0]])
+files.write(sys.argv[2] + '/run.lst', files.blocks(files.LIST, b''.join(list_)))
+PYTHON
+program show run.lst; sed 1d "$work/out" | sed 's/^m*store.*; reaches/reaches/; s/^\(logic\|setm\|deliver\) .*/\1/' >"$work/got"
+count=$(grep -c '^bytes' "$work/want"); diff "$work/want" "$work/got" >"$work/out" && [ ! -s "$work/err" ] && [ "$count" -gt 1000 ] && [ "$(grep -c '^reaches' "$work/want")" -gt 200 ]; judge "show: of 4,096 instructions $count are refused by themselves, and the stores reach what they should" $?
+
+# what is refused, and what cannot be read
+for size in 0 1 511 513 34305 34816; do fresh; head -c $size /dev/zero >run.lst; refuses "show: $size bytes" 20 0; done
+fresh; truncate -s 1T run.lst; refuses "show: 2^40 bytes are not read to their end" 20 0
+fresh; cp before.pic run.lst; refuses "show: a picture" 22 0
+fresh; blocks items run.lst "$zeros"; refuses "show: items" 22 0
+fresh; blocks list run.lst 000200; refuses "show: a list of three bytes" 25 0
+fresh; blocks list run.lst "$(times 4097 0500000000000000)"; refuses "show: 4,097 instructions" 25 0
+mkdir "$work/lists"
+python3 -B - "$here/tests" "$work/lists" >"$work/want" <<'PYTHON'
+import os
+import random
+import sys
+sys.path.insert(0, sys.argv[1])
+import make_blocks as files
+room = sys.argv[2]
+good = files.blocks(files.LIST, random.Random(4).randbytes(1200))
+
+
+def altered(k, changes, sealed):
+    block = bytearray(good[512 * k:512 * k + 512])
+    for at, value in changes:
+        block[at] = block[at] + value & 255
+    if sealed:
+        block[508:] = files.sums(block[:508])
+    return good[:512 * k] + bytes(block) + good[512 * k + 512:]
+
+
+cases = {'good': good}
+for k in range(3):
+    for at in (0, 1, 2, 3, 4, 5, 6, 7, 8, 11, 12, 219, 220, 507):
+        for sealed in (False, True):
+            cases['block%d-byte%d%s' % (k, at, '-sealed' * sealed)] = altered(k, [(at, 1)], sealed)
+    for at in (508, 511):
+        cases['block%d-byte%d' % (k, at)] = altered(k, [(at, 1)], False)
+    cases['block%d-used-less' % k] = altered(k, [(6, 248)], True)
+    cases['block%d-lost' % k] = good[:512 * k] + good[512 * k + 512:]
+    cases['block%d-twice' % k] = good[:512 * k + 512] + good[512 * k:]
+for name, data in sorted(cases.items()):
+    files.write(os.path.join(room, name), data)
+    number, place = files.file_fault(files.LIST, data)
+    print('%s: s %d %d' % (name, number, place))
+PYTHON
+cp "$work"/lists/* "$work/f"
+while IFS=: read -r name _ <&3; do program show "$name"; echo "$name: $(head -n 1 "$work/out" | cut -d ' ' -f 1-3)"; done 3<"$work/want" >"$work/got"
+count=$(wc -l <"$work/want") numbers=$(cut -d ' ' -f 3 "$work/want" | sort -nu | paste -s -d ' ')
+diff "$work/want" "$work/got" >"$work/out" && [ "$numbers" = '0 21 22 23 24 25' ]; judge "show: number and block of $count lists, damaged and whole" $?
+fresh; program show nothing; silent "show: no file" 'nothing: No such file or directory'
+fresh; program show .; silent "show: a folder for a file" '.: Is a directory'
+fresh; program show ''; silent "show: an empty name" ': No such file or directory'
+if [ "$(id -u)" -ne 0 ]; then
+    fresh; chmod 000 run.lst; program show run.lst; silent "show: a list that may not be read" 'run.lst: Permission denied'
+fi
+fresh; (cd "$work/f" && timeout 20 ${emulator:+"$emulator"} "$loader" --library-path "$tools/lib" "$here/target/bin/program" show run.lst >/dev/full) 2>"$work/err"; : >"$work/out"; silent "show: an output that takes nothing" 'standard output: No space left on device'
+
+# ---- a list made of a text, by the program itself: make, the text's file, and the list's that is to be made
+made_of() { rm -f x.lst; program make x.txt x.lst; } # x.lst of x.txt
+makes() { # NAME TEXT BYTES..: of the text, which is given with escapes, a list of these bytes; nothing is said
+    printf '%b' "$2" >x.txt; name=$1; shift 2
+    blocks list want.lst "$@"; made_of
+    [ "$(cat "$work/out")" = "m 0 0 0 $(python3 -B -c 'import sys; print(len("".join("".join(sys.argv[1:]).split())) // 2)' "$@")" ] && [ ! -s "$work/err" ] && cmp -s x.lst want.lst
+    judge "$name" $?
+}
+unmade() { [ "$(cat "$work/out")" = "$2" ] && [ ! -s "$work/err" ] && [ ! -e x.lst ]; judge "$1" $?; } # NAME LINE: the line is printed, nothing said and no list made
+fresh; makes "make: the document's list" 'logic y one x\nresolve\n' 000200000000001F0500000000000000
+makes "make: an empty text" ''
+makes "make: empty lines and comments alone" '\n\n; a comment\n  \t ; another\r\n;\n'
+makes "make: an instruction of each form" "$(cut -d ' ' -f 2- "$work/rows")\n" "$(cut -d ' ' -f 1 "$work/rows")"
+makes "make: no line feed behind the last line" 'resolve\nset a 13' 05000000000000000600020D00000000
+makes "make: nor behind a comment" 'resolve ; the last' 0500000000000000
+makes "make: lines that end with CR LF" 'resolve\r\nstore word 9 from m ; reaches 1 word\r\n\r\nbytes 01 02 03 04 05 06 07 08\r\n' 0500000000000000 020101FF09000000 0102030405060708
+makes "make: tabs and blanks" ' \t store\tword   9\tfrom m\t\n' 020101FF09000000
+makes "make: a comment right behind a word, of any bytes" 'resolve;and \377\001 more\nset b 9;' 0500000000000000 0600030900000000
+makes "make: a comment that is wrong is passed over" 'store word 9 from m ; reaches 256 words\n' 020101FF09000000
+makes "make: zeros in front, small digits of a byte, functions by number" 'set a 007\nbytes fe DC bA 98 76 54 32 10\nlogic x 015 m\nlogic x 1 m\n' 0600020700000000 FEDCBA9876543210 000100000000000F 0001000000000001
+makes "make: slice and word by their modes" 'deliver mode 0 address 3\ndeliver mode 255 address 3\nsetm m flip 0\n' 0400010003000000 040001FF03000000 0101000000000000
+# NUMBER LINE COLUMN TEXT: what is refused, and where
+while read -r number line column text <&3; do
+    printf '%b' "$text" >x.txt; made_of; unmade "make: $number at $line:$column of '$text'" "m $number $line $column 0"
+done 3<<'CASES'
+60 1 1 Resolve\n
+60 2 1 resolve\nresolves\n
+60 3 3 \n; one\n\t halt ; two\n
+60 1 1 \377\n
+60 1 1 resolve,\n
+61 1 7 logic X one m\n
+61 1 7 logic one m\n
+62 1 9 logic x nxor m\n
+62 1 9 logic x 16 m\n
+62 1 9 logic x 0001 m\n
+63 1 6 setm a\n
+63 1 6 setm memory\n
+63 1 7 store m\n
+63 1 7 store address 9 from m\n
+63 1 19 store word 9 from slice 3\n
+63 1 5 set c 9\n
+63 1 5 set 9\n
+64 1 12 store word 256 from m\n
+64 1 12 store word -1 from m\n
+64 1 12 store word 0009 from m\n
+64 1 12 store mode c address 9 from m\n
+64 1 22 store mode a address b from m\n
+64 1 7 set a a\n
+64 1 13 setm m flip x\n
+65 1 14 store mode a 9 from m\n
+65 1 14 store word 9 m\n
+65 1 16 setm m shift 1 256\n
+66 1 14 setm m shift 3 mod 8\n
+66 1 14 setm m shift 01 mod 8\n
+66 1 14 setm m shift 256 mod 256\n
+66 1 20 setm m shift 8 mod 8\n
+66 1 20 setm m shift 8 mod 512\n
+66 1 20 setm m shift 1 mod 1\n
+67 1 9 resolve m\n
+67 1 10 set a 13 14\n
+67 1 21 store word 9 from m shift 1 mod 8\n
+67 1 28 store word 9 from m flip 1 shift 1 mod 8\n
+67 1 22 setm m shift 1 mod 8 flip 1\n
+67 1 31 bytes 00 01 02 03 04 05 06 07 08\n
+68 1 7 bytes 0 01 02 03 04 05 06 07\n
+68 1 10 bytes 00 0x01 02 03 04 05 06 07\n
+68 1 28 bytes 00 01 02 03 04 05 06 0G\n
+69 1 6 store
+69 1 6 store\n
+69 1 7 store ; slice 7 from m\n
+69 1 6 store;\n
+69 1 13 store word 9\nresolve\n
+69 2 8 resolve\nset a \r\n
+69 1 27 bytes 00 01 02 03 04 05 06\n
+69 1 10 logic x 2\nm\n
+60 2 1 resolve\nhalt\nstore\n
+CASES
+# whole texts: their length, and how many instructions they make
+fresh; { times 4095 resolve; printf ';%1015815s' ''; } >x.txt; made_of; [ "$(wc -c <x.txt)" -eq 1048576 ] && [ "$(cat "$work/out")" = 'm 0 0 0 32760' ]; judge "make: a text of 1,048,576 characters" $?
+printf ' ' >>x.txt; made_of; unmade "make: and of one more" 'm 50 0 0 0'
+{ echo halt; head -c 1048576 /dev/zero; } >x.txt; made_of; unmade "make: 50 before what is wrong in its lines" 'm 50 0 0 0'
+{ truncate -s 1T x.txt; made_of; }; unmade "make: 2^40 characters are not read to their end" 'm 50 0 0 0'
+head -c 1048576 /dev/zero | tr '\0' '\n' >x.txt; made_of; cmp -s x.lst <(blocks list want.lst && cat want.lst) && [ "$(cat "$work/out")" = 'm 0 0 0 0' ]; judge "make: 1,048,576 empty lines" $?
+{ head -c 1048570 /dev/zero | tr '\0' '\n'; echo halt; } >x.txt; made_of; unmade "make: a line that is far down" 'm 60 1048571 1 0'
+printf '%1048570shalt' '' >x.txt; made_of; unmade "make: and one that is far to the right" 'm 60 1 1048571 0'
+times 4096 resolve >x.txt; made_of; [ "$(cat "$work/out")" = 'm 0 0 0 32768' ] && [ "$(wc -c <x.lst)" -eq 34304 ]; judge "make: 4,096 instructions" $?
+times 4097 resolve >x.txt; made_of; unmade "make: and one more" 'm 3 0 0 0'
+{ times 4097 resolve; echo halt; } >x.txt; made_of; unmade "make: what is wrong in a line before that they are too many" 'm 60 4098 1 0'
+# a text that was shown makes the same list, whatever its bytes
+back() { # NAME FILE: shown, and made again, it is the same file
+    program show "$2"; sed 1d "$work/out" >x.txt; made_of
+    cmp -s "$2" x.lst && [ "$(head -c 6 "$work/out")" = 'm 0 0 ' ] && [ ! -s "$work/err" ]; judge "shown and made again: $1" $?
+}
+fresh; back "the document's list" run.lst; blocks list run.lst; back "a list of no instructions" run.lst
+blocks list run.lst "$(cut -d ' ' -f 1 "$work/rows")"; back "an instruction of each form" run.lst
+back "the demonstration's" "$here/demo/run.lst"
+for seed in 1 2 3 4 5; do
+    python3 -B - "$here/tests" "$seed" <<'PYTHON'
+import random
+import sys
+sys.path.insert(0, sys.argv[1])
+import make_blocks as files
+draw = random.Random(int(sys.argv[2]))
+size, top = draw.choice((1, 62, 63, 992, 4096)), draw.choice((1, 3, 7, 16, 255))
+files.write('run.lst', files.blocks(files.LIST, bytes(draw.randint(0, top) for _ in range(8 * size))))
+PYTHON
+    back "$(($(program show run.lst; wc -l <"$work/out") - 1)) instructions of any bytes" run.lst
+done
+sed -n '/^    set a 13$/,/^$/s/^    //p' "$here/docs/TEXT.md" >x.txt; made_of; cp x.lst run.lst; program show run.lst
+[ "$(wc -l <x.txt)" -eq 7 ] && sed 1d "$work/out" | cmp -s - x.txt; judge "docs/TEXT.md: its text is made, and shown as it stands there" $?
+# what cannot be read or made
+fresh; echo resolve >x.txt; echo mine >x.lst; program make x.txt x.lst; silent "make: a file that is there is not written over" 'x.lst: File exists'; [ "$(cat x.lst)" = mine ]; judge "and is as it was" $?
+fresh; echo resolve >x.txt; program make x.txt x.txt; silent "make: nor is the text itself" 'x.txt: File exists'; [ "$(cat x.txt)" = resolve ]; judge "which is as it was" $?
+fresh; echo resolve >x.txt; ln -s nothing x.lst; program make x.txt x.lst; silent "make: nor is a link that leads nowhere followed" 'x.lst: File exists'; [ ! -e nothing ]; judge "and nothing is made there" $?
+fresh; program make nothing x.lst; silent "make: no text" 'nothing: No such file or directory'; [ ! -e x.lst ]; judge "and nothing is made" $?
+fresh; program make . x.lst; silent "make: a folder for a text" '.: Is a directory'; [ ! -e x.lst ]; judge "and nothing is made of it" $?
+fresh; echo halt >x.txt; program make x.txt nothing/x.lst; [ "$(cat "$work/out")" = 'm 60 1 1 0' ]; judge "make: a refusal comes before a file that cannot be made" $?
+fresh; echo resolve >x.txt; program make x.txt nothing/x.lst; silent "make: a file that cannot be made" 'nothing/x.lst: No such file or directory'
+fresh; times 4096 resolve >x.txt; (ulimit -f 4; trap '' XFSZ; program make x.txt x.lst); [ ! -s "$work/out" ] && grep -q '^x.lst: ' "$work/err" && [ ! -e x.lst ]; judge "make: a write that fails half way: the reason is said, and nothing is left" $?
+fresh; { sleep 0.1; echo resolve; sleep 0.1; printf 'set a'; sleep 0.1; echo ' 13'; } | program make /dev/stdin x.lst; [ "$(cat "$work/out")" = 'm 0 0 0 16' ] && blocks list want.lst 05000000000000000600020D00000000 && cmp -s x.lst want.lst; judge "make: a text that comes in pieces" $?
+fresh; echo resolve >x.txt; (cd "$work/f" && timeout 20 ${emulator:+"$emulator"} "$loader" --library-path "$tools/lib" "$here/target/bin/program" make x.txt x.lst >/dev/full) 2>"$work/err"; : >"$work/out"
+silent "make: an output that takes nothing" 'standard output: No space left on device'; [ "$(wc -c <x.lst)" -eq 512 ]; judge "and the list is made" $?
 
 # ---- the demonstration: 20 stations, word 13 stored by itself, the highest marked, and the marks resolved
 "$here/staran" >"$work/out" 2>"$work/err"; status=$?

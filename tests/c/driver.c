@@ -4,6 +4,7 @@
  *     driver judging   has instructions judged by a run and by a step, and counts
  *     driver modes     has lists judged and run with mode registers, and counts
  *     driver isolated  asks of lists whether they are isolated, runs those that are, and counts
+ *     driver texts     asks of lists what they reach, has them shown, runs stores, and counts
  *     driver searches  builds searches over a field, runs them, and counts
  *     driver closing   builds lists that close up a field and spread it back, runs them, and counts
  *     driver pictures  reads, writes and converts pictures of either kind, and counts
@@ -18,6 +19,7 @@
 #include "pictures.h"
 #include "replay.h"
 #include "searches.h"
+#include "texts.h"
 #include "unwritten.h"
 
 #include <stdio.h>
@@ -37,6 +39,8 @@ int main(int count, char **words)
         return modes();
     if (count == 2 && strcmp(words[1], "isolated") == 0)
         return isolated();
+    if (count == 2 && strcmp(words[1], "texts") == 0)
+        return texts();
     if (count == 2 && strcmp(words[1], "searches") == 0)
         return searches();
     if (count == 2 && strcmp(words[1], "closing") == 0)
@@ -45,6 +49,6 @@ int main(int count, char **words)
         return pictures();
     if (count == 2 && strcmp(words[1], "unwritten") == 0)
         return unwritten();
-    fputs("usage: driver cases | driver lengths | driver judging | driver modes | driver isolated | driver searches | driver closing | driver pictures | driver unwritten\n", stderr);
+    fputs("usage: driver cases | driver lengths | driver judging | driver modes | driver isolated | driver texts | driver searches | driver closing | driver pictures | driver unwritten\n", stderr);
     return 2;
 }

@@ -387,6 +387,77 @@ static void isolated_lengths(void)
     function("isolated");
 }
 
+/* ---- what a list reaches, and its text: every instruction stores a slice, which reaches 256 words, or resolves, and its line has as many characters as it has bytes; so the lengths
+ * alone decide */
+
+static void reach_once(size_t registers, size_t list, size_t out, int end)
+{
+    static const uint8_t store[8] = {3, 4, 1, 0, 13, 0, 0, 0};
+    const size_t need = STARAN_REACH_BYTES(list);
+    uint32_t expected[STARAN_REACH_NUMBERS] = {0, 0}, *answer;
+    check("reach: registers %zu, list %zu, out %zu", registers, list, out);
+    nothing_lent(end);
+    lend_registers(draw_modes(), registers, end);
+    lend(LIST, list, end);
+    fill_with(LIST, store);
+    lend(OUT, out, end);
+    if (registers != 100)
+        expected[0] = 2;
+    else if (list % 8 != 0 || list > 32768)
+        expected[0] = 3;
+    else if (out < need)
+        expected[0] = 27;
+    else {
+        expected[1] = (uint32_t)need;
+        for (size_t k = 0; k < need; k++)
+            buffers[OUT].expected[k] = k % 2;
+    }
+    answer = lend_answer(STARAN_REACH_NUMBERS, end);
+    staran_reach(WHOLE(REGISTERS), WHOLE(LIST), WHOLE(OUT), answer);
+    settle(answer, STARAN_REACH_NUMBERS, expected);
+}
+
+static void show_once(size_t list, size_t text, int end)
+{
+    static const uint8_t resolve[8] = {5};
+    uint32_t expected[STARAN_SHOW_NUMBERS] = {0, 0}, *answer;
+    check("show: list %zu, text %zu", list, text);
+    nothing_lent(end);
+    lend(LIST, list, end);
+    fill_with(LIST, resolve);
+    lend(TEXT, text, end);
+    if (list % 8 != 0 || list > 32768)
+        expected[0] = 3;
+    else if (text < list)
+        expected[0] = 27;
+    else {
+        expected[1] = (uint32_t)list;
+        for (size_t k = 0; k < list; k++)
+            buffers[TEXT].expected[k] = (uint8_t)"resolve\n"[k % 8];
+    }
+    answer = lend_answer(STARAN_SHOW_NUMBERS, end);
+    staran_show(WHOLE(LIST), WHOLE(TEXT), answer);
+    settle(answer, STARAN_SHOW_NUMBERS, expected);
+}
+
+static void text_lengths(void)
+{
+    for (size_t i = 0; i < ENDS * COUNT(registers_lengths) * COUNT(list_lengths); i++) {
+        const size_t registers = registers_lengths[i / ENDS % COUNT(registers_lengths)], list = list_lengths[i / ENDS / COUNT(registers_lengths)];
+        for (size_t o = 0; around(STARAN_REACH_BYTES(list), o) != SIZE_MAX; o++)
+            reach_once(registers, list, around(STARAN_REACH_BYTES(list), o), (int)(i % ENDS));
+    }
+    function("reach");
+    for (size_t i = 0; i < ENDS * COUNT(list_lengths); i++) {
+        const size_t list = list_lengths[i / ENDS];
+        for (size_t t = 0; around(list, t) != SIZE_MAX; t++)
+            show_once(list, around(list, t), (int)(i % ENDS));
+        show_once(list, list / 8 * 8, (int)(i % ENDS));
+        show_once(list, STARAN_TEXT_BYTES(list < 32768 ? list : 32768), (int)(i % ENDS));
+    }
+    function("show");
+}
+
 /* ---- disk: kinds, file lengths, targets, damaged blocks */
 
 #define OVER_32_BITS(kind) (((size_t)1 << 32) + (kind))
@@ -640,6 +711,12 @@ static void refused_long(uint8_t *far, size_t long_by)
     LONG_CALL(step_5(WHOLE(MEMORY), record, WHOLE(LIST), far, long_by + 32, WHOLE(OUT), answer), STARAN_RUN_NUMBERS, 4);
     LONG_CALL(isolated(far, long_by + 8, WHOLE(REGISTERS), answer), STARAN_ISOLATED_NUMBERS, 3);
     LONG_CALL(isolated(WHOLE(LIST), far, long_by + 100, answer), STARAN_ISOLATED_NUMBERS, 2);
+    LONG_CALL(reach(far, long_by + 100, WHOLE(LIST), WHOLE(OUT), answer), STARAN_REACH_NUMBERS, 2);
+    LONG_CALL(reach(WHOLE(REGISTERS), far, long_by + 8, WHOLE(OUT), answer), STARAN_REACH_NUMBERS, 3);
+    LONG_CALL(show(far, long_by + 8, WHOLE(OUT), answer), STARAN_SHOW_NUMBERS, 3);
+    lend(LIST, 7, LAST);
+    LONG_CALL(reach(WHOLE(REGISTERS), WHOLE(LIST), far, long_by, answer), STARAN_REACH_NUMBERS, 3);
+    LONG_CALL(show(WHOLE(LIST), far, long_by, answer), STARAN_SHOW_NUMBERS, 3);
     lend(REGISTERS, 96, LAST);
     LONG_CALL(read_content(STARAN_CONTENT_LIST, far, long_by + 512, WHOLE(OUT), answer), 3, 20);
     LONG_CALL(read_picture(STARAN_CONTENT_PICTURE, far, long_by + 8704, WHOLE(MEMORY), WHOLE(REGISTERS), answer), 3, 20);
@@ -764,6 +841,22 @@ static void pictures_long(uint8_t *far, size_t long_by, uint8_t *made)
     }
 }
 
+/* The counts of a list that stores a slice, and the text of one that resolves: 2 bytes and 8 characters. */
+static void texts_long(uint8_t *far, size_t long_by)
+{
+    static const uint8_t store[8] = {2, 3, 1, 0, 13, 0, 0, 0}, resolve[8] = {5}, slice[2] = {0, 1};
+    for (size_t less = 0; less < 2; less++) {
+        nothing_lent(LAST);
+        lend_registers(draw_modes(), 100, LAST);
+        lend_bytes(LIST, store, 8, LAST);
+        LONG_CALL(reach(WHOLE(REGISTERS), WHOLE(LIST), far, long_by + less, answer), STARAN_REACH_NUMBERS, 0, 2);
+        written_long(far, long_by, slice, sizeof slice);
+        lend_bytes(LIST, resolve, 8, LAST);
+        LONG_CALL(show(WHOLE(LIST), far, long_by + 7 * less, answer), STARAN_SHOW_NUMBERS, 0, 8);
+        written_long(far, long_by, (const uint8_t *)"resolve\n", 8);
+    }
+}
+
 /* Where any length will do, a long one is no refusal. */
 static void done_long(uint8_t *far, size_t long_by)
 {
@@ -796,6 +889,7 @@ static void done_long(uint8_t *far, size_t long_by)
     written_long(far, long_by, made, 2576);
     searched_long(far, long_by, made);
     moved_long(far, long_by, made);
+    texts_long(far, long_by);
 }
 
 static void long_lengths(void)
@@ -829,6 +923,7 @@ int lengths(void)
     move_lengths("closing_list", staran_closing_list, 0);
     move_lengths("spreading_list", staran_spreading_list, 1);
     isolated_lengths();
+    text_lengths();
     read_lengths();
     read_picture_lengths();
     damaged_blocks();

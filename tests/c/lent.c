@@ -10,14 +10,14 @@
 #include <unistd.h>
 
 /* A multiple of every page length that Linux has. */
-enum { PAGE = 65536, ROOM = 2 * PAGE, GUARD = 64, GUARD_BYTE = 0xC3, POISON = 0xA5 };
+enum { PAGE = 65536, ROOM = 2 * PAGE, TEXT_ROOM = 13 * PAGE, GUARD = 64, GUARD_BYTE = 0xC3, POISON = 0xA5 };
 
 lent buffers[BUFFERS] = {{"memory", 0, 0, 0, 0, 0}, {"registers", 0, 0, 0, 0, 0}, {"list", 0, 0, 0, 0, 0},   {"items", 0, 0, 0, 0, 0},
-                         {"out", 0, 0, 0, 0, 0},    {"file", 0, 0, 0, 0, 0},      {"answer", 0, 0, 0, 0, 0}};
+                         {"out", 0, 0, 0, 0, 0},    {"file", 0, 0, 0, 0, 0},      {"text", 0, 0, 0, 0, 0},   {"answer", 0, 0, 0, 0, 0}};
 char calling[256];
 
 /* Bytes to fill buffers with: each buffer takes them from another place. */
-static uint8_t pool[ROOM];
+static uint8_t pool[TEXT_ROOM];
 
 static void touched(int signal_number)
 {
@@ -47,12 +47,13 @@ void make_rooms(void)
         pool[i] = (uint8_t)x;
     }
     for (int k = 0; k < BUFFERS; k++) {
-        uint8_t *all = must(mmap(NULL, PAGE + ROOM + PAGE, PROT_NONE, MAP_PRIVATE | MAP_ANONYMOUS, -1, 0));
+        const size_t room = k == TEXT ? TEXT_ROOM : ROOM;
+        uint8_t *all = must(mmap(NULL, PAGE + room + PAGE, PROT_NONE, MAP_PRIVATE | MAP_ANONYMOUS, -1, 0));
         buffers[k].room = all + PAGE;
-        buffers[k].room_length = ROOM;
-        if (mprotect(buffers[k].room, ROOM, PROT_READ | PROT_WRITE) != 0)
+        buffers[k].room_length = room;
+        if (mprotect(buffers[k].room, room, PROT_READ | PROT_WRITE) != 0)
             must(NULL);
-        buffers[k].expected = must(malloc(ROOM));
+        buffers[k].expected = must(malloc(room));
         lend(k, 0, FIRST);
     }
     signal(SIGSEGV, touched);
@@ -71,7 +72,7 @@ static uint8_t *guard(const lent *b)
 void lend_bytes(int k, const uint8_t *bytes, size_t length, int end)
 {
     lent *b = &buffers[k];
-    if (length > LONGEST) {
+    if (length > (k == TEXT ? LONGEST_TEXT : LONGEST)) {
         fprintf(stderr, "driver: a buffer of %zu bytes\n", length);
         exit(2);
     }
@@ -118,12 +119,19 @@ int as_expected(int k)
     return memcmp(buffers[k].bytes, buffers[k].expected, buffers[k].length) == 0;
 }
 
+static void set_room(int k, int protection)
+{
+    if (mprotect(buffers[k].room, buffers[k].room_length, protection) != 0)
+        must(NULL);
+}
+
 static void set_rooms(int protection)
 {
     for (int k = 0; k < BUFFERS; k++)
-        if (k != ANSWER && mprotect(buffers[k].room, buffers[k].room_length, protection) != 0)
-            must(NULL);
+        if (k != ANSWER)
+            set_room(k, protection);
 }
 
 void shut_rooms(void) { set_rooms(PROT_READ); }
+void shut_room(int k) { set_room(k, PROT_READ); }
 void open_rooms(void) { set_rooms(PROT_READ | PROT_WRITE); }

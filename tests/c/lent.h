@@ -18,10 +18,10 @@ typedef struct {
 /* At which end of its room a buffer stands: its first byte behind an untouchable one, or its last byte before one. */
 enum { FIRST, LAST, ENDS };
 
-enum { LONGEST = 70000 };
+enum { LONGEST = 70000, LONGEST_TEXT = 800000 }; /* of a buffer, and of the text's */
 
 /* The buffers of all calls, and the answer. */
-enum { MEMORY, REGISTERS, LIST, ITEMS, OUT, FILE_BYTES, ANSWER, BUFFERS };
+enum { MEMORY, REGISTERS, LIST, ITEMS, OUT, FILE_BYTES, TEXT, ANSWER, BUFFERS };
 extern lent buffers[BUFFERS];
 
 /* A buffer and its length, as two arguments. */
@@ -43,8 +43,9 @@ void lend_registers(const uint8_t modes[4], size_t length, int end);
 /* Lends an answer of `count` numbers, each poisoned. */
 uint32_t *lend_answer(size_t count, int end);
 
-/* Every room but the answer's can be read and not written, from here to `open_rooms`. */
+/* Every room but the answer's, or the room of buffer k alone, can be read and not written, from here to `open_rooms`. */
 void shut_rooms(void);
+void shut_room(int k);
 void open_rooms(void);
 
 /* Are the guard bytes of buffer k as they were, and does the buffer hold what is expected? */

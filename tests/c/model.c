@@ -1,6 +1,8 @@
 /* What include/staran.h promises, worked out by the plainest means: one bit, one instruction, one block at a time. */
 #include "model.h"
 
+#include <stdarg.h>
+#include <stdio.h>
 #include <string.h>
 
 static int bit(const uint8_t *bytes, size_t k) { return bytes[k / 8] >> k % 8 & 1; }
@@ -644,4 +646,156 @@ void model_isolated(const uint8_t *list, size_t list_length, const uint8_t *regi
         }
         set_mode(list + 8 * place, modes);
     }
+}
+
+/* ---- what a list reaches, and its text: instruction by instruction, by the mode registers before it */
+
+/* How many words the lines of a store meet under a mode; at another address they are others, and as many. */
+static unsigned words_met(uint8_t mode)
+{
+    uint8_t met[32] = {0};
+    unsigned words = 0;
+    for (unsigned line = 0; line < 256; line++)
+        set(met, line & (255u - mode), 1);
+    for (unsigned word = 0; word < 256; word++)
+        words += (unsigned)bit(met, word);
+    return words;
+}
+
+static int is_store(const uint8_t *i) { return i[0] == 2 || i[0] == 3; }
+
+void model_reach(const uint8_t *registers, size_t registers_length, const uint8_t *list, size_t list_length, uint8_t *out, size_t out_length, uint32_t answer[2])
+{
+    uint8_t modes[4];
+    unsigned byte;
+    answer[0] = answer[1] = 0;
+    if (registers_length != 100)
+        answer[0] = 2;
+    else if (list_length % 8 != 0 || list_length > 32768)
+        answer[0] = 3;
+    else if (model_wrong_modes(registers + 96))
+        answer[0] = 15;
+    else if (out_length < list_length / 4)
+        answer[0] = 27;
+    if (answer[0] != 0)
+        return;
+    memcpy(modes, registers + 96, 4);
+    for (; answer[1] < list_length / 4; answer[1] += 2) {
+        const uint8_t *i = list + 4 * answer[1];
+        const int stands = model_instruction(modes, i, &byte) == 0;
+        put_two(out + answer[1], is_store(i) && stands ? words_met(i[2] == 1 ? i[3] : modes[2 * i[2] - 3]) : 0);
+        set_mode(i, modes);
+    }
+}
+
+/* A line is made of words, each with a blank before it but the first. */
+enum { LINE = 192, MOST_LINES = 4096 };
+
+static void add(char line[LINE], const char *format, ...)
+{
+    const size_t at = strlen(line);
+    va_list words;
+    va_start(words, format);
+    vsnprintf(line + at, LINE - at, format, words);
+    va_end(words);
+}
+
+static const char *const register_names[] = {"", "m", "x", "y", "outside"};
+
+static void add_place(char *line, const uint8_t *i)
+{
+    if (i[2] != 1)
+        add(line, " mode %c address %u", i[2] == 2 ? 'a' : 'b', i[4]);
+    else if (i[3] == 0 || i[3] == 255)
+        add(line, " %s %u", i[3] == 0 ? "slice" : "word", i[4]);
+    else
+        add(line, " mode %u address %u", i[3], i[4]);
+}
+
+static void add_flip(char *line, const uint8_t *i)
+{
+    if (i[5] != 0)
+        add(line, " flip %u", i[5]);
+}
+
+static void add_source_and_moves(char *line, const uint8_t *i)
+{
+    if (i[1] == 0)
+        add_place(line, i);
+    else
+        add(line, " %s", register_names[i[1]]);
+    add_flip(line, i);
+    if (i[6] != 0)
+        add(line, " shift %u mod %u", 1u << i[6] % 16, 1u << i[6] / 16);
+}
+
+static void add_store(char *line, const uint8_t modes[4], const uint8_t *i)
+{
+    add(line, i[0] == 2 ? "store" : "mstore");
+    add_place(line, i);
+    add(line, " from %s", register_names[i[1]]);
+    add_flip(line, i);
+    if (i[2] != 1 && modes[2 * i[2] - 4] == 0) {
+        add(line, " ; reaches ? words");
+        return;
+    }
+    const unsigned words = words_met(i[2] == 1 ? i[3] : modes[2 * i[2] - 3]);
+    add(line, words == 1 ? " ; reaches %u word" : " ; reaches %u words", words);
+}
+
+static void add_logic(char *line, const uint8_t *i)
+{
+    static const char *const choices[] = {"x", "y", "both", "x-if-y", "x-if-y+y"};
+    static const char *const functions[] = {"zero", "nor", "2", "not", "clear", "loadnot", "xor", "nand", "and", "xnor", "load", "11", "keep", "ornot", "or", "one"};
+    add(line, "logic %s %s", choices[i[7] / 16], functions[i[7] % 16]);
+    add_source_and_moves(line, i);
+}
+
+/* Whether an instruction is refused by itself: it is judged as if both registers were set, so that 14 is never given. */
+static void make_line(char *line, const uint8_t modes[4], const uint8_t *i)
+{
+    static const uint8_t both[4] = {1, 0, 1, 0};
+    unsigned byte;
+    const unsigned number = model_instruction(both, i, &byte);
+    line[0] = 0;
+    if (number != 0)
+        add(line, "bytes %02X %02X %02X %02X %02X %02X %02X %02X ; refused %u byte %u", i[0], i[1], i[2], i[3], i[4], i[5], i[6], i[7], number, byte);
+    else if (i[0] == 0)
+        add_logic(line, i);
+    else if (is_store(i))
+        add_store(line, modes, i);
+    else if (i[0] == 5)
+        add(line, "resolve");
+    else if (i[0] == 6)
+        add(line, "set %c %u", i[2] == 2 ? 'a' : 'b', i[3]);
+    else {
+        add(line, i[0] == 1 ? "setm" : "deliver");
+        add_source_and_moves(line, i);
+    }
+    add(line, "\n");
+}
+
+void model_show(const uint8_t *list, size_t list_length, uint8_t *text, size_t text_length, uint32_t answer[2])
+{
+    static char whole[LINE * MOST_LINES];
+    uint8_t modes[4] = {0};
+    size_t length = 0;
+    char line[LINE];
+    answer[0] = answer[1] = 0;
+    if (list_length % 8 != 0 || list_length > 32768) {
+        answer[0] = 3;
+        return;
+    }
+    for (size_t k = 0; k < list_length; k += 8) {
+        make_line(line, modes, list + k);
+        memcpy(whole + length, line, strlen(line));
+        length += strlen(line);
+        set_mode(list + k, modes);
+    }
+    if (text_length < length) {
+        answer[0] = 27;
+        return;
+    }
+    memcpy(text, whole, length);
+    answer[1] = (uint32_t)length;
 }

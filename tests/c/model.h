@@ -78,4 +78,8 @@ void model_run(int step, const model_lent *lent, uint32_t answer[6]);
 /* Whether a list is isolated, for a run that starts with these registers: the number and the place that are answered. */
 void model_isolated(const uint8_t *list, size_t list_length, const uint8_t *registers, size_t registers_length, uint32_t answer[2]);
 
+/* What is answered of the words that a list reaches, and of its text; and what then stands in `out` and in `text`. */
+void model_reach(const uint8_t *registers, size_t registers_length, const uint8_t *list, size_t list_length, uint8_t *out, size_t out_length, uint32_t answer[2]);
+void model_show(const uint8_t *list, size_t list_length, uint8_t *text, size_t text_length, uint32_t answer[2]);
+
 #endif

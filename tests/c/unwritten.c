@@ -1,5 +1,6 @@
-/* A call that is refused, a run of no instructions, and the question whether a list is isolated, whatever its answer, write nothing at all, not even the same bytes back: every
- * buffer but the answer's stands in memory that cannot be written. */
+/* A call that is refused, a run of no instructions, what an empty list reaches and its text, and the question whether a list is isolated, whatever its answer, write nothing at all,
+ * not even the same bytes back: every buffer but the answer's stands in memory that cannot be written. And what a list reaches, and its text, are written though the list and the
+ * registers cannot be. */
 #include "unwritten.h"
 
 #include "checks.h"
@@ -124,6 +125,96 @@ static void questions(void)
     question("a mode behind flag 0, and no instruction", mode, 100, stays, 0, STARAN_REFUSED_MODE_REGISTERS, 0);
     question("a flip", unset, 100, flips, sizeof flips, STARAN_REFUSED_NOT_ISOLATED, 1);
     question("register B unset", a_holds_0, 100, by_b, sizeof by_b, STARAN_REFUSED_NOT_ISOLATED, 1);
+}
+
+/* What a list reaches, with this room for it. */
+static void reach(const char *name, const uint8_t modes[4], size_t registers, const uint8_t *list, size_t length, size_t out, uint32_t number)
+{
+    const uint32_t expected[STARAN_REACH_NUMBERS] = {number, 0};
+    for (int end = 0; end < ENDS; end++) {
+        lend_registers(modes, registers, end);
+        lend_bytes(LIST, list, length, end);
+        lend(OUT, out, end);
+        uint32_t *answer = lend_answer(STARAN_REACH_NUMBERS, end);
+        shut_rooms();
+        check("reach that writes nothing: %s", name);
+        staran_reach(WHOLE(REGISTERS), WHOLE(LIST), WHOLE(OUT), answer);
+        expect(answer, STARAN_REACH_NUMBERS, expected);
+        open_rooms();
+    }
+}
+
+/* Its text. */
+static void show(const char *name, const uint8_t *list, size_t length, size_t text, uint32_t number)
+{
+    const uint32_t expected[STARAN_SHOW_NUMBERS] = {number, 0};
+    for (int end = 0; end < ENDS; end++) {
+        lend_bytes(LIST, list, length, end);
+        lend(TEXT, text, end);
+        uint32_t *answer = lend_answer(STARAN_SHOW_NUMBERS, end);
+        shut_rooms();
+        check("show that writes nothing: %s", name);
+        staran_show(WHOLE(LIST), WHOLE(TEXT), answer);
+        expect(answer, STARAN_SHOW_NUMBERS, expected);
+        open_rooms();
+    }
+}
+
+/* Both are done, though the list and the registers cannot be written. */
+static void written_texts(const uint8_t *list, size_t length, const uint8_t *counts, const char *text)
+{
+    const uint32_t reached[STARAN_REACH_NUMBERS] = {STARAN_DONE, (uint32_t)STARAN_REACH_BYTES(length)}, shown[STARAN_SHOW_NUMBERS] = {STARAN_DONE, (uint32_t)strlen(text)};
+    for (int end = 0; end < ENDS; end++) {
+        nothing_lent(end);
+        lend_registers(unset, STARAN_REGISTERS_BYTES, end);
+        lend_bytes(LIST, list, length, end);
+        lend(OUT, STARAN_REACH_BYTES(length) + 3, end);
+        uint32_t *answer = lend_answer(STARAN_REACH_NUMBERS, end);
+        shut_room(REGISTERS);
+        shut_room(LIST);
+        check("reach of a list that cannot be written");
+        memcpy(buffers[OUT].expected, counts, STARAN_REACH_BYTES(length));
+        staran_reach(WHOLE(REGISTERS), WHOLE(LIST), WHOLE(OUT), answer);
+        settle(answer, STARAN_REACH_NUMBERS, reached);
+        check("show of a list that cannot be written");
+        lend(TEXT, strlen(text) + 3, end);
+        answer = lend_answer(STARAN_SHOW_NUMBERS, end);
+        memcpy(buffers[OUT].expected, buffers[OUT].bytes, buffers[OUT].length);
+        memcpy(buffers[TEXT].expected, text, strlen(text));
+        staran_show(WHOLE(LIST), WHOLE(TEXT), answer);
+        settle(answer, STARAN_SHOW_NUMBERS, shown);
+        open_rooms();
+    }
+}
+
+static void texts(void)
+{
+    static const uint8_t flag[4] = {2, 0, 0, 0}, mode[4] = {1, 7, 0, 1};
+    static const uint8_t list[] = {6, 0, 2, 0, 0, 0, 0, 0, 2, 3, 2, 0, 13, 0, 0, 0, 3, 4, 1, 255, 9, 0, 0, 0, 2, 3, 3, 0, 13, 0, 0, 0};
+    static const uint8_t counts[] = {0, 0, 0, 1, 1, 0, 0, 0};
+    static const char text[] = "set a 0\nstore mode a address 13 from y ; reaches 256 words\nmstore word 9 from outside ; reaches 1 word\nstore mode b address 13 from y ; reaches ? words\n";
+    static uint8_t longest[32768], longer[32776];
+    for (size_t i = 0; i < sizeof longer; i++)
+        longer[i] = list[i % sizeof list];
+    memcpy(longest, longer, sizeof longest);
+    reach("no instruction", unset, 100, list, 0, 40, STARAN_DONE);
+    reach("no instruction, and no room", unset, 100, list, 0, 0, STARAN_DONE);
+    reach("registers of 96 bytes", unset, 96, list, sizeof list, 40, STARAN_REFUSED_REGISTERS_LENGTH);
+    reach("a list of 7 bytes", unset, 100, list, 7, 40, STARAN_REFUSED_LIST_LENGTH);
+    reach("a list too long", unset, 100, longer, sizeof longer, 40000, STARAN_REFUSED_LIST_LENGTH);
+    reach("a flag over 1", flag, 100, list, sizeof list, 40, STARAN_REFUSED_MODE_REGISTERS);
+    reach("a mode behind flag 0, and no instruction", mode, 100, list, 0, 40, STARAN_REFUSED_MODE_REGISTERS);
+    reach("no room", unset, 100, list, sizeof list, 0, STARAN_REFUSED_OUTPUT_TOO_SHORT);
+    reach("a byte too little room", unset, 100, list, sizeof list, 7, STARAN_REFUSED_OUTPUT_TOO_SHORT);
+    reach("a byte too little room for the longest list", unset, 100, longest, sizeof longest, 8191, STARAN_REFUSED_OUTPUT_TOO_SHORT);
+    show("no instruction", list, 0, 40, STARAN_DONE);
+    show("no instruction, and no room", list, 0, 0, STARAN_DONE);
+    show("a list of 7 bytes", list, 7, 800, STARAN_REFUSED_LIST_LENGTH);
+    show("a list too long", longer, sizeof longer, 800000, STARAN_REFUSED_LIST_LENGTH);
+    show("no room", list, sizeof list, 0, STARAN_REFUSED_OUTPUT_TOO_SHORT);
+    show("a byte too little room", list, sizeof list, strlen(text) - 1, STARAN_REFUSED_OUTPUT_TOO_SHORT);
+    show("too little room for the longest list", longest, sizeof longest, 150000, STARAN_REFUSED_OUTPUT_TOO_SHORT);
+    written_texts(list, sizeof list, counts, text);
 }
 
 /* A refused builder's counts are 0. S has its start at 2n. */
@@ -304,6 +395,7 @@ int unwritten(void)
     instructions();
     mode_registers();
     questions();
+    texts();
     pictures();
     written_pictures();
     sums("a width of 0", 0, 0, 0, 0, STARAN_REFUSED_WIDTH);

@@ -5,6 +5,8 @@
  *     library TIMES none INSTRUCTION COUNT      the same with Y all zeros: no line responds
  *     library TIMES set INSTRUCTION COUNT       the same with mode register A set to mode 0
  *     library TIMES isolated INSTRUCTION COUNT  asks whether that list is isolated, with mode register A set so; without INSTRUCTION the list is 4,096 instructions of sum lists
+ *     library TIMES reach INSTRUCTION COUNT     asks what that list reaches, in the same way
+ *     library TIMES show INSTRUCTION COUNT      has that list shown
  * tests/count-library runs it. */
 #include "staran.h"
 
@@ -25,6 +27,7 @@ static uint8_t spreading[STARAN_SPREADING_LIST_BYTES(WIDTH)], spreading_items[ST
 static staran_registers record;
 static uint8_t item[32], passed[32];
 static size_t many_length = LONGEST; /* of what stands in `many` */
+static uint8_t reached[STARAN_REACH_BYTES(LONGEST)], text[STARAN_TEXT_BYTES(LONGEST)];
 static uint32_t answer[STARAN_RUN_NUMBERS]; /* the longest of all */
 
 static void equal_list(void) { staran_equal_list(0, WIDTH, NUMBER, equal, sizeof equal, searched, sizeof searched, answer); }
@@ -32,6 +35,8 @@ static void less_list(void) { staran_less_list(0, WIDTH, NUMBER, less, sizeof le
 static void greatest_list(void) { staran_greatest_list(0, WIDTH, greatest, sizeof greatest, answer); }
 static void isolated(void) { staran_isolated(many, many_length, registers, sizeof registers, answer); }
 static void isolated_sum(void) { staran_isolated(list, sizeof list, registers, sizeof registers, answer); }
+static void reach(void) { staran_reach(registers, sizeof registers, many, many_length, reached, sizeof reached, answer); }
+static void show(void) { staran_show(many, many_length, text, sizeof text, answer); }
 static void closing_list(void)
 {
     staran_closing_list(0, 32, WIDTH, marks, sizeof marks, closing, sizeof closing, closing_items, sizeof closing_items, answer);
@@ -109,7 +114,7 @@ static void (*later_named(const char *name))(void)
     } later[] = {{"equal-list", equal_list},         {"run-equal", run_equal},       {"less-list", less_list},       {"run-less", run_less},
                  {"greatest-list", greatest_list},   {"run-greatest", run_greatest}, {"closing-list", closing_list}, {"run-closing", run_closing},
                  {"spreading-list", spreading_list}, {"run-spreading", run_spreading},
-                 {"isolated", isolated}, {"isolated-sum", isolated_sum},
+                 {"isolated", isolated}, {"isolated-sum", isolated_sum}, {"reach", reach}, {"show", show},
                  {"read-with-modes", read_with_modes}, {"write-with-modes", write_with_modes}, {"to-new", to_new}, {"to-old", to_old}};
     for (size_t i = 0; i < sizeof later / sizeof *later; i++)
         if (strcmp(name, later[i].name) == 0)
@@ -190,7 +195,7 @@ int main(int count, char **words)
         registers[96] = 1;
         words[2] = "list";
     }
-    if (strcmp(words[2], "isolated") == 0)
+    if (strcmp(words[2], "isolated") == 0 || strcmp(words[2], "reach") == 0)
         registers[96] = 1;
     int times = atoi(words[1]);
     void (*later)(void) = later_named(words[2]);

@@ -151,6 +151,21 @@ static void isolated(size_t k)
          registers, sizeof registers - asked[row].registers, answer);
 }
 
+/* ---- what a list reaches, and its text: of the same lists, with room and with a byte too little; then of each instruction above, alone */
+
+static uint8_t reached[STARAN_REACH_BYTES(sizeof sum)], text[STARAN_TEXT_BYTES(sizeof sum)];
+enum { ROOMS = 2, TEXTS = ROOMS * ASKED };
+#define ROW(k) ((k) / ROOMS < COUNT(asked) ? (k) / ROOMS : 0)
+#define ASKED_LIST(k) (k) / ROOMS < COUNT(asked) ? asked[(k) / ROOMS].list : instructions[(k) / ROOMS - COUNT(asked)], ASKED_LENGTH(k)
+#define ASKED_LENGTH(k) ((k) / ROOMS < COUNT(asked) ? asked[(k) / ROOMS].whole - asked[(k) / ROOMS].length : STARAN_INSTRUCTION_BYTES)
+
+static void reach(size_t k)
+{
+    registers[96] = 1, registers[97] = 15, registers[98] = asked[ROW(k)].flag, registers[99] = 0;
+    CALL(staran_reach, registers, sizeof registers - asked[ROW(k)].registers, ASKED_LIST(k), reached, k % ROOMS == 0 || ASKED_LENGTH(k) < 8 ? sizeof reached : ASKED_LENGTH(k) / 4 - 1, answer);
+}
+static void show(size_t k) { CALL(staran_show, ASKED_LIST(k), text, k % ROOMS == 0 ? sizeof text : 7, answer); }
+
 /* ---- files: what one of the two readers or writers takes, the other refuses, and so with the conversions. Kinds 1 and 4 are pictures, 2 a list, 3 items. Of kind 4 there is
  * one picture with neither mode register set, one with A set, and one with a flag over 1. OTHER_ and a kind is a block of that kind, of 24 bytes, which are no picture */
 
@@ -274,6 +289,8 @@ static const struct {
     {"staran_closing_list", 10, closing_list, COUNT(moved), DONE | NUMBERS(30, 33) | NUMBERS(35, 35)},
     {"staran_spreading_list", 10, spreading_list, COUNT(moved), DONE | NUMBERS(30, 33) | NUMBERS(35, 35)},
     {"staran_isolated", 5, isolated, ASKED, DONE | NUMBERS(2, 3) | NUMBERS(15, 15) | NUMBERS(40, 40)},
+    {"staran_reach", 7, reach, TEXTS, DONE | NUMBERS(2, 3) | NUMBERS(15, 15) | NUMBERS(27, 27)},
+    {"staran_show", 5, show, TEXTS, DONE | NUMBERS(3, 3) | NUMBERS(27, 27)},
     {"staran_read_content", 6, read_content, COUNT(reads), DONE | NUMBERS(20, 26)},
     {"staran_write_content", 6, write_content, COUNT(writes), DONE | NUMBERS(22, 22) | NUMBERS(26, 27)},
     {"staran_read_picture", 8, read_picture, COUNT(reads), DONE | NUMBERS(15, 15) | NUMBERS(20, 26)},

@@ -1,6 +1,6 @@
 /* Holds the header's names to bytes and numbers that stand here as they stand in document 01, in document 02 (Four, the resolved item; Six, the offending byte; Seven, the
- * mode registers; Eight, pictures with them; Fourteen, isolation) and, of the searches, the closing and the spreading, in docs/LISTS.md, from C and from C++: tests/c/run builds
- * and runs it. Says each name that does not hold, then every number with its meaning, for tests/c/run to compare with docs/numbers.tsv. */
+ * mode registers; Eight, pictures with them; Fourteen, isolation), of the searches, the closing and the spreading in docs/LISTS.md, and of texts in docs/TEXT.md, from C and from
+ * C++: tests/c/run builds and runs it. Says each name that does not hold, then every number with its meaning, for tests/c/run to compare with docs/numbers.tsv. */
 #include "staran.h"
 
 #include <stddef.h>
@@ -100,7 +100,8 @@ static void searches(void)
     hold("number too large", answer[0] == STARAN_REFUSED_NUMBER_TOO_LARGE && STARAN_REFUSED_NUMBER_TOO_LARGE == 34);
     hold("the longest searches", STARAN_SEARCH_LIST_BYTES(64) == 1552 && STARAN_SEARCH_ITEMS_BYTES(64) == 2048 && STARAN_GREATEST_LIST_BYTES(64) == 5640);
     hold("the numbers of the answers", STARAN_RUN_NUMBERS == 6 && STARAN_DISK_NUMBERS == 3 && STARAN_LIST_NUMBERS == 2 &&
-                                           STARAN_LIST_AND_ITEMS_NUMBERS == 3 && STARAN_ISOLATED_NUMBERS == 2 && STARAN_PASS_NUMBERS == 1);
+                                           STARAN_LIST_AND_ITEMS_NUMBERS == 3 && STARAN_ISOLATED_NUMBERS == 2 && STARAN_REACH_NUMBERS == 2 &&
+                                           STARAN_SHOW_NUMBERS == 2 && STARAN_PASS_NUMBERS == 1);
 }
 
 /* The closing and the spreading of one bit, from bit 3 to bit 9 and back, by macros and built; words 2 and 3 are marked, which go to words 0 and 1, by 2 each. */
@@ -348,6 +349,47 @@ static void isolation(void)
     memset(registers, 0, sizeof registers);
 }
 
+/* The header's two lines, and a list by macros that sets A: its text, and what it reaches, by A, by B at the start, and of a word. */
+static void texts(void)
+{
+    const uint8_t list[] = {STARAN_SET_MODE(STARAN_TAG_A, 13), STARAN_STORE_BY(STARAN_SOURCE_OUTSIDE, STARAN_TAG_A, 255, STARAN_NO_FLIP),
+                            STARAN_LOGIC(STARAN_MODE_SLICE, 7, 1, STARAN_SHIFT(3, 0), STARAN_CHOICE_X_WHERE_Y_AND_Y, STARAN_FUNCTION_XOR),
+                            STARAN_MASKED_STORE_BY(STARAN_SOURCE_M, STARAN_TAG_B, 9, 128), STARAN_STORE(STARAN_SOURCE_X, STARAN_MODE_WORD, 9, STARAN_NO_FLIP)};
+    const uint8_t two[] = {STARAN_STORE(STARAN_SOURCE_OUTSIDE, 13, 255, STARAN_NO_FLIP), STARAN_INSTRUCTION(STARAN_KIND_STORE, STARAN_SOURCE_OUTSIDE, STARAN_TAG_NONE, 13, 0, 0, 0, 0)};
+    static const char of_list[] = "set a 13\n"
+                                  "store mode a address 255 from outside ; reaches 32 words\n"
+                                  "logic x-if-y+y xor slice 7 flip 1 shift 1 mod 8\n"
+                                  "mstore mode b address 9 from m flip 128 ; reaches ? words\n"
+                                  "store word 9 from x ; reaches 1 word\n";
+    static const char of_two[] = "store mode 13 address 255 from outside ; reaches 32 words\n"
+                                 "bytes 02 04 00 0D 00 00 00 00 ; refused 7 byte 2\n";
+    uint8_t text[STARAN_TEXT_BYTES(sizeof list)], reached[STARAN_REACH_BYTES(sizeof list)];
+    uint32_t answer[STARAN_SHOW_NUMBERS > STARAN_REACH_NUMBERS ? STARAN_SHOW_NUMBERS : STARAN_REACH_NUMBERS];
+    hold("room for a text and for counts", sizeof text == 960 && sizeof reached == 10 && STARAN_TEXT_BYTES(32768) == 786432 && STARAN_REACH_BYTES(32768) == 8192);
+    staran_show(list, sizeof list, text, sizeof text, answer);
+    hold("the text of a list", answer[0] == STARAN_DONE && answer[1] == strlen(of_list) && memcmp(text, of_list, strlen(of_list)) == 0);
+    staran_show(two, sizeof two, text, sizeof text, answer);
+    hold("the header's two lines", answer[0] == STARAN_DONE && answer[1] == strlen(of_two) && memcmp(text, of_two, strlen(of_two)) == 0);
+    staran_show(two, sizeof two, text, strlen(of_two) - 1, answer);
+    hold("no room for a text", answer[0] == STARAN_REFUSED_OUTPUT_TOO_SHORT && answer[1] == 0);
+    staran_show(list, sizeof list - 1, text, sizeof text, answer);
+    hold("the text of a list that is a byte short", answer[0] == STARAN_REFUSED_LIST_LENGTH && answer[1] == 0);
+    memset(registers, 0, sizeof registers);
+    registers[98] = 1;
+    registers[99] = 15;
+    staran_reach(registers, sizeof registers, list, sizeof list, reached, sizeof reached, answer);
+    hold("what a list reaches", answer[0] == STARAN_DONE && answer[1] == sizeof reached);
+    bytes("of each instruction", reached, sizeof reached, "00002000000010000100");
+    staran_reach(registers, sizeof registers, two, sizeof two, reached, 3, answer);
+    hold("no room for what a list reaches", answer[0] == STARAN_REFUSED_OUTPUT_TOO_SHORT && answer[1] == 0);
+    staran_reach(registers, STARAN_PICTURE_REGISTERS_BYTES, two, sizeof two, reached, sizeof reached, answer);
+    hold("what a list reaches, with 96 registers", answer[0] == STARAN_REFUSED_REGISTERS_LENGTH && answer[1] == 0);
+    registers[98] = 2;
+    staran_reach(registers, sizeof registers, two, sizeof two, reached, sizeof reached, answer);
+    hold("what a list reaches, with a flag over 1", answer[0] == STARAN_REFUSED_MODE_REGISTERS && answer[1] == 0);
+    memset(registers, 0, sizeof registers);
+}
+
 static void refusals(void)
 {
     const uint8_t kind[] = {STARAN_INSTRUCTION(7, 0, 0, 0, 0, 0, 0, 0)}, source[] = {STARAN_STORE(STARAN_SOURCE_MEMORY, 0, 0, 0)};
@@ -398,10 +440,11 @@ int main(void)
     answers();
     mode_registers();
     isolation();
+    texts();
     refusals();
     hold("the contents on disk",
          STARAN_CONTENT_PICTURE == 1 && STARAN_CONTENT_LIST == 2 && STARAN_CONTENT_ITEMS == 3 && STARAN_CONTENT_PICTURE_WITH_MODES == 4);
-    hold("the linked version is the header's", staran_version() == STARAN_VERSION && STARAN_VERSION == 327682);
+    hold("the linked version is the header's", staran_version() == STARAN_VERSION && STARAN_VERSION == 327683);
     hold("a number that is never given", strcmp(staran_meaning(100), "no such number is ever given") == 0);
     hold("a number that is not given any more", strcmp(staran_meaning(10), staran_meaning(100)) == 0);
     for (uint32_t number = 0; number <= 100; number++)

@@ -10,5 +10,6 @@ pub mod Tests
 pub mod QuarterLaws
 pub mod FlipLaws
 pub mod Search
+pub mod Find
 pub mod Rows
 pub mod Counts

@@ -9,7 +9,7 @@ use native.Mathlib.Omega.{arith}
 use lib.ListN.{length, getD, take, drop, set, length-append, take-append-drop, drop-of-length-le}
 use lib.Seq.{take-at, take-suc, take-length, drop-append-add, drop-drop, length-take-le, set-split}
 use borrow.Rule.Slice.PartMut.{putMid}
-use Rattle.bits.specs.Steps.{putAt, written}
+use Rattle.bits.specs.Steps.{putAt, Put, written}
 use Rattle.bits.proofs.Writes.{length-written, written-at, written-off, written-bytes}
 
 -- a part that was lent on and came back as ys
@@ -86,3 +86,22 @@ module _ (k : ℕ) (ys xs : List ℕ) (h : k + length ys ≤ length xs) where
   pub put-bytes : ((i : ℕ) → getD ys i 0 < 256) → ((i : ℕ) → getD xs i 0 < 256) → (i : ℕ) → getD (putAt k ys xs) i 0 < 256
   put-bytes by bx i =
       omega (arith, ap (λ (z : List ℕ). getD z i 0) put-written, written-bytes (λ j. k + j) (λ j o. getD ys j 0) xs (length ys) bx (λ j o q l. by j) i)
+
+-- ---- one writer behind another
+
+-- nothing put
+pub none-put : (k : ℕ) (t : List ℕ) → Put k [] t k t
+none-put k t = record { behind = sym (add-zero k); left = sym (put-nil k t) }
+
+-- what two writers leave, one after the other
+pub then-put : {k n r : ℕ} {x y whole t t₁ t₂ : List ℕ} → k ≤ length t → Put k x t n t₁ → Put n y t₁ r t₂ → x ++ y ≡ whole → Put k whole t r t₂
+then-put {k} {n} {r} {x} {y} {whole} {t} {t₁} {t₂} h p q e = record {
+  behind = omega (arith, p .behind, q .behind, length-append x y, ap length e);
+  left = q .left ∙ ap (putAt n y) (p .left) ∙ put-put k n x y t h (p .behind) ∙ ap (λ (l : List ℕ). putAt k l t) e;
+}
+
+-- from the front on
+pub put-whole : {r : ℕ} {x t t′ : List ℕ} → Put 0 x t r t′ → (r ≡ length x) × (t′ ≡ x ++ drop r t)
+put-whole {r} {x} {t} {t′} p =
+    let e : r ≡ length x = p .behind ∙ zero-add (length x) in
+    (e, p .left ∙ put-front x t ∙ ap (λ (n : ℕ). x ++ drop n t) (sym e))

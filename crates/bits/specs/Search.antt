@@ -1,6 +1,7 @@
--- The first number at which a test holds, and at how many it does.
+-- The first number at which a test holds, and at how many it does; where a number stands in a list.
 use mathlib.Core.Path.{_≡_}
 use mathlib.Core.Bool.{Bool, cond}
+use mathlib.Core.List.{List, [], _∷_}
 use Prim.Native.Nat.{ℕ, zero, suc, _+_, _<_}
 use lib.Dec.{eqb}
 
@@ -13,6 +14,11 @@ first f k (suc n) = cond (f k) k (first f (suc k) n)
 unfoldable pub count : (ℕ → Bool) → ℕ → ℕ
 count f zero = 0
 count f (suc n) = count f n + cond (f n) 1 0
+
+-- Where x first stands in a list, or the list's length.
+unfoldable pub indexOf : ℕ → List ℕ → ℕ
+indexOf x [] = zero
+indexOf x (y ∷ ys) = cond (eqb y x) zero (suc (indexOf x ys))
 
 -- The test of lines for a 1: is f at k a 1?
 abbrev pub isOne : (ℕ → ℕ) → ℕ → Bool

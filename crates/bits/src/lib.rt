@@ -1,4 +1,5 @@
-// Items of 32 bytes: the leaves that take bits out of them, put bits into them and copy them; what a test chooses; and a number as two bytes.
+// Items of 32 bytes: the leaves that take bits out of them, put bits into them and copy them; what a test chooses; a byte put into a buffer; and a number as two bytes.
+pub mod buffers;
 pub mod choices;
 pub mod copies;
 pub mod flips;

@@ -70,7 +70,7 @@ pub fn settle(i: Instruction, m: Modes) -> Settled
 }
 
 // Is its tag that of a register which is not set?
-pub(crate) fn unset(m: Modes, i: Instruction) -> bool
+pub fn unset(m: Modes, i: Instruction) -> bool
     ensures { λ r. ⌜ r ≡ unset m i ⌝ }
 {
     ((i.tag == TAG_A) & !(m.a.set == 1)) | ((i.tag == TAG_B) & !(m.b.set == 1))

@@ -22,14 +22,15 @@ ghost use Rattle.judge.specs.ByteRows.{faultBefore, aboutByte};
 ghost use Rattle.judge.specs.Instructions.{stores, touches, takes, gives};
 ghost use Rattle.judge.specs.Judge.{wrongKind, wrongSource, tagged, lacksTag, wrongTag, idleTag, idleMode, idleAddress, unsetMode, barredFlip, barredShift, wrongLogic, faultOf};
 
-fn stores(i: Instruction) -> bool
+// Does it store?
+pub fn stores(i: Instruction) -> bool
     ensures { λ r. ⌜ r ≡ stores i ⌝ }
 {
     (i.kind == STORE) | (i.kind == MASKED_STORE)
 }
 
 // Does it touch memory?
-fn touches(i: Instruction) -> bool
+pub fn touches(i: Instruction) -> bool
     ensures { λ r. ⌜ r ≡ touches i ⌝ }
 {
     stores(i)

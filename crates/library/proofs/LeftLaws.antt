@@ -1,6 +1,6 @@
 -- What a function of the library leaves, from what the entry that it calls leaves and from the answer as numbers; and that these numbers are small, whatever the entry is called on.
 -- A proof takes the arguments of a law from what the call ensures, so that a wrong call is refused at the contract's own equation. Assumes nothing.
-use mathlib.Core.Path.{_≡_, refl, sym, ap, _∙_, subst}
+use mathlib.Core.Path.{_≡_, refl, sym, ap, ap₂, _∙_, subst}
 use mathlib.Core.Bool.{Bool}
 use mathlib.Core.List.{List, [], _∷_}
 use Prim.Native.Nat.{ℕ, _≤_}
@@ -23,6 +23,12 @@ use Rattle.builders.proofs.Bounds.{Bounded as Bounded2, BoundedTwo, sum-bounds,
 use Rattle.closing.proofs.Bounds.{closing-bounds, spreading-bounds}
 use Rattle.isolation.specs.declared.Isolation.{Isolation}
 use Rattle.isolation.specs.Isolation.{isolationOf}
+use Rattle.reach.specs.declared.Reached.{Reached}
+use Rattle.reach.specs.Reach.{reachAnswer, reachOut}
+use Rattle.reach.proofs.Answers.{reach-few}
+use Rattle.text.specs.declared.Shown.{Shown}
+use Rattle.text.specs.Show.{shownAnswer, shownOut}
+use Rattle.text.proofs.RoundTrip.{shown-few}
 use Rattle.isolation.proofs.Answers.{place-few}
 use Rattle.contents.specs.declared.Moved.{Moved}
 use Rattle.contents.specs.File.{contentOf}
@@ -30,7 +36,7 @@ use Rattle.contents.specs.Content.{ContentLeft, contentRead, contentWritten}
 use Rattle.contents.proofs.Bounds.{Bounded as Bounded3, answered-bounds, read-bounds, size-small, read-content-bounds, write-content-bounds}
 use Rattle.pictures.specs.Picture.{contentModes, pictureFits, pictureReadRows, pictureWriteRows, PictureLeft, pictureRead, pictureWritten}
 use Rattle.pictures.specs.Conversion.{toNewRows, toOldRows, toNew, toOld}
-use Rattle.library.specs.Left.{six, three, runLeft, stepLeft, PassLeft, passLeft, BufferLeft, builtLeft, sumLeft, differenceLeft, greatestLeft, TwoLeft, builtTwoLeft, equalLeft, lessLeft, closingLeft, spreadingLeft, isolatedLeft, movedLeft, readLeft, writeLeft, writePictureLeft, toNewLeft, toOldLeft, TargetsLeft, readPictureLeft}
+use Rattle.library.specs.Left.{six, three, runLeft, stepLeft, PassLeft, passLeft, BufferLeft, builtLeft, sumLeft, differenceLeft, greatestLeft, TwoLeft, builtTwoLeft, equalLeft, lessLeft, closingLeft, spreadingLeft, isolatedLeft, reachLeft, showLeft, movedLeft, readLeft, writeLeft, writePictureLeft, toNewLeft, toOldLeft, TargetsLeft, readPictureLeft}
 
 -- ---- the array
 
@@ -118,6 +124,26 @@ module _ (list registers : List ℕ) (a : Isolation) where
   pub isolated-left : (w : List ℕ) → a ≡ isolationOf list registers → w ≡ a .number ∷ a .place ∷ [] → w ≡ isolatedLeft list registers
   unfolding isolatedLeft
   isolated-left w e d = d ∙ ap (λ (x : Isolation). x .number ∷ x .place ∷ []) e
+
+-- ---- what a list reaches, and its text
+
+module _ (a : Reached) (registers list : List ℕ) where
+  pub reach-small : (room : ℕ) → a ≡ reachAnswer registers list room → a .count ≤ 786432
+  reach-small room e = subst (λ (x : Reached). x .count ≤ 786432) (sym e) (omega (arith, reach-few registers list room))
+
+  pub reach-left : (out out′ w : List ℕ) → a ≡ reachAnswer registers list (length out) → out′ ≡ reachOut registers list out → w ≡ a .number ∷ a .count ∷ []
+      → _≡_ {A = BufferLeft} (record { buffer = out′; answer = w }) (reachLeft registers list out)
+  unfolding reachLeft
+  reach-left out out′ w e o d = ap₂ (λ (x y : List ℕ). record { buffer = x; answer = y }) o (d ∙ ap (λ (x : Reached). x .number ∷ x .count ∷ []) e)
+
+module _ (a : Shown) (list : List ℕ) where
+  pub show-small : (room : ℕ) → a ≡ shownAnswer list room → a .count ≤ 786432
+  show-small room e = subst (λ (x : Shown). x .count ≤ 786432) (sym e) (shown-few list room)
+
+  pub show-left : (text text′ w : List ℕ) → a ≡ shownAnswer list (length text) → text′ ≡ shownOut list text → w ≡ a .number ∷ a .count ∷ []
+      → _≡_ {A = BufferLeft} (record { buffer = text′; answer = w }) (showLeft list text)
+  unfolding showLeft
+  show-left text text′ w e o d = ap₂ (λ (x y : List ℕ). record { buffer = x; answer = y }) o (d ∙ ap (λ (x : Shown). x .number ∷ x .count ∷ []) e)
 
 -- ---- lists with their items
 

@@ -1,6 +1,7 @@
 -- What each function of the library leaves: the lent buffers, and the answer as numbers in document 01's order. Every value is that of the entry itself.
 use mathlib.Core.List.{List, [], _∷_}
 use Prim.Native.Nat.{ℕ, _+_, _*_}
+use lib.ListN.{length}
 use Rattle.network.specs.Answer.{answer}
 use Rattle.registers.specs.declared.Registers.{Registers}
 use Rattle.judge.specs.declared.Answer.{Answer as Verdict}
@@ -10,6 +11,8 @@ use Rattle.builders.specs.Searches.{equalBuilt, lessBuilt, greatestBuilt}
 use Rattle.closing.specs.Closing.{closingBuilt, spreadingBuilt}
 use Rattle.builders.specs.Building.{BuiltLeft as Built, BuiltTwoLeft as BuiltTwo}
 use Rattle.isolation.specs.Isolation.{isolationOf}
+use Rattle.reach.specs.Reach.{reachAnswer, reachOut}
+use Rattle.text.specs.Show.{shownAnswer, shownOut}
 use Rattle.contents.specs.declared.Moved.{Moved}
 use Rattle.contents.specs.Content.{ContentLeft, contentRead, contentWritten}
 use Rattle.pictures.specs.Picture.{pictureRead, pictureWritten}
@@ -110,6 +113,19 @@ spreadingLeft a s n marks list items = builtTwoLeft (spreadingBuilt a s n marks 
 -- The number, and the place.
 unfoldable pub isolatedLeft : List ℕ → List ℕ → List ℕ
 isolatedLeft list registers = let a = isolationOf list registers in a .number ∷ a .place ∷ []
+
+-- ---- what a list reaches, and its text: one buffer is written
+
+-- The number, and the count of what was put out.
+unfoldable pub reachLeft : List ℕ → List ℕ → List ℕ → BufferLeft
+reachLeft registers list out =
+    let a = reachAnswer registers list (length out) in
+    record { buffer = reachOut registers list out; answer = a .number ∷ a .count ∷ [] }
+
+unfoldable pub showLeft : List ℕ → List ℕ → BufferLeft
+showLeft list text =
+    let a = shownAnswer list (length text) in
+    record { buffer = shownOut list text; answer = a .number ∷ a .count ∷ [] }
 
 -- ---- a picture that is read: two buffers are written
 

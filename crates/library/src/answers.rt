@@ -55,6 +55,14 @@ pub fn number_and_place(a: Isolation) -> [u32; 2]
     [a.number as u32, a.place as u32]
 }
 
+// Number, and the count of what was put out.
+pub fn number_and_count(number: u8, count: usize) -> [u32; 2]
+    requires { ⌜ count ≤ 786432 ⌝ }
+    ensures { λ r. ⌜ r ≡ number ∷ count ∷ [] ⌝ }
+{
+    [number as u32, count as u32]
+}
+
 // Number, and the counts of the bytes of a list and of its items.
 pub fn two_counts(b: BuiltTwo) -> [u32; 3]
     requires { ⌜ (b .list ≤ 4944) × (b .items ≤ 8224) ⌝ }

@@ -5,7 +5,7 @@ mod answers;
 
 use registers::Registers;
 ghost use mathlib.Core.Path.{_≡_};
-ghost use Rattle.library.specs.Left.{runLeft, stepLeft, passLeft, sumLeft, differenceLeft, equalLeft, lessLeft, greatestLeft, closingLeft, spreadingLeft, isolatedLeft, readLeft, writeLeft, readPictureLeft, writePictureLeft, toNewLeft, toOldLeft, version};
+ghost use Rattle.library.specs.Left.{runLeft, stepLeft, passLeft, sumLeft, differenceLeft, equalLeft, lessLeft, greatestLeft, closingLeft, spreadingLeft, isolatedLeft, reachLeft, showLeft, readLeft, writeLeft, readPictureLeft, writePictureLeft, toNewLeft, toOldLeft, version};
 
 // A run of an instruction list. The 4 is the version since which the answer has six numbers: a program compiled for five does not link.
 #[no_mangle]
@@ -199,6 +199,26 @@ pub extern "C" fn staran_isolated(list: &[u8], registers: &[u8], answer: &mut [u
     *answer = answers::number_and_place(a);
 }
 
+// How many words each instruction of a list reaches, for a run that starts with these registers: two bytes each.
+#[no_mangle]
+pub extern "C" fn staran_reach(registers: &[u8], list: &[u8], out: &mut [u8], answer: &mut [u32; 2])
+    ensures { λ _. ⌜ record { buffer = now (out .exit); answer = now (answer .exit) }
+        ≡ reachLeft (now (registers .entry)) (now (list .entry)) (now (out .entry)) ⌝ }
+{
+    let r = reach::reach(registers, list, out);
+    *answer = answers::number_and_count(r.number, r.count);
+}
+
+// The text of a list.
+#[no_mangle]
+pub extern "C" fn staran_show(list: &[u8], text: &mut [u8], answer: &mut [u32; 2])
+    ensures { λ _. ⌜ record { buffer = now (text .exit); answer = now (answer .exit) }
+        ≡ showLeft (now (list .entry)) (now (text .entry)) ⌝ }
+{
+    let r = text::showing::show(list, text);
+    *answer = answers::number_and_count(r.number, r.count);
+}
+
 // Reads the blocks of a list or of items.
 #[no_mangle]
 pub extern "C" fn staran_read_content(
@@ -284,7 +304,7 @@ pub extern "C" fn staran_picture_to_old(bytes: &[u8], out: &mut [u8], answer: &m
 // The version of the library that is linked, to be held to the header's.
 #[no_mangle]
 pub extern "C" fn staran_version() -> u32
-    ensures { λ r. ⌜ r ≡ version 5 2 ⌝ }
+    ensures { λ r. ⌜ r ≡ version 5 3 ⌝ }
 {
-    327682
+    327683
 }

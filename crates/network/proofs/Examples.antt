@@ -6,8 +6,9 @@ use Prim.Native.Nat.{ℕ, _<_}
 use lib.Dec.{T, eqb, eqb→eq}
 use lib.ListN.{replicate}
 use Rattle.bits.specs.Bits.{listed, digitsOf, byteOf, item, bitOf}
+use Rattle.bits.specs.Search.{indexOf}
 use Rattle.bits.proofs.Tests.{all, all-at}
-use Rattle.network.specs.Shifts.{codesTo, codes, indexOf, permitted, signal, row}
+use Rattle.network.specs.Shifts.{codesTo, codes, permitted, signal, row}
 use Rattle.network.specs.Pass.{shifted, moved, unshifted, source, passed}
 use Rattle.network.specs.Wired.{significantIn, significant, level, wired}
 use Rattle.network.specs.Answer.{passedItem, answer}

@@ -1,20 +1,19 @@
--- The rules of the two tables, each by one computed test; what a search through the codes finds. Assumes nothing.
+-- The rules of the two tables, each by one computed test. Assumes nothing.
 use mathlib.Core.Path.{_≡_, refl, sym, ap, ap₂, subst, _∙_}
 use mathlib.Core.Bool.{Bool, true, false, cond, not, _&&_, true≢false, false≢true}
 use mathlib.Core.Logic.{_⊎_, _↔_, inl, inr}
-use mathlib.Core.List.{List, [], _∷_}
-use Prim.Native.Nat.{ℕ, zero, suc, _+_, _*_, _/_, _%_, _<_, _≤_, suc-le-suc}
-use native.Mathlib.Nat.{not-suc-le-zero, le-of-suc-le-suc, le-of-eq, zero-add}
-use native.Mathlib.Numerals.{add-one}
+use mathlib.Core.List.{List, []}
+use Prim.Native.Nat.{ℕ, suc, _+_, _*_, _/_, _%_, _<_, _≤_, suc-le-suc}
 use native.Mathlib.Omega.{arith}
 use lib.Dec.{T, eqb, eqb→eq, leb, ltb, ltb→lt}
-use lib.ListN.{length, getD, drop, drop-of-length-le}
-use lib.Seq.{drop-cons}
-use borrow.Author.Tests.{eq-eqb, ne-eqb, eqb-true, lt-ltb, le-ltb, lt-leb, ltb-true, ltb-false, leb-false}
+use lib.ListN.{length, getD}
+use borrow.Author.Tests.{ne-eqb, eqb-true, lt-ltb, le-ltb, lt-leb, ltb-true, ltb-false, leb-false}
 use Rattle.bits.specs.Bits.{listed}
 use Rattle.bits.specs.Rows.{numberOf, NoRow}
+use Rattle.bits.specs.Search.{indexOf}
+use Rattle.bits.proofs.Find.{found-at}
 use Rattle.bits.proofs.Tests.{all, all-at}
-use Rattle.network.specs.Shifts.{codesTo, codes, pOf, mOf, indexOf, shiftOf, permitted, signal, row, rows, signals, place}
+use Rattle.network.specs.Shifts.{codesTo, codes, pOf, mOf, shiftOf, permitted, signal, row, rows, signals, place}
 use Rattle.network.specs.Unlisted.{wideGroup, notBelow, codeRows}
 use Rattle.network.specs.Steps.{SignalsOf}
 
@@ -37,39 +36,7 @@ signal-rule s j k hs hj hk =
 pub signal-of : (s : ℕ) (l : List ℕ) (j k : ℕ) → SignalsOf s l → j < 8 → k ≤ j → getD l (place j k) 0 ≡ signal (pOf s) (mOf s) j k
 signal-of s l j k w hj hk = ap (λ (x : List ℕ). getD x (place j k) 0) (w .are) ∙ signal-rule s j k (w .within) hj hk
 
--- ---- a search from the front
-
-module _ (x : ℕ) (l : List ℕ) where
-  pub find-none : indexOf x l ≡ 0 + indexOf x (drop 0 l)
-  find-none = sym (zero-add (indexOf x l))
-
-  pub find-here : (i : ℕ) → i < length l → getD l i 0 ≡ x → indexOf x l ≡ i + indexOf x (drop i l) → i ≡ indexOf x l
-  unfolding indexOf
-  find-here i h e q =
-      let z : indexOf x (drop i l) ≡ 0 = ap (indexOf x) (drop-cons l i 0 h) ∙ ap (λ (b : Bool). cond b zero (suc (indexOf x (drop (suc i) l)))) (eq-eqb (getD l i 0) x e) in
-      omega arith
-
-  pub find-more : (i : ℕ) → i < length l → (getD l i 0 ≡ x → ⊥) → indexOf x l ≡ i + indexOf x (drop i l) → indexOf x l ≡ i + 1 + indexOf x (drop (i + 1) l)
-  unfolding indexOf
-  find-more i h e q =
-      let z : indexOf x (drop i l) ≡ suc (indexOf x (drop (suc i) l)) =
-      ap (indexOf x) (drop-cons l i 0 h) ∙ ap (λ (b : Bool). cond b zero (suc (indexOf x (drop (suc i) l)))) (ne-eqb (getD l i 0) x e) in
-      omega (arith, z, ap (λ (k : ℕ). indexOf x (drop k l)) (add-one i))
-
-  pub find-end : (i : ℕ) → length l ≡ i → indexOf x l ≡ i + indexOf x (drop i l) → i ≡ indexOf x l
-  unfolding indexOf
-  find-end i e q = omega (arith, ap (indexOf x) (drop-of-length-le l {i = i} (le-of-eq e)))
-
--- what stands where it was found
-pub found-at : (x : ℕ) (l : List ℕ) → indexOf x l < length l → getD l (indexOf x l) 0 ≡ x
-unfolding indexOf
-found-at x [] h = absurd (not-suc-le-zero h)
-found-at x (y ∷ ys) h = go (eqb y x) refl h (found-at x ys)
-  where
-    go : (b : Bool) → eqb y x ≡ b → cond b zero (suc (indexOf x ys)) < suc (length ys) → (indexOf x ys < length ys → getD ys (indexOf x ys) 0 ≡ x)
-        → getD (y ∷ ys) (cond b zero (suc (indexOf x ys))) 0 ≡ x
-    go true e h rest = eqb-true y x e
-    go false e h rest = rest (le-of-suc-le-suc h)
+-- ---- the codes
 
 pub codes-length : length codes ≡ 37
 unfolding codes codesTo listed

@@ -2,9 +2,10 @@
 use mathlib.Core.Bool.{Bool, cond, _&&_}
 use mathlib.Core.List.{List, [], _∷_, _++_}
 use Prim.Native.Nat.{ℕ, zero, suc, _+_, _*_, _/_, _%_}
-use lib.Dec.{eqb, leb, ltb}
+use lib.Dec.{leb, ltb}
 use lib.ListN.{getD}
 use Rattle.bits.specs.Bits.{listed}
+use Rattle.bits.specs.Search.{indexOf}
 
 -- ---- the codes
 
@@ -16,11 +17,6 @@ codesTo (suc p) = codesTo p ++ listed (λ m. 16 * suc p + m) (suc p)
 -- The 37 permitted values of byte 6: "16p + m, 0 for none", 0 ≤ m < p ≤ 8.
 unfoldable pub codes : List ℕ
 codes = codesTo 8
-
--- Where x first stands in a list, or the list's length.
-unfoldable pub indexOf : ℕ → List ℕ → ℕ
-indexOf x [] = zero
-indexOf x (y ∷ ys) = cond (eqb y x) zero (suc (indexOf x ys))
 
 -- The number of the shift that byte 6 gives: where it stands among the codes. 37 where it is none of them.
 abbrev pub shiftOf : ℕ → ℕ

@@ -1,11 +1,13 @@
-// The program: a run in the folder that it is started in, or, with words behind its name, a picture's file converted.
+// The program: a run in the folder that it is started in; or, with words behind its name, a picture's file converted, a list shown as text, or a list made of a text.
 mod convert;
 mod files;
 mod folder;
+mod lists;
+mod words;
 
 fn main() {
     if os::arg_count() > 1 {
-        convert::convert();
+        words::asked();
     } else {
         folder::run();
     }

@@ -1,12 +1,15 @@
 -- Demand 1 of specs/DemandOne.antt: its tables from the crates' laws, and its fields from the promises. Assumes nothing.
 use mathlib.Core.Path.{_≡_, refl, sym, ap, subst, subst₂, _∙_}
-use mathlib.Core.Bool.{Bool, true, false}
+use mathlib.Core.Bool.{Bool, true, false, cond, not}
 use mathlib.Core.List.{List, [], _∷_}
 use mathlib.Core.Logic.{_↔_, _≢_}
-use Prim.Native.Nat.{ℕ, _*_}
+use Prim.Native.Nat.{ℕ, _*_, _<_, _≤_}
+use native.Mathlib.Omega.{arith}
+use lib.Dec.{eqb, ltb}
 use lib.ListN.{length, drop}
-use Rattle.bits.specs.Rows.{Row, FirstRow}
-use Rattle.bits.proofs.Rows.{numbered, among}
+use borrow.Author.Tests.{eqb-true, eqb-false, ne-eqb}
+use Rattle.bits.specs.Rows.{Row, row, numberOf, NoRow, FirstRow}
+use Rattle.bits.proofs.Rows.{numbered, among, none-number, number-none, first-number, number-first}
 use Rattle.network.specs.declared.Passed.{Passed}
 use Rattle.network.specs.Answer.{passedItem, answer}
 use Rattle.network.proofs.TableRules.{listed-none}
@@ -16,7 +19,8 @@ use Rattle.registers.specs.declared.Registers.{Registers}
 use Rattle.registers.specs.Modes.{modesOf}
 use Rattle.judge.specs.declared.Lengths.{Lengths}
 use Rattle.judge.specs.declared.Answer.{Answer}
-use Rattle.judge.specs.Judge.{runRows, stepRows, judgedBy, judged, judgedStep}
+use Rattle.judge.specs.Kinds.{mostBytes}
+use Rattle.judge.specs.Judge.{unfit, runRows, stepRows, judgedBy, judged, judgedStep}
 use Rattle.judge.proofs.Numbers as numbers
 use Rattle.module.specs.Run.{Lent, Left, unmoved, runLengths, stepLengths, ran, stepped, leftBytes}
 use Rattle.module.proofs.RunLaws.{ran-answer, ran-refused}
@@ -38,6 +42,13 @@ use Rattle.builders.proofs.SearchRefusals.{search-row, search-sound, search-no-
 use Rattle.isolation.specs.declared.Isolation.{Isolation}
 use Rattle.isolation.specs.Isolation.{isolationOf}
 use Rattle.isolation.proofs.Answers.{isolated-refusals, unbroken, kept-place}
+use Rattle.reach.specs.declared.Reached.{Reached}
+use Rattle.reach.specs.Reach.{answerBytes, reachRows, reachNumber, reachAnswer, reachOut}
+use Rattle.text.specs.declared.Shown.{Shown}
+use Rattle.text.specs.declared.Made.{Made}
+use Rattle.text.specs.Show.{shownText, shownAs, shownAnswer, shownOut}
+use Rattle.text.specs.Make.{lastOf, madeBytes, lineAt, columnAt, answer as madeAs, refusedAt, madeAnswer, madeOut}
+use Rattle.text.proofs.LineNumbers.{line-numbers}
 use Rattle.contents.specs.declared.Moved.{Moved}
 use Rattle.contents.specs.File.{contentOf, blockCount, blocksOf}
 use Rattle.contents.specs.Content.{answered, readAnswer, changed, over, targetFits, contentFits, readRows, writeRows, ContentLeft, contentRead, contentWritten}
@@ -46,9 +57,9 @@ use Rattle.contents.proofs.Numbers as blocks
 use Rattle.pictures.specs.Picture.{pictureOf, scrambled, contentModes, pictureFits, pictureReadRows, pictureRead, pictureWriteRows, pictureWritten}
 use Rattle.pictures.specs.Conversion.{newContent, oldContent, toNewRows, toOldRows, toNew, toOld}
 use Rattle.pictures.proofs.PictureLaws.{both-parts}
-use Rattle.library.specs.Left.{six, three, runLeft, stepLeft, PassLeft, passLeft, BufferLeft, sumLeft, differenceLeft, movedLeft, TwoLeft, builtTwoLeft, equalLeft, lessLeft, greatestLeft, closingLeft, spreadingLeft, isolatedLeft, readLeft, writeLeft, writePictureLeft, toNewLeft, toOldLeft, TargetsLeft, readPictureLeft}
-use Rattle.promises.specs.Clauses.{Run, Step, SumList, DifferenceList, GreatestList, ClosingList, SpreadingList, Isolated, ReadContent, WriteContent, ReadPicture, WritePicture, ToNew, ToOld, LibraryRun, LibraryStep, LibraryPass, LibraryBuffer, LibraryTwo, LibraryIsolated, LibraryReadPicture}
-use Rattle.promises.specs.DemandOne.{AnswerTable, RunTable, StepTable, PassTable, ListTable, TwoTable, FieldsTable, SearchTable, GreatestTable, MovingTable, ClosingTable, SpreadingTable, IsolatedTable, ReadTable, WriteTable, ReadContentTable, WriteContentTable, ReadPictureTable, WritePictureTable, ToNewTable, ToOldTable, Kept, AllKept, DemandOne}
+use Rattle.library.specs.Left.{six, three, runLeft, stepLeft, PassLeft, passLeft, BufferLeft, sumLeft, differenceLeft, movedLeft, TwoLeft, builtTwoLeft, equalLeft, lessLeft, greatestLeft, closingLeft, spreadingLeft, isolatedLeft, reachLeft, showLeft, readLeft, writeLeft, writePictureLeft, toNewLeft, toOldLeft, TargetsLeft, readPictureLeft}
+use Rattle.promises.specs.Clauses.{Run, Step, SumList, DifferenceList, GreatestList, ClosingList, SpreadingList, Isolated, Reach, Show, Make, ReadContent, WriteContent, ReadPicture, WritePicture, ToNew, ToOld, LibraryRun, LibraryStep, LibraryPass, LibraryBuffer, LibraryTwo, LibraryIsolated, LibraryReadPicture}
+use Rattle.promises.specs.DemandOne.{AnswerTable, RunTable, StepTable, PassTable, ListTable, TwoTable, FieldsTable, SearchTable, GreatestTable, MovingTable, ClosingTable, SpreadingTable, IsolatedTable, CountTable, ReachTable, ShowTable, lineNumber, MakeTable, ReadTable, WriteTable, ReadContentTable, WriteContentTable, ReadPictureTable, WritePictureTable, ToNewTable, ToOldTable, Kept, AllKept, DemandOne}
 
 -- ---- the tables, from the laws
 
@@ -96,6 +107,101 @@ module _ (rows : List Row) (Good : Type 0) (fault : ℕ) (first : (m : ℕ) → 
             let w = two-unwritten fault bytes itemBytes list items u in
             (ap (λ (l : Buffers). l .answer .list) w, ap (λ (l : Buffers). l .answer .items) w);
       }
+
+-- the table of what counts what it puts out, from its number and its count
+count-table : (rows : List Row) (put number count : ℕ) → (numberOf rows ≡ 0 → NoRow rows) → number ≡ numberOf rows
+    → (number ≡ 0 → count ≡ put) → (number ≢ 0 → count ≡ 0) → CountTable rows put number count
+count-table rows put number count none e done-is refused-is =
+    record {
+      refused = λ n u. (λ z. number-first rows n u (sym e ∙ z), λ f. e ∙ first-number rows n f);
+      row-0 = (λ z. none (sym e ∙ z), λ t. e ∙ none-number rows t);
+      done-is = done-is;
+      refused-is = refused-is;
+    }
+
+-- where each row has a number
+numbered-table : (rows : List Row) (put number count : ℕ) → numbered rows ≡ true → number ≡ numberOf rows → (number ≡ 0 → count ≡ put) → (number ≢ 0 → count ≡ 0)
+    → CountTable rows put number count
+numbered-table rows put number count t = count-table rows put number count (number-none rows t)
+
+reach-table : (registers list : List ℕ) (out : ℕ) → ReachTable registers list out (reachAnswer registers list out)
+unfolding reachAnswer
+reach-table registers list out = go (eqb number 0) refl
+  where
+    number : ℕ
+    number = reachNumber registers list out
+
+    rows : List Row
+    rows = reachRows (length registers) (modesOf registers) list out
+
+    go : (b : Bool) → eqb number 0 ≡ b
+        → (let r = cond {A = Reached} b (record { number = 0; count = answerBytes list }) (record { number = number; count = 0 }) in
+        CountTable rows (answerBytes list) (r .number) (r .count))
+    go true e = numbered-table rows (answerBytes list) 0 (answerBytes list) refl (sym (eqb-true number 0 e)) (λ z. refl) (λ u. absurd (u refl))
+    go false e = numbered-table rows (answerBytes list) number 0 refl refl (λ z. absurd (eqb-false number 0 e z)) (λ u. refl)
+
+show-table : (list : List ℕ) (room : ℕ) → ShowTable list room (shownAnswer list room)
+unfolding shownAnswer
+show-table list room = go (unfit 8 (length list)) (ltb room (length (shownText list)))
+  where
+    put : ℕ
+    put = length (shownText list)
+
+    go : (b c : Bool) → (let r = cond b (shownAs 3 0) (cond c (shownAs 27 0) (shownAs 0 put)) in CountTable (row 3 b ∷ row 27 c ∷ []) put (r .number) (r .count))
+    go true c = numbered-table (row 3 true ∷ row 27 c ∷ []) put 3 0 refl refl (λ z. absurd (omega (arith, z))) (λ u. refl)
+    go false true = numbered-table (row 3 false ∷ row 27 true ∷ []) put 27 0 refl refl (λ z. absurd (omega (arith, z))) (λ u. refl)
+    go false false = numbered-table (row 3 false ∷ row 27 false ∷ []) put 0 put refl refl (λ z. refl) (λ u. absurd (u refl))
+
+-- a text's: `line` is its line's number, `start` the place of what is refused, `put` the count of the bytes that it makes; `long`, `sound`, `many` and `short` are the tests, of a text whose line has no number `sound`
+module _ (text : List ℕ) (line start put : ℕ) (ofLine : line ≢ 0 → (60 ≤ line) × (line ≤ 69)) where
+  abbrev rows-by : Bool → Bool → Bool → Bool → List Row
+  rows-by long sound many short = row 50 long ∷ row line (not sound) ∷ row 3 many ∷ row 33 short ∷ []
+
+  abbrev made-by : Bool → Bool → Bool → Bool → Made
+  made-by long sound many short =
+      cond long (madeAs 50 0 0 0)
+      (cond sound (cond many (madeAs 3 0 0 0) (cond short (madeAs 33 0 0 0) (madeAs 0 0 0 put)))
+      (refusedAt text line start))
+
+  -- a number with its place
+  record Placed (r : Made) : Type 0 where
+    placed : 60 ≤ r .number → (r .line ≡ lineAt text start) × (r .column ≡ columnAt text start)
+    unplaced : r .number < 60 → (r .line ≡ 0) × (r .column ≡ 0)
+
+  -- where the number is 0 no row holds, since a line's row holds only where its number is not 0
+  none-by : (long sound many short : Bool) → eqb line 0 ≡ sound → numberOf (rows-by long sound many short) ≡ 0 → NoRow (rows-by long sound many short)
+  none-by true sound many short e z = absurd (omega (arith, z))
+  none-by false true true short e z = absurd (omega (arith, z))
+  none-by false true false true e z = absurd (omega (arith, z))
+  none-by false true false false e z = (refl, (refl, (refl, (refl, tt))))
+  none-by false false many short e z = absurd (eqb-false line 0 e z)
+
+  -- a number below 60 has no place, and no count unless it is 0
+  low : (n count : ℕ) → n < 60 → Placed (madeAs n 0 0 count)
+  low n count h = record { placed = λ k. absurd (omega arith); unplaced = λ k. (refl, refl) }
+
+  abbrev Tabled : List Row → Made → Type 0
+  Tabled rows r = CountTable rows put (r .number) (r .count) × Placed r
+
+  made-table : (long sound many short : Bool) → eqb line 0 ≡ sound → Tabled (rows-by long sound many short) (made-by long sound many short)
+  unfolding refusedAt
+  made-table true sound many short e = (count-table _ put 50 0 (none-by true sound many short e) refl (λ z. absurd (omega (arith, z))) (λ u. refl), low 50 0 (omega arith))
+  made-table false true true short e = (count-table _ put 3 0 (none-by false true true short e) refl (λ z. absurd (omega (arith, z))) (λ u. refl), low 3 0 (omega arith))
+  made-table false true false true e = (count-table _ put 33 0 (none-by false true false true e) refl (λ z. absurd (omega (arith, z))) (λ u. refl), low 33 0 (omega arith))
+  made-table false true false false e = (count-table _ put 0 put (none-by false true false false e) refl (λ z. refl) (λ u. absurd (u refl)), low 0 put (omega arith))
+  made-table false false many short e = (
+    count-table _ put line 0 (none-by false false many short e) refl (λ z. absurd (eqb-false line 0 e z)) (λ u. refl),
+    record { placed = λ k. (refl, refl); unplaced = λ k. absurd (omega (arith, ofLine (eqb-false line 0 e))) },
+  )
+
+make-table : (text : List ℕ) (room : ℕ) → MakeTable text room (madeAnswer text room)
+unfolding madeAnswer
+make-table text room =
+    let ofLine = line-numbers text in
+    let size = length (madeBytes text) in
+    let t = made-table text (lineNumber text) ((lastOf text) .start) size ofLine
+    (ltb 1048576 (length text)) (eqb (lineNumber text) 0) (ltb mostBytes size) (ltb room size) refl in
+    record { counted = t .0; ofLine = ofLine; placed = t .1 .placed; unplaced = t .1 .unplaced }
 
 read-table : (kind : ℕ) (bytes : List ℕ) (rows : List Row) (put : ℕ) → numbered rows ≡ true → ReadTable kind bytes rows put (readAnswer kind bytes rows put)
 read-table kind bytes rows put t =
@@ -385,6 +491,48 @@ library-isolated list registers answer′ h =
     let r = isolationOf list registers in
     (r, h, isolated-meets list registers r refl)
 
+-- a buffer of which nothing is written where a number is given
+untouched : (n : ℕ) (new old : List ℕ) → n ≢ 0 → cond (eqb n 0) new old ≡ old
+untouched n new old u = ap (λ (b : Bool). cond b new old) (ne-eqb n 0 u)
+
+reach-meets : (registers list out out′ : List ℕ) (r : Reached) → Reach registers list out out′ r
+    → ReachTable registers list (length out) r × Kept (r .number) out out′
+unfolding reachOut
+reach-meets registers list out out′ r (e, h) =
+    let t = subst (ReachTable registers list (length out)) (sym e) (reach-table registers list (length out)) in
+    let rows = reachRows (length registers) (modesOf registers) list (length out) in
+    (t, λ u. h ∙ untouched (reachNumber registers list (length out)) _ out (λ z. u (t .row-0 .1 (number-none rows refl z))))
+
+show-meets : (list text text′ : List ℕ) (r : Shown) → Show list text text′ r → ShowTable list (length text) r × Kept (r .number) text text′
+unfolding shownOut
+show-meets list text text′ r (e, h) = (
+  subst (ShowTable list (length text)) (sym e) (show-table list (length text)),
+  λ u. h ∙ untouched (shownAnswer list (length text) .number) _ text (λ z. u (ap (λ (x : Shown). x .number) e ∙ z)),
+)
+
+make-meets : (text out out′ : List ℕ) (r : Made) → Make text out out′ r → MakeTable text (length out) r × Kept (r .number) out out′
+unfolding madeOut
+make-meets text out out′ r (e, h) = (
+  subst (MakeTable text (length out)) (sym e) (make-table text (length out)),
+  λ u. h ∙ untouched (madeAnswer text (length out) .number) _ out (λ z. u (ap (λ (x : Made). x .number) e ∙ z)),
+)
+
+library-reach : (registers list out out′ answer′ : List ℕ) → LibraryBuffer (reachLeft registers list out) out′ answer′
+    → (r : Reached) × (answer′ ≡ r .number ∷ r .count ∷ []) × ReachTable registers list (length out) r × Kept (r .number) out out′
+unfolding reachLeft
+library-reach registers list out out′ answer′ h =
+    let r = reachAnswer registers list (length out) in
+    let m = reach-meets registers list out out′ r (refl, ap (λ (l : BufferLeft). l .buffer) h) in
+    (r, ap (λ (l : BufferLeft). l .answer) h, m .0, m .1)
+
+library-show : (list text text′ answer′ : List ℕ) → LibraryBuffer (showLeft list text) text′ answer′
+    → (r : Shown) × (answer′ ≡ r .number ∷ r .count ∷ []) × ShowTable list (length text) r × Kept (r .number) text text′
+unfolding showLeft
+library-show list text text′ answer′ h =
+    let r = shownAnswer list (length text) in
+    let m = show-meets list text text′ r (refl, ap (λ (l : BufferLeft). l .buffer) h) in
+    (r, ap (λ (l : BufferLeft). l .answer) h, m .0, m .1)
+
 -- of a buffer and three numbers, by what the entry behind them meets
 library-moved : (Table : Moved → Type 0) (l : ContentLeft) (before buffer′ answer′ : List ℕ) → LibraryBuffer (movedLeft l) buffer′ answer′
     → ((r : Moved) → _≡_ {A = ContentLeft} (record { answer = r; buffer = buffer′ }) l → Table r × Kept (r .number) before buffer′)
@@ -451,6 +599,9 @@ demand-one =
       closingList = closing-meets;
       spreadingList = spreading-meets;
       isolated = isolated-meets;
+      reach = reach-meets;
+      show = show-meets;
+      make = make-meets;
       readContent = read-meets;
       writeContent = write-meets;
       readPicture = read-picture-meets;
@@ -468,6 +619,8 @@ demand-one =
       libraryClosingList = library-closing;
       librarySpreadingList = library-spreading;
       libraryIsolated = library-isolated;
+      libraryReach = library-reach;
+      libraryShow = library-show;
       libraryReadContent = library-read;
       libraryWriteContent = library-write;
       libraryReadPicture = library-read-picture;

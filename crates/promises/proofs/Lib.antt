@@ -8,5 +8,6 @@ pub mod DemandThree
 pub mod DemandSearch
 pub mod DemandClosing
 pub mod DemandIsolation
+pub mod DemandText
 pub mod Examples
 pub mod Uniqueness

@@ -2,6 +2,7 @@
 use mathlib.Core.Path.{_≡_}
 use mathlib.Core.List.{List}
 use Prim.Native.Nat.{ℕ}
+use lib.ListN.{length}
 use Rattle.network.specs.declared.Passed.{Passed}
 use Rattle.network.specs.Answer.{answer}
 use Rattle.registers.specs.declared.Registers.{Registers}
@@ -15,6 +16,12 @@ use Rattle.closing.specs.Closing.{closingBuilt, spreadingBuilt}
 use Rattle.builders.specs.Building.{BuiltLeft as Buffer, BuiltTwoLeft as Buffers}
 use Rattle.isolation.specs.declared.Isolation.{Isolation}
 use Rattle.isolation.specs.Isolation.{isolationOf}
+use Rattle.reach.specs.declared.Reached.{Reached}
+use Rattle.reach.specs.Reach.{reachAnswer, reachOut}
+use Rattle.text.specs.declared.Shown.{Shown}
+use Rattle.text.specs.declared.Made.{Made}
+use Rattle.text.specs.Show.{shownAnswer, shownOut}
+use Rattle.text.specs.Make.{madeAnswer, madeOut}
 use Rattle.contents.specs.declared.Moved.{Moved}
 use Rattle.contents.specs.Content.{ContentLeft, contentRead, contentWritten}
 use Rattle.pictures.specs.Picture.{PictureLeft, pictureRead, pictureWritten}
@@ -75,6 +82,38 @@ SpreadingList a s n marks list items list′ items′ r =
 abbrev pub Isolated : (list registers : List ℕ) → Isolation → Type 0
 Isolated list registers r = r ≡ isolationOf list registers
 
+-- ---- what a list reaches, and its text: a contract here has two clauses, of the answer and of the buffer
+
+-- `reach::reach`
+abbrev pub ReachAnswer : (registers list out : List ℕ) → Reached → Type 0
+ReachAnswer registers list out r = r ≡ reachAnswer registers list (length out)
+
+abbrev pub ReachBytes : (registers list out out′ : List ℕ) → Type 0
+ReachBytes registers list out out′ = out′ ≡ reachOut registers list out
+
+abbrev pub Reach : (registers list out out′ : List ℕ) → Reached → Type 0
+Reach registers list out out′ r = ReachAnswer registers list out r × ReachBytes registers list out out′
+
+-- `text::showing::show`
+abbrev pub ShowAnswer : (list text : List ℕ) → Shown → Type 0
+ShowAnswer list text r = r ≡ shownAnswer list (length text)
+
+abbrev pub ShowText : (list text text′ : List ℕ) → Type 0
+ShowText list text text′ = text′ ≡ shownOut list text
+
+abbrev pub Show : (list text text′ : List ℕ) → Shown → Type 0
+Show list text text′ r = ShowAnswer list text r × ShowText list text text′
+
+-- `text::making::make`
+abbrev pub MakeAnswer : (text out : List ℕ) → Made → Type 0
+MakeAnswer text out r = r ≡ madeAnswer text (length out)
+
+abbrev pub MakeBytes : (text out out′ : List ℕ) → Type 0
+MakeBytes text out out′ = out′ ≡ madeOut text out
+
+abbrev pub Make : (text out out′ : List ℕ) → Made → Type 0
+Make text out out′ r = MakeAnswer text out r × MakeBytes text out out′
+
 -- ---- the disk
 
 -- `contents::read_content`
@@ -119,7 +158,7 @@ LibraryStep l u = u ≡ stepLeft l
 abbrev pub LibraryPass : (item : List ℕ) (flip code : ℕ) (passed′ answer′ : List ℕ) → Type 0
 LibraryPass item flip code passed′ answer′ = _≡_ {A = PassLeft} (record { passed = passed′; answer = answer′ }) (passLeft item flip code)
 
--- `staran_sum_list`, `staran_difference_list`, `staran_greatest_list`, `staran_read_content`, `staran_write_content`, `staran_write_picture`, `staran_picture_to_new` and `staran_picture_to_old`, which write one buffer: l is what the function leaves
+-- `staran_sum_list`, `staran_difference_list`, `staran_greatest_list`, `staran_reach`, `staran_show`, `staran_read_content`, `staran_write_content`, `staran_write_picture`, `staran_picture_to_new` and `staran_picture_to_old`, which write one buffer: l is what the function leaves
 abbrev pub LibraryBuffer : BufferLeft → (buffer′ answer′ : List ℕ) → Type 0
 LibraryBuffer l buffer′ answer′ = _≡_ {A = BufferLeft} (record { buffer = buffer′; answer = answer′ }) l
 
@@ -136,6 +175,6 @@ abbrev pub LibraryReadPicture : (kind : ℕ) (bytes memory registers memory′ r
 LibraryReadPicture kind bytes memory registers memory′ registers′ answer′ =
     _≡_ {A = TargetsLeft} (record { memory = memory′; registers = registers′; answer = answer′ }) (readPictureLeft kind bytes memory registers)
 
--- `staran_version`: 5.2
+-- `staran_version`: 5.3
 abbrev pub LibraryVersion : ℕ → Type 0
-LibraryVersion r = r ≡ version 5 2
+LibraryVersion r = r ≡ version 5 3

@@ -1,13 +1,14 @@
--- Demand 1, on a page: "Every public entry takes arbitrary bytes and lengths, and ends. A list is judged whole before its first instruction acts. A refusal gives the number and place that document 01 fixes, exactly when it says, and no lent byte has changed." Document 02, Six: "Demand 1 reads with the finer table", and a run's or step's refusal gives the offending byte; Seven adds 14 and 15, Eight 28 and 15 in pictures, Fourteen 40.
+-- Demand 1, on a page: "Every public entry takes arbitrary bytes and lengths, and ends. A list is judged whole before its first instruction acts. A refusal gives the number and place that document 01 fixes, exactly when it says, and no lent byte has changed." Document 02, Six: "Demand 1 reads with the finer table", and a run's or step's refusal gives the offending byte; Seven adds 14 and 15, Eight 28 and 15 in pictures, Fourteen 40; docs/TEXT.md has the numbers of reach, show and make.
 -- A record states each table of document 01; `DemandOne`, below them, has a field for each public entry and for each function of the library. A table is a list of rows with their numbers, in the order in which they are judged; `FirstRow rows n` says that row n is the first that holds, and `FirstByteRow rows n b` also that its condition about byte b is the first of its conditions that does. The names are those of specs/. It is proved in proofs/DemandOne.antt, and assumes nothing.
 -- What is lent is any list of bytes, and a kind, a start or a width any number: no contract of an entry has a `requires`, so no field has a condition on them. That an entry ends is part of every check. A name with ′ is what a buffer lent for writing holds afterwards; one lent for reading cannot change. What stands before a field's last arrow is the entry's promise, its contract's clauses as specs/Clauses.antt has them.
 use mathlib.Core.Path.{_≡_}
-use mathlib.Core.Bool.{true, false}
+use mathlib.Core.Bool.{true, false, not}
 use mathlib.Core.List.{List, [], _∷_}
 use mathlib.Core.Logic.{_↔_, _≢_}
 use Prim.Native.Nat.{ℕ, _*_, _/_, _^_, _<_, _≤_}
+use lib.Dec.{eqb, ltb}
 use lib.ListN.{length, replicate}
-use Rattle.bits.specs.Rows.{Row, NoRow, FirstRow}
+use Rattle.bits.specs.Rows.{Row, row, NoRow, FirstRow}
 use Rattle.network.specs.declared.Passed.{Passed}
 use Rattle.network.specs.Shifts.{permitted}
 use Rattle.network.specs.Unlisted.{codeRows}
@@ -19,7 +20,8 @@ use Rattle.judge.specs.declared.Instruction.{Instruction}
 use Rattle.judge.specs.declared.Lengths.{Lengths}
 use Rattle.judge.specs.declared.Answer.{Answer}
 use Rattle.judge.specs.ByteRows.{InOrder}
-use Rattle.judge.specs.Judge.{instructionRows, runRows, stepRows, refusal, done, judged, judgedStep}
+use Rattle.judge.specs.Kinds.{mostBytes}
+use Rattle.judge.specs.Judge.{instructionRows, unfit, runRows, stepRows, refusal, done, judged, judgedStep}
 use Rattle.judge.specs.Numbers.{Gives, Refused, Unrefused}
 use Rattle.module.specs.Run.{Lent, Left, unmoved, runLengths, stepLengths, lentBytes, leftBytes}
 use Rattle.builders.specs.declared.Built.{Built}
@@ -32,6 +34,12 @@ use Rattle.isolation.specs.declared.Isolation.{Isolation}
 use Rattle.isolation.specs.Isolation.{askRows}
 use Rattle.fields.specs.Isolation.{Keeps}
 use Rattle.isolation.specs.Numbers.{Answered}
+use Rattle.reach.specs.declared.Reached.{Reached}
+use Rattle.reach.specs.Reach.{answerBytes, reachRows}
+use Rattle.text.specs.declared.Shown.{Shown}
+use Rattle.text.specs.declared.Made.{Made}
+use Rattle.text.specs.Show.{shownText}
+use Rattle.text.specs.Make.{numberOf, lastOf, madeBytes, lineAt, columnAt}
 use Rattle.blocks.specs.Block.{blockBytes}
 use Rattle.contents.specs.declared.Moved.{Moved}
 use Rattle.contents.specs.File.{pictureKind, modesPictureKind, contentOf, sizeFits, blockCount}
@@ -39,8 +47,8 @@ use Rattle.contents.specs.Content.{targetFits, contentFits, readRows, writeRows
 use Rattle.contents.specs.Numbers.{Answers, Sound, ReadRefused}
 use Rattle.pictures.specs.Picture.{pictureFile, contentModes, pictureFits, pictureReadRows, pictureWriteRows}
 use Rattle.pictures.specs.Conversion.{toNewRows, toOldRows}
-use Rattle.library.specs.Left.{six, three, sumLeft, differenceLeft, equalLeft, lessLeft, greatestLeft, closingLeft, spreadingLeft, readLeft, writeLeft, writePictureLeft, toNewLeft, toOldLeft}
-use Rattle.promises.specs.Clauses.{Run, Step, Pass, SumList, DifferenceList, EqualList, LessList, GreatestList, ClosingList, SpreadingList, Isolated, ReadContent, WriteContent, ReadPicture, WritePicture, ToNew, ToOld, LibraryRun, LibraryStep, LibraryPass, LibraryBuffer, LibraryTwo, LibraryIsolated, LibraryReadPicture, LibraryVersion}
+use Rattle.library.specs.Left.{six, three, sumLeft, differenceLeft, equalLeft, lessLeft, greatestLeft, closingLeft, spreadingLeft, reachLeft, showLeft, readLeft, writeLeft, writePictureLeft, toNewLeft, toOldLeft}
+use Rattle.promises.specs.Clauses.{Run, Step, Pass, SumList, DifferenceList, EqualList, LessList, GreatestList, ClosingList, SpreadingList, Isolated, Reach, Show, Make, ReadContent, WriteContent, ReadPicture, WritePicture, ToNew, ToOld, LibraryRun, LibraryStep, LibraryPass, LibraryBuffer, LibraryTwo, LibraryIsolated, LibraryReadPicture, LibraryVersion}
 
 -- ---- Network: "a zero item where byte 6 is none of the 37, and otherwise 0 and the passed item"; document 02, Six: "16, group over 256 lines; 17, m not below p in a byte 6 that is not 0", in this order
 pub record PassTable (lines : List ℕ) (flip code : ℕ) (r : Passed) : Type 0 where
@@ -120,6 +128,48 @@ pub record IsolationTable (rows : List Row) (m : Modes) (list : List ℕ) (r : I
 
 abbrev pub IsolatedTable : (list registers : List ℕ) → Isolation → Type 0
 IsolatedTable list registers = let m = modesOf registers in IsolationTable (askRows (length registers) m list) m list
+
+-- ---- What a list reaches, and lists as text: docs/TEXT.md, Refusals. A refusal writes nothing, and its count is 0
+
+-- `rows` are the table of the numbers, and `put` is the count of the bytes or characters that are put out.
+pub record CountTable (rows : List Row) (put number count : ℕ) : Type 0 where
+  pub refused : (n : ℕ) → n ≢ 0 → (number ≡ n) ↔ FirstRow rows n
+  pub row-0 : (number ≡ 0) ↔ NoRow rows
+  pub done-is : number ≡ 0 → count ≡ put
+  pub refused-is : number ≢ 0 → count ≡ 0
+
+-- "`reach` gives 2, 3 and 15 as a run does, and then 27 where the buffer has not two bytes for each instruction": `out` is the length of the buffer.
+abbrev pub ReachTable : (registers list : List ℕ) (out : ℕ) → Reached → Type 0
+ReachTable registers list out r = CountTable (reachRows (length registers) (modesOf registers) list out) (answerBytes list) (r .number) (r .count)
+
+-- "`show` gives 3 for a list that is not a multiple of 8 bytes, or over 32,768, and then 27 where the text's buffer is too short."
+abbrev pub showRows : (list : List ℕ) (room : ℕ) → List Row
+showRows list room = row 3 (unfit 8 (length list)) ∷ row 27 (ltb room (length (shownText list))) ∷ []
+
+abbrev pub ShowTable : (list : List ℕ) (room : ℕ) → Shown → Type 0
+ShowTable list room r = CountTable (showRows list room) (length (shownText list)) (r .number) (r .count)
+
+-- The number of the first word of a text that may not stand where it does, or of a line that ends too early: 0 where there is neither.
+abbrev pub lineNumber : List ℕ → ℕ
+lineNumber text = numberOf ((lastOf text) .line .phase)
+
+-- 50 for a text of over 1,048,576 characters, 3 for over 4,096 instructions, 33 for a list buffer that is shorter than the list: "They are judged in this order: 50; the lines, one word after the other; 3; 33."
+abbrev pub makeRows : (text : List ℕ) (room : ℕ) → List Row
+makeRows text room =
+    row 50 (ltb 1048576 (length text))
+    ∷ row (lineNumber text) (not (eqb (lineNumber text) 0))
+    ∷ row 3 (ltb mostBytes (length (madeBytes text)))
+    ∷ row 33 (ltb room (length (madeBytes text)))
+    ∷ []
+
+pub record MakeTable (text : List ℕ) (room : ℕ) (r : Made) : Type 0 where
+  pub counted : CountTable (makeRows text room) (length (madeBytes text)) (r .number) (r .count)
+  -- a line's numbers are 60 to 69, so that 50, 3 and 33 are none of them
+  pub ofLine : lineNumber text ≢ 0 → (60 ≤ lineNumber text) × (lineNumber text ≤ 69)
+  -- "`make` gives a number with line and column, both from 1: of the first word that may not stand where it does, its first character; for 69 the line's end, or the `;` of its comment"
+  pub placed : 60 ≤ r .number → (r .line ≡ lineAt text ((lastOf text) .start)) × (r .column ≡ columnAt text ((lastOf text) .start))
+  -- of 50, 3 and 33, and where the list is made, "line and column are 0"
+  pub unplaced : r .number < 60 → (r .line ≡ 0) × (r .column ≡ 0)
 
 -- ---- Blocks on disk: "Place is the block for 21 to 24, else 0"
 
@@ -212,6 +262,13 @@ pub record DemandOne : Type 0 where
       → SpreadingTable a s n (length marks) (length list) (length items) r × Kept (r .number) list list′ × Kept (r .number) items items′
   -- `isolated`
   pub isolated : (list registers : List ℕ) (r : Isolation) → Isolated list registers r → IsolatedTable list registers r
+  -- `reach`
+  pub reach : (registers list out out′ : List ℕ) (r : Reached) → Reach registers list out out′ r
+      → ReachTable registers list (length out) r × Kept (r .number) out out′
+  -- `show`
+  pub show : (list text text′ : List ℕ) (r : Shown) → Show list text text′ r → ShowTable list (length text) r × Kept (r .number) text text′
+  -- `make`
+  pub make : (text out out′ : List ℕ) (r : Made) → Make text out out′ r → MakeTable text (length out) r × Kept (r .number) out out′
   -- `read_content`, of a list or items
   pub readContent : (kind : ℕ) (bytes target target′ : List ℕ) (r : Moved)
       → ReadContent kind bytes target target′ r
@@ -267,6 +324,12 @@ pub record DemandOne : Type 0 where
   -- `staran_isolated`
   pub libraryIsolated : (list registers answer′ : List ℕ) → LibraryIsolated list registers answer′
       → (r : Isolation) × (answer′ ≡ r .number ∷ r .place ∷ []) × IsolatedTable list registers r
+  -- `staran_reach`
+  pub libraryReach : (registers list out out′ answer′ : List ℕ) → LibraryBuffer (reachLeft registers list out) out′ answer′
+      → (r : Reached) × (answer′ ≡ r .number ∷ r .count ∷ []) × ReachTable registers list (length out) r × Kept (r .number) out out′
+  -- `staran_show`
+  pub libraryShow : (list text text′ answer′ : List ℕ) → LibraryBuffer (showLeft list text) text′ answer′
+      → (r : Shown) × (answer′ ≡ r .number ∷ r .count ∷ []) × ShowTable list (length text) r × Kept (r .number) text text′
   -- `staran_read_content`
   pub libraryReadContent : (kind : ℕ) (bytes target target′ answer′ : List ℕ) → LibraryBuffer (readLeft kind bytes target) target′ answer′
       → (r : Moved) × (answer′ ≡ three r) × ReadContentTable kind bytes target r × Kept (r .number) target target′
@@ -287,5 +350,5 @@ pub record DemandOne : Type 0 where
       → (r : Moved) × (answer′ ≡ three r) × ToNewTable bytes out r × Kept (r .number) out out′
   pub libraryToOld : (bytes out out′ answer′ : List ℕ) → LibraryBuffer (toOldLeft bytes out) out′ answer′
       → (r : Moved) × (answer′ ≡ three r) × ToOldTable bytes out r × Kept (r .number) out out′
-  -- `staran_version` has no number of the tables: 5.2, and nothing else
-  pub libraryVersion : (r : ℕ) → LibraryVersion r → r ≡ 327682
+  -- `staran_version` has no number of the tables: 5.3, and nothing else
+  pub libraryVersion : (r : ℕ) → LibraryVersion r → r ≡ 327683

@@ -15,6 +15,7 @@ use denote.Ref.{now}
 use denote.Triple.Entry.{Args, Res}
 use denote.Triple.Clauses.{Ended, Clauses, AtExit}
 use Rattle.bits.proofs.mix as mix
+use Rattle.bits.proofs.buffers.put as put_byte
 use Rattle.bits.proofs.choices.one_if as one_if
 use Rattle.bits.proofs.choices.number_or as number_or
 use Rattle.bits.proofs.copies.copy as copy
@@ -58,6 +59,9 @@ use Rattle.judge.proofs.judge_step as judge_step
 use Rattle.judge.proofs.decode as decode
 use Rattle.judge.proofs.unfit as unfit
 use Rattle.judge.proofs.modes.settle as settle
+use Rattle.judge.proofs.modes.unset as unset
+use Rattle.judge.proofs.rows.stores as stores
+use Rattle.judge.proofs.rows.touches as touches
 use Rattle.judge.proofs.rows.fault as fault
 use Rattle.judge.proofs.rows.takes as takes
 use Rattle.judge.proofs.rows.gives as gives
@@ -85,6 +89,25 @@ use Rattle.builders.proofs.searches.greatest_list as greatest_list
 use Rattle.closing.proofs.closing_list as closing_list
 use Rattle.closing.proofs.spreading_list as spreading_list
 use Rattle.isolation.proofs.isolated as isolated
+use Rattle.reach.specs.declared.Reached.{Reached}
+use Rattle.reach.proofs.reach as reach
+use Rattle.reach.proofs.reach_of as reach_of
+use Rattle.spelling.proofs.find as find_word
+use Rattle.spelling.proofs.pick as pick
+use Rattle.spelling.proofs.when as when
+use Rattle.spelling.proofs.decimal as decimal
+use Rattle.spelling.proofs.number as number
+use Rattle.spelling.proofs.hex_pair as hex_pair
+use Rattle.spelling.proofs.pair_value as pair_value
+use Rattle.spelling.proofs.extended as extended
+use Rattle.spelling.proofs.put_word as put_word
+use Rattle.lines.proofs.saying.words_of as words_of
+use Rattle.lines.proofs.wording.worded as worded
+use Rattle.lines.proofs.wording.sort as sort
+use Rattle.text.specs.declared.Shown.{Shown}
+use Rattle.text.specs.declared.Made.{Made}
+use Rattle.text.proofs.showing.show as show
+use Rattle.text.proofs.making.make as make
 use Rattle.blocks.proofs.two_at as two_at
 use Rattle.blocks.proofs.fault as block_fault
 use Rattle.blocks.proofs.seal as seal
@@ -118,6 +141,8 @@ use Rattle.library.proofs.staran_greatest_list as staran_greatest_list
 use Rattle.library.proofs.staran_closing_list as staran_closing_list
 use Rattle.library.proofs.staran_spreading_list as staran_spreading_list
 use Rattle.library.proofs.staran_isolated as staran_isolated
+use Rattle.library.proofs.staran_reach as staran_reach
+use Rattle.library.proofs.staran_show as staran_show
 use Rattle.library.proofs.staran_read_content as staran_read_content
 use Rattle.library.proofs.staran_write_content as staran_write_content
 use Rattle.library.proofs.staran_read_picture as staran_read_picture
@@ -175,6 +200,12 @@ module _ {M : Type 1} (𝓤 : URA M) (H : Heap 𝓤) (A : Atoms 𝓤) (memory : 
     pub spreadingList : OneOutcome 𝓤 spreading_list.ended (spreading_list.clauses 𝓤 H A memory runs) {O = Buffers} (λ κs r e. record { answer = r; list = now (e .1 .1 .1 .1 .0); items = now (e .1 .1 .1 .1 .1 .0) })
     -- `isolation::isolated`
     pub isolated : OneOutcome 𝓤 isolated.ended (isolated.clauses 𝓤 H A memory runs) (λ κs r e. r)
+    -- `reach::reach`
+    pub reach : OneOutcome 𝓤 reach.ended (reach.clauses 𝓤 H A memory runs) {O = Reached × List ℕ} (λ κs r e. (r, now (e .1 .1 .0)))
+    -- `text::showing::show`
+    pub show : OneOutcome 𝓤 show.ended (show.clauses 𝓤 H A memory runs) {O = Shown × List ℕ} (λ κs r e. (r, now (e .1 .0)))
+    -- `text::making::make`
+    pub make : OneOutcome 𝓤 make.ended (make.clauses 𝓤 H A memory runs) {O = Made × List ℕ} (λ κs r e. (r, now (e .1 .0)))
     -- `contents::read_content`
     pub readContent : OneOutcome 𝓤 read_content.ended (read_content.clauses 𝓤 H A memory runs) {O = ContentLeft} (λ κs r e. record { answer = r; buffer = now (e .1 .1 .0) })
     -- `contents::write_content`
@@ -202,6 +233,8 @@ module _ {M : Type 1} (𝓤 : URA M) (H : Heap 𝓤) (A : Atoms 𝓤) (memory : 
     pub closingList : OneOutcome 𝓤 staran_closing_list.ended (staran_closing_list.clauses 𝓤 H A memory runs) {O = TwoLeft} (λ κs r e. record { list = now (e .1 .1 .1 .1 .0); items = now (e .1 .1 .1 .1 .1 .0); answer = now (e .1 .1 .1 .1 .1 .1 .0) })
     pub spreadingList : OneOutcome 𝓤 staran_spreading_list.ended (staran_spreading_list.clauses 𝓤 H A memory runs) {O = TwoLeft} (λ κs r e. record { list = now (e .1 .1 .1 .1 .0); items = now (e .1 .1 .1 .1 .1 .0); answer = now (e .1 .1 .1 .1 .1 .1 .0) })
     pub isolated : OneOutcome 𝓤 staran_isolated.ended (staran_isolated.clauses 𝓤 H A memory runs) (λ κs r e. now (e .1 .1 .0))
+    pub reach : OneOutcome 𝓤 staran_reach.ended (staran_reach.clauses 𝓤 H A memory runs) {O = BufferLeft} (λ κs r e. record { buffer = now (e .1 .1 .0); answer = now (e .1 .1 .1 .0) })
+    pub show : OneOutcome 𝓤 staran_show.ended (staran_show.clauses 𝓤 H A memory runs) {O = BufferLeft} (λ κs r e. record { buffer = now (e .1 .0); answer = now (e .1 .1 .0) })
     pub readContent : OneOutcome 𝓤 staran_read_content.ended (staran_read_content.clauses 𝓤 H A memory runs) {O = BufferLeft} (λ κs r e. record { buffer = now (e .1 .1 .0); answer = now (e .1 .1 .1 .0) })
     pub writeContent : OneOutcome 𝓤 staran_write_content.ended (staran_write_content.clauses 𝓤 H A memory runs) {O = BufferLeft} (λ κs r e. record { buffer = now (e .1 .1 .0); answer = now (e .1 .1 .1 .0) })
     pub readPicture : OneOutcome 𝓤 staran_read_picture.ended (staran_read_picture.clauses 𝓤 H A memory runs) {O = TargetsLeft} (λ κs r e. record { memory = now (e .1 .1 .0); registers = now (e .1 .1 .1 .0); answer = now (e .1 .1 .1 .1 .0) })
@@ -221,6 +254,7 @@ module _ {M : Type 1} (𝓤 : URA M) (H : Heap 𝓤) (A : Atoms 𝓤) (memory : 
   -- `bits`
   pub record OfBits : Type 2 where
     pub mix : OneOutcome 𝓤 mix.ended (mix.clauses 𝓤 H A memory runs) (λ κs r e. r)
+    pub putByte : OneOutcome 𝓤 put_byte.ended (put_byte.clauses 𝓤 H A memory runs) {O = ℕ × List ℕ} (λ κs r e. (r, now (e .0)))
     pub oneIf : OneOutcome 𝓤 one_if.ended (one_if.clauses 𝓤 H A memory runs) (λ κs r e. r)
     pub numberOr : OneOutcome 𝓤 number_or.ended (number_or.clauses 𝓤 H A memory runs) (λ κs r e. r)
     pub copy : OneOutcome 𝓤 copy.ended (copy.clauses 𝓤 H A memory runs) (λ κs r e. now (e .1 .0))
@@ -277,6 +311,9 @@ module _ {M : Type 1} (𝓤 : URA M) (H : Heap 𝓤) (A : Atoms 𝓤) (memory : 
     pub decode : OneOutcome 𝓤 decode.ended (decode.clauses 𝓤 H A memory runs) (λ κs r e. r)
     pub unfit : OneOutcome 𝓤 unfit.ended (unfit.clauses 𝓤 H A memory runs) (λ κs r e. r)
     pub settle : OneOutcome 𝓤 settle.ended (settle.clauses 𝓤 H A memory runs) (λ κs r e. r)
+    pub unset : OneOutcome 𝓤 unset.ended (unset.clauses 𝓤 H A memory runs) (λ κs r e. r)
+    pub stores : OneOutcome 𝓤 stores.ended (stores.clauses 𝓤 H A memory runs) (λ κs r e. r)
+    pub touches : OneOutcome 𝓤 touches.ended (touches.clauses 𝓤 H A memory runs) (λ κs r e. r)
     pub fault : OneOutcome 𝓤 fault.ended (fault.clauses 𝓤 H A memory runs) (λ κs r e. r)
     pub takes : OneOutcome 𝓤 takes.ended (takes.clauses 𝓤 H A memory runs) (λ κs r e. r)
     pub gives : OneOutcome 𝓤 gives.ended (gives.clauses 𝓤 H A memory runs) (λ κs r e. r)
@@ -292,6 +329,28 @@ module _ {M : Type 1} (𝓤 : URA M) (H : Heap 𝓤) (A : Atoms 𝓤) (memory : 
     pub putLogicFrom : OneOutcome 𝓤 put_logic_from.ended (put_logic_from.clauses 𝓤 H A memory runs) (λ κs r e. now (e .0))
     pub putLogicAt : OneOutcome 𝓤 put_logic_at.ended (put_logic_at.clauses 𝓤 H A memory runs) (λ κs r e. now (e .0))
     pub putStoreAt : OneOutcome 𝓤 put_store_at.ended (put_store_at.clauses 𝓤 H A memory runs) (λ κs r e. now (e .0))
+
+  -- `reach`
+  pub record OfReach : Type 2 where
+    pub reachOf : OneOutcome 𝓤 reach_of.ended (reach_of.clauses 𝓤 H A memory runs) (λ κs r e. r)
+
+  -- `spelling`
+  pub record OfSpelling : Type 2 where
+    pub find : OneOutcome 𝓤 find_word.ended (find_word.clauses 𝓤 H A memory runs) (λ κs r e. r)
+    pub pick : OneOutcome 𝓤 pick.ended (pick.clauses 𝓤 H A memory runs) (λ κs r e. r)
+    pub when : OneOutcome 𝓤 when.ended (when.clauses 𝓤 H A memory runs) (λ κs r e. r)
+    pub decimal : OneOutcome 𝓤 decimal.ended (decimal.clauses 𝓤 H A memory runs) (λ κs r e. r)
+    pub number : OneOutcome 𝓤 number.ended (number.clauses 𝓤 H A memory runs) (λ κs r e. r)
+    pub hexPair : OneOutcome 𝓤 hex_pair.ended (hex_pair.clauses 𝓤 H A memory runs) (λ κs r e. r)
+    pub pairValue : OneOutcome 𝓤 pair_value.ended (pair_value.clauses 𝓤 H A memory runs) (λ κs r e. r)
+    pub extended : OneOutcome 𝓤 extended.ended (extended.clauses 𝓤 H A memory runs) (λ κs r e. r)
+    pub putWord : OneOutcome 𝓤 put_word.ended (put_word.clauses 𝓤 H A memory runs) {O = ℕ × List ℕ} (λ κs r e. (r, now (e .0)))
+
+  -- `lines`
+  pub record OfLines : Type 2 where
+    pub wordsOf : OneOutcome 𝓤 words_of.ended (words_of.clauses 𝓤 H A memory runs) (λ κs r e. r)
+    pub worded : OneOutcome 𝓤 worded.ended (worded.clauses 𝓤 H A memory runs) (λ κs r e. r)
+    pub sort : OneOutcome 𝓤 sort.ended (sort.clauses 𝓤 H A memory runs) (λ κs r e. r)
 
   -- `blocks`
   pub record OfBlocks : Type 2 where
@@ -329,6 +388,9 @@ module _ {M : Type 1} (𝓤 : URA M) (H : Heap 𝓤) (A : Atoms 𝓤) (memory : 
     pub ofRegisters : OfRegisters
     pub ofJudge : OfJudge
     pub ofBuilders : OfBuilders
+    pub ofReach : OfReach
+    pub ofSpelling : OfSpelling
+    pub ofLines : OfLines
     pub ofBlocks : OfBlocks
     pub ofContents : OfContents
     pub ofPictures : OfPictures

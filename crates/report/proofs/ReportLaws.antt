@@ -1,9 +1,9 @@
--- Laws of numbers and bytes as text, and of text put behind text. Assumes nothing.
+-- Laws of numbers and bytes as text. Assumes nothing.
 use mathlib.Core.Path.{_≡_, refl, sym, ap, ap₂, _∙_}
 use mathlib.Core.Bool.{Bool, cond}
 use mathlib.Core.List.{List, [], _∷_, _++_}
 use Prim.Native.Nat.{ℕ, zero, suc, _+_, _-_, _*_, _/_, _%_, _^_, _<_, _≤_}
-use native.Mathlib.Nat.{pow-suc, add-zero, zero-add}
+use native.Mathlib.Nat.{pow-suc}
 use native.Mathlib.Numerals.{add-one}
 use native.Mathlib.Decide.{decLt}
 use native.Mathlib.Omega.{arith}
@@ -11,10 +11,7 @@ use lib.Dec.{ltb}
 use lib.ListN.{length, getD, take, drop, length-append}
 use lib.Seq.{take-suc}
 use borrow.Author.Tests.{lt-ltb, le-ltb}
-use Rattle.bits.specs.Steps.{putAt}
-use Rattle.bits.proofs.Puts.{put-nil, put-put, put-front}
 use Rattle.report.specs.Report.{decimalIn, decimal, hexDigit, hexed, itemLines}
-use Rattle.report.specs.Steps.{Put}
 
 -- ---- decimal
 
@@ -53,25 +50,6 @@ length-decimal (suc k) n h = go (decLt n 10) (length-decimal k (n / 10))
         let p : 10 ^ suc (suc k) ≡ 10 ^ suc k * 10 = pow-suc 10 (suc k) in
         let i = ih (omega arith) in
         omega (arith, ap length (decimal-more n (omega arith)) ∙ length-append (decimal (n / 10)) ((48 + n % 10) ∷ []))
-
--- ---- text behind text
-
--- nothing put
-pub none-put : (k : ℕ) (t : List ℕ) → Put k [] t k t
-none-put k t = record { behind = sym (add-zero k); left = sym (put-nil k t) }
-
--- what two writers leave, one after the other
-pub then-put : {k n r : ℕ} {x y whole t t₁ t₂ : List ℕ} → k ≤ length t → Put k x t n t₁ → Put n y t₁ r t₂ → x ++ y ≡ whole → Put k whole t r t₂
-then-put {k} {n} {r} {x} {y} {whole} {t} {t₁} {t₂} h p q e = record {
-  behind = omega (arith, p .behind, q .behind, length-append x y, ap length e);
-  left = q .left ∙ ap (putAt n y) (p .left) ∙ put-put k n x y t h (p .behind) ∙ ap (λ (l : List ℕ). putAt k l t) e;
-}
-
--- from the front on
-pub put-whole : {r : ℕ} {x t t′ : List ℕ} → Put 0 x t r t′ → (r ≡ length x) × (t′ ≡ x ++ drop r t)
-put-whole {r} {x} {t} {t′} p =
-    let e : r ≡ length x = p .behind ∙ zero-add (length x) in
-    (e, p .left ∙ put-front x t ∙ ap (λ (n : ℕ). x ++ drop n t) (sym e))
 
 -- the contract of `report` has one answer only, every byte of the buffer included
 pub report-unique : (printed old text text′ : List ℕ) (r r′ : ℕ) → r ≡ length printed → text ≡ printed ++ drop r old → r′ ≡ length printed → text′ ≡ printed ++ drop r′ old

@@ -1,3 +1,2 @@
 -- What the program prints: what the contracts of this crate cite.
 pub mod Report
-pub mod Steps

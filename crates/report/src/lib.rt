@@ -1,21 +1,13 @@
 // The program's printed lines, put into a buffer byte by byte. Document 01, The program.
 //
 // Each function puts its text from index `at` of the buffer on, and answers the index after it: every other byte stays.
+use bits::buffers::put;
 ghost use mathlib.Core.Path.{_≡_};
 ghost use mathlib.Core.List.{[], _∷_, _++_};
 ghost use Prim.Native.Nat.{_+_, _*_, _≤_, _<_};
 ghost use lib.ListN.{length, drop};
 ghost use Rattle.report.specs.Report.{decimal, spaced, line, hexDigit, hexed, itemLines, printed};
-ghost use Rattle.report.specs.Steps.{Put};
-
-// One character.
-fn put(text: &mut [u8], at: usize, c: u8) -> usize
-    requires { ⌜ at < length (now text) ⌝ }
-    ensures { λ r. ⌜ Put at (c ∷ []) (now (text .entry)) r (now (text .exit)) ⌝ }
-{
-    text[at] = c;
-    at + 1
-}
+ghost use Rattle.bits.specs.Steps.{Put};
 
 // A number in decimal: the digits of its tenth first, where that is not 0, and then its last digit.
 fn put_decimal(text: &mut [u8], at: usize, n: u32) -> usize

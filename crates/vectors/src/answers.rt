@@ -111,6 +111,25 @@ pub(crate) fn of_isolation(r: isolation::Isolation) -> Numbers {
     three(r.number as u32, narrow(r.place), 0)
 }
 
+// The answers of showing and of reach: a number and a count.
+pub(crate) fn of_shown(r: text::Shown) -> Numbers {
+    three(r.number as u32, narrow(r.count), 0)
+}
+
+pub(crate) fn of_reached(r: reach::Reached) -> Numbers {
+    three(r.number as u32, narrow(r.count), 0)
+}
+
+// The answer of making, with its line and column.
+pub(crate) fn of_made(r: text::Made) -> Numbers {
+    let mut w = [0u32; 16];
+    w[0] = r.number as u32;
+    w[1] = narrow(r.line);
+    w[2] = narrow(r.column);
+    w[3] = narrow(r.count);
+    fixed(5, w)
+}
+
 // The answer of an entry of the disk.
 pub(crate) fn of_disk(r: contents::Moved) -> Numbers {
     three(r.number as u32, narrow(r.place), narrow(r.bytes))

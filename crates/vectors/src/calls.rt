@@ -14,6 +14,7 @@ use super::rooms::give;
 use super::rooms::take;
 use super::running::call_module;
 use super::searching::call_search;
+use super::texts::call_text;
 use builders::sums::difference_list;
 use builders::sums::sum_list;
 
@@ -119,5 +120,8 @@ pub(crate) fn call(record: &[u8], room: &mut [u8]) -> Numbers {
     if kind < 21 {
         return call_conversion(record, room, kind == 20);
     }
-    call_isolated(record, room)
+    if kind < 22 {
+        return call_isolated(record, room);
+    }
+    call_text(record, room, kind)
 }

@@ -25,7 +25,7 @@ use super::rooms::end_of;
 use super::rooms::start_of;
 
 // The patch at `at` of the record, if it is for the buffer of number `which`: its bytes go into the buffer; target 255 seals a block of the file, number 5;
-// target 254 repeats the front of the memory, number 0. Nothing is a patch from byte 1,000 on.
+// targets 254 and 253 repeat the front of the memory, number 0, and of the file. Nothing is a patch from byte 1,000 on.
 fn one_patch(record: &[u8], at: usize, which: usize, buffer: &mut [u8]) {
     if 1000 <= at {
         return;
@@ -41,6 +41,10 @@ fn one_patch(record: &[u8], at: usize, which: usize, buffer: &mut [u8]) {
         return;
     }
     if target == 254 && which == 0 {
+        repeat(buffer, to);
+        return;
+    }
+    if target == 253 && which == 5 {
         repeat(buffer, to);
     }
 }

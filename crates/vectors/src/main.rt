@@ -9,6 +9,7 @@ mod records;
 mod rooms;
 mod running;
 mod searching;
+mod texts;
 
 ghost use mathlib.Core.Path.{_≡_};
 ghost use Prim.Native.Nat.{_<_};

@@ -2,11 +2,11 @@
 the stored files against each other for every buffer that a call leaves as it was, for runs, steps, passes,
 sums and differences built and run every number, for runs and steps the memory if none is stored, the registers if
 M, X and Y stay, and for the searches, for closing and spreading, for reading and writing of blocks, for pictures
-made new or old and for isolation every word of the answer.
+made new or old, for isolation and for lists as text every word of the answer.
 
     python3 extra/protocol.py ../../crates/vectors/stdin ../../crates/vectors/stdout
 """
-import sys
+import re,sys
 def nxt(x):
     x^=(x<<13)&0xffffffff; x^=x>>17; x^=(x<<5)&0xffffffff; return x
 def digest(b):
@@ -62,6 +62,9 @@ def make(r):
         elif t==254:
             assert n==0 and 32<=o<=8192
             for i in range(o,len(B[0])):B[0][i]=B[0][i-o]
+        elif t==253:
+            assert n==0 and 1<=o<=35000
+            for i in range(o,len(B[5])):B[5][i]=B[5][i-o]
         else:
             assert o+n<=len(B[t]); B[t][o:o+n]=r[at+4:at+4+n]
         at+=4+n
@@ -241,6 +244,125 @@ def isolated(kind,p,B):
                 break
             if sort==6 and tag in(2,3): zero=zero-{tag} if b[3] else zero|{tag}
     return [no,place,0,0,0]+[digest(b) for b in B]
+CHOICES='x y both x-if-y x-if-y+y'.split()
+FUNCTIONS='zero nor 2 not clear loadnot xor nand and xnor load 11 keep ornot or one'.split()
+SOURCES='m x y outside'.split()
+KINDS='logic setm store mstore deliver resolve set bytes'.split()
+decimal=lambda w:int(w) if re.fullmatch('[0-9]{1,3}',w) and int(w)<256 else None
+power=lambda w,most:w.isdigit() and w[0]!='0' and int(w)<=most and int(w)&int(w)-1==0
+def word(at,w,b):
+    """The page's table: what the word w at this place puts into b, and the next place; or the number of the refusal."""
+    n=decimal(w);store=b[0] in(2,3)
+    if at=='first':
+        if w not in KINDS: return 60
+        b[0]=KINDS.index(w)%7
+        return {'logic':'choice','resolve':'end','set':'set','bytes':0}.get(w,'place' if w in('store','mstore') else 'source')
+    if at=='choice':
+        if w not in CHOICES: return 61
+        b[7]=16*CHOICES.index(w)
+        return 'function'
+    if at=='function':
+        if w not in FUNCTIONS and (n is None or n>15): return 62
+        b[7]+=FUNCTIONS.index(w) if w in FUNCTIONS else n
+        return 'source'
+    if at=='source' and w in SOURCES or at=='register':
+        if w not in SOURCES: return 63
+        b[1]=1+SOURCES.index(w)
+        return 'held' if store else 'moves'
+    if at in('source','place'):
+        if w not in('slice','word','mode'): return 63
+        if w=='mode': return 'mode'
+        b[2:4]=[1,255*(w=='word')]
+        return 'number'
+    if at=='set':
+        if w not in('a','b'): return 63
+        b[2]=2+(w=='b')
+        return 'setting'
+    if at in('number','flip','setting','mode') and n is None and not(at=='mode' and w in('a','b')): return 64
+    if at=='number': b[4]=n;return 'from' if store else 'moves'
+    if at=='flip': b[5]=n;return 'end' if store else 'flipped'
+    if at=='setting': b[3]=n;return 'end'
+    if at=='mode': b[2:4]=[2+(w=='b'),0] if n is None else [1,n];return 'address'
+    if at in('address','from','mod'): return {'address':'number','from':'register','mod':'size'}[at] if w==at else 65
+    if at=='shift':
+        if not power(w,128): return 66
+        b[6]=int(w).bit_length()-1
+        return 'mod'
+    if at=='size':
+        if not power(w,256) or int(w)<=1<<b[6]: return 66
+        b[6]+=16*(int(w).bit_length()-1)
+        return 'end'
+    if type(at) is int:
+        if not re.fullmatch('[0-9A-Fa-f]{2}',w): return 68
+        b[at]=int(w,16)
+        return at+1 if at<7 else 'end'
+    if w=='flip' and at in('moves','held') or w=='shift' and at in('moves','flipped'): return w
+    return 67
+def made(text,out):
+    """Make: number, line, column and count."""
+    lst=b''
+    for n,line in enumerate(bytes(text).split(b'\n'),1):
+        code=line.split(b';')[0];at='first';b=bytearray(8)
+        for found in re.finditer(rb'[^ \t\r]+',code):
+            w=found.group()
+            w=w.decode('ascii') if re.fullmatch(rb'[!-~]{1,8}',w) else ''
+            at=word(at,w,b)
+            if type(at) is int and at>9: return [at,n,found.start()+1,0]
+        if at=='first': continue
+        if at not in('moves','flipped','held','end'): return [69,n,len(code)+1,0]
+        lst+=b
+    if len(lst)>32768: return [3,0,0,0]
+    if len(lst)>len(out): return [33,0,0,0]
+    out[:len(lst)]=lst
+    return [0,0,0,len(lst)]
+def held_at(lst,held):
+    """Each instruction, and what A and B hold there by their tags."""
+    held=dict(held)
+    for at in range(0,len(lst),8):
+        b=lst[at:at+8]
+        yield b,dict(held)
+        if b[0]==6 and b[2] in(2,3): held[b[2]]=b[3]
+words_of=lambda mode:2**bin(255-mode).count('1')
+def shown(lst,out):
+    """Show: number and count."""
+    if len(lst)%8 or len(lst)>32768: return [3,0]
+    text=''
+    for b,held in held_at(lst,{}):
+        wrong=fault(b,())
+        if wrong: text+='bytes %s ; refused %d byte %d\n'%(' '.join('%02X'%v for v in b),*wrong);continue
+        place='slice %d'%b[4] if (b[2],b[3])==(1,0) else 'word %d'%b[4] if (b[2],b[3])==(1,255) else 'mode %s address %d'%({2:'a',3:'b'}.get(b[2],b[3]),b[4])
+        source=SOURCES[b[1]-1] if b[1] else place
+        moves=(' flip %d'%b[5] if b[5] else '')+(' shift %d mod %d'%(2**(b[6]%16),2**(b[6]//16)) if b[6] else '')
+        k=b[0]
+        if k==0: text+='logic %s %s '%(CHOICES[b[7]//16],FUNCTIONS[b[7]%16])+source+moves
+        elif k in(1,4): text+=KINDS[k]+' '+source+moves
+        elif k==5: text+='resolve'
+        elif k==6: text+='set %s %d'%('ab'[b[2]-2],b[3])
+        else:
+            count=words_of(b[3]) if b[2]==1 else words_of(held[b[2]]) if b[2] in held else '?'
+            text+='%s %s from %s%s ; reaches %s word%s'%(KINDS[k],place,source,moves,count,'' if count==1 else 's')
+        text+='\n'
+    if len(text)>len(out): return [27,0]
+    out[:len(text)]=text.encode()
+    return [0,len(text)]
+def reached(reg,lst,out):
+    """Reach: number and count."""
+    if len(reg)!=100: return [2,0]
+    if len(lst)%8 or len(lst)>32768: return [3,0]
+    if any(reg[k]>1 or reg[k]==0<reg[k+1] for k in(96,98)): return [15,0]
+    counts=b''
+    for b,held in held_at(lst,{tag:reg[k+1] for tag,k in((2,96),(3,98)) if reg[k]}):
+        count=0
+        if b[0] in(2,3) and not fault(b,[tag for tag in(2,3) if tag not in held]): count=words_of(held.get(b[2],b[3]))
+        counts+=count.to_bytes(2,'little')
+    if len(counts)>len(out): return [27,0]
+    out[:len(counts)]=counts
+    return [0,len(counts)]
+def as_text(kind,p,B):
+    """Kinds 22 to 24 from the page's part on lists as text: all words of the answer."""
+    assert not any(p) and not any(len(B[k]) for k in((0,3,5) if kind==24 else (0,1,3,4)))
+    said=shown(B[2],B[5]) if kind==22 else made(B[5],B[2]) if kind==23 else reached(B[1],B[2],B[4])
+    return said+(5-len(said))*[0]+[digest(b) for b in B]
 kept={0:[2,3,5],1:[2,3,5],2:[0,1,2,3,5],3:[0,1,2,3,5],4:[0,1,3,4,5],5:[0,1,3,4,5],10:[3,5],11:[3,5]}
 lines=open(sys.argv[1]).read().split('\n');ans=open(sys.argv[2]).read().split('\n')
 assert lines[-1]=='' and ans[-1]=='' and len(lines)==len(ans)
@@ -249,7 +371,7 @@ for k in range(0,len(lines)-1):
     kind,p,B=make(bytes.fromhex(lines[k]))
     w=[int(v,16) for v in ans[k].split(' ')];assert len(ans[k])==9*len(w)-1 and len(w)>=5+len(B)
     if kind>=12 or 6<=kind<=9:
-        whole=isolated if kind==21 else on_disk if kind<10 or kind>16 else search if kind<15 else closing
+        whole=as_text if kind>21 else isolated if kind==21 else on_disk if kind<10 or kind>16 else search if kind<15 else closing
         assert w==whole(kind,p,B),k; checked+=len(B); continue
     expected=numbers(kind,p,B);assert len(w)==len(expected)+len(B),k
     if expected[0] is not None: assert w[:len(expected)]==expected,(k,expected)

@@ -5,8 +5,9 @@ use Prim.Native.Nat.{_+_, _%_, _/_}
 use denote.Ref.{now}
 use lib.ListN.{length, length-append}
 use Rattle.report.specs.Report.{decimal}
-use Rattle.report.specs.Steps.{Put}
-use Rattle.report.proofs.ReportLaws.{decimal-small, decimal-more, then-put}
+use Rattle.bits.specs.Steps.{Put}
+use Rattle.bits.proofs.Puts.{then-put}
+use Rattle.report.proofs.ReportLaws.{decimal-small, decimal-more}
 use native.Mathlib.Omega.{arith}
 use Prim.Native.Nat.{ℕ, _<_}
 use borrow.Fn.Kinds.{In}
@@ -14,7 +15,7 @@ use borrow.Fn.PlainCycle.{Measures, is, falls, and}
 use Rattle.report.proofs.put_decimal.Reads as put-decimal
 use Rattle.report.proofs.put_decimal.Kinds as put-decimal-kinds
 use Rattle.report.proofs.+put_decimal.Lts-put_decimal as put-decimal-lts
-use Rattle.report.proofs.put.Reads as put-reads
+use Rattle.bits.proofs.buffers.put.Reads as put-reads
 use Rattle.report.proofs.+put_decimal.{statement}
 use Rattle.report.proofs.+put_decimal.Tie.{close}
 

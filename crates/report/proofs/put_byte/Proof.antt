@@ -4,8 +4,8 @@ use mathlib.Core.List.{[], _∷_}
 use Prim.Native.Nat.{ℕ}
 use denote.Ref.{now}
 use Rattle.report.specs.Report.{hexed}
-use Rattle.report.specs.Steps.{Put}
-use Rattle.report.proofs.ReportLaws.{then-put}
+use Rattle.bits.specs.Steps.{Put}
+use Rattle.bits.proofs.Puts.{then-put}
 use borrow.Author.Needs.{needs}
 use native.Mathlib.Omega.{arith}
 use Rattle.report.proofs.put_byte.Statement.{statement}

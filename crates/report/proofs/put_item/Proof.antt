@@ -6,8 +6,9 @@ use denote.Ref.{now}
 use lib.ListN.{length, take}
 use lib.Seq.{take-all}
 use Rattle.report.specs.Report.{hexed}
-use Rattle.report.specs.Steps.{Put}
-use Rattle.report.proofs.ReportLaws.{hexed-more, none-put, then-put}
+use Rattle.bits.specs.Steps.{Put}
+use Rattle.bits.proofs.Puts.{none-put, then-put}
+use Rattle.report.proofs.ReportLaws.{hexed-more}
 use borrow.Author.Needs.{needs}
 use native.Mathlib.Omega.{arith}
 use Rattle.report.proofs.put_item.Statement.{statement}

@@ -4,8 +4,9 @@ use Prim.Native.Nat.{ℕ, _≤_, _+_, _-_, _*_}
 use denote.Ref.{now}
 use lib.ListN.{length}
 use Rattle.report.specs.Report.{itemLines}
-use Rattle.report.specs.Steps.{Put}
-use Rattle.report.proofs.ReportLaws.{none-put, then-put, lines-more}
+use Rattle.bits.specs.Steps.{Put}
+use Rattle.bits.proofs.Puts.{none-put, then-put}
+use Rattle.report.proofs.ReportLaws.{lines-more}
 use borrow.Author.Needs.{needs}
 use native.Mathlib.Omega.{arith}
 use Rattle.report.proofs.put_items.Statement.{statement}

@@ -2,7 +2,7 @@
 use mathlib.Core.Path.{refl}
 use mathlib.Core.List.{append-assoc}
 use Rattle.report.specs.Report.{line}
-use Rattle.report.proofs.ReportLaws.{then-put}
+use Rattle.bits.proofs.Puts.{then-put}
 use borrow.Author.Needs.{needs}
 use native.Mathlib.Omega.{arith}
 use Rattle.report.proofs.put_line.Statement.{statement}

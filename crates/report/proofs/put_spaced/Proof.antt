@@ -1,6 +1,7 @@
 -- `put_spaced`: the space, and the number behind it; a 32-bit number has at most ten digits.
 use mathlib.Core.Path.{refl}
-use Rattle.report.proofs.ReportLaws.{length-decimal, then-put}
+use Rattle.bits.proofs.Puts.{then-put}
+use Rattle.report.proofs.ReportLaws.{length-decimal}
 use borrow.Author.Needs.{needs}
 use native.Mathlib.Omega.{arith}
 use Rattle.report.proofs.put_spaced.Statement.{statement}

@@ -1,7 +1,7 @@
 -- `report`: the line, and the items behind it.
 use mathlib.Core.Path.{refl}
 use Rattle.report.specs.Report.{printed}
-use Rattle.report.proofs.ReportLaws.{then-put, put-whole}
+use Rattle.bits.proofs.Puts.{then-put, put-whole}
 use borrow.Author.Needs.{needs}
 use native.Mathlib.Omega.{arith}
 use Rattle.report.proofs.report.Statement.{statement}

@@ -51,7 +51,7 @@ fn smaller(case: &Case) -> Vec<Case> {
             break;
         }
         let length = case.lengths[k] as usize;
-        let unit = [1, 1, 8, 32, 32, 512][k];
+        let unit = [1, 1, 8, 32, 32, if case.has_file() { 512 } else { 32 }][k];
         for new in [0, length / 2 / unit * unit, length.saturating_sub(8 * unit), length.saturating_sub(unit), length.saturating_sub(1)] {
             if new < length {
                 let mut one = case.clone();
@@ -64,13 +64,13 @@ fn smaller(case: &Case) -> Vec<Case> {
                 }
                 one.patches.retain(|p| match p.target {
                     SEAL => (p.offset as usize) < one.lengths[FILE] as usize / 512,
-                    REPEAT => true,
+                    REPEAT | REPEAT_FILE => true,
                     _ => !p.bytes.is_empty(),
                 });
                 all.push(one);
             }
         }
-        if [RUN, ISOLATED].contains(&case.kind) && k == LIST && length % 8 == 0 && length > 8 && length <= 640 {
+        if [RUN, ISOLATED, SHOW, REACH].contains(&case.kind) && k == LIST && length % 8 == 0 && length > 8 && length <= 640 {
             // written out, so that any one instruction can be left out
             let list = case.make()[LIST].clone();
             for leave in 0..length / 8 {
@@ -96,6 +96,9 @@ fn smaller(case: &Case) -> Vec<Case> {
     if case.kind == ISOLATED {
         all.extend(without_gaps(case));
     }
+    if case.kind == MAKE {
+        all.extend(less_text(case));
+    }
     if case.way().is_some() {
         all.extend(narrower(case));
         all.extend(fewer_marked(case));
@@ -119,6 +122,39 @@ fn without_gaps(case: &Case) -> Vec<Case> {
             patch.offset -= gap;
         }
         if gap > 0 {
+            all.push(one);
+        }
+    }
+    all
+}
+
+/// The text written out, without one half, one line, one word with the blank before it, or one character; of a long one
+/// the first or the last lines.
+fn less_text(case: &Case) -> Vec<Case> {
+    const MOST: usize = 900;
+    let text = case.make()[TEXT].clone();
+    let mut parts = vec![(0, text.len() / 2), (text.len() / 2, text.len()), (MOST.min(text.len()), text.len()), (0, text.len().saturating_sub(MOST))];
+    let ends: Vec<usize> = (1..text.len()).filter(|&at| text[at - 1] == b'\n').collect();
+    if text.len() > MOST {
+        parts.extend(ends.iter().filter(|&&at| text.len() - at <= MOST).map(|&at| (0, at)));
+        parts.extend(ends.iter().filter(|&&at| at <= MOST).map(|&at| (at, text.len())));
+    } else {
+        let from = std::iter::once(0).chain(ends.iter().copied());
+        parts.extend(from.zip(ends.iter().copied().chain([text.len()])));
+        let blank = |at: usize| b" \t\r\n;".contains(&text[at]);
+        let starts = (0..text.len()).filter(|&at| at == 0 || blank(at));
+        parts.extend(starts.map(|at| (at, (at + 1..text.len()).find(|&end| blank(end)).unwrap_or(text.len()))));
+        parts.extend((0..text.len()).map(|at| (at, at + 1)));
+    }
+    let mut all = vec![];
+    for (from, to) in parts.into_iter().filter(|(from, to)| from < to) {
+        let less = [&text[..from], &text[to..]].concat();
+        if less.len() <= MOST {
+            let mut one = case.clone();
+            one.zeros |= 1 << TEXT;
+            one.patches.retain(|p| p.target as usize != TEXT && p.target != REPEAT_FILE);
+            one.lengths[TEXT] = less.len() as u16;
+            one.patch(TEXT, 0, &less);
             all.push(one);
         }
     }

@@ -669,7 +669,7 @@ pub mod tests {
     #[test]
     fn many_random_cases_have_one_instruction_at_fault() {
         let mut plan = Plan::new(3);
-        plan.random_cases(6000);
+        plan.random_others(6000);
         let mut count = 0;
         let mut seen: BTreeMap<(u8, u32, u32), usize> = BTreeMap::new();
         for case in plan.cases.iter().filter(|case| case.kind == RUN || case.kind == STEP) {

@@ -9,9 +9,13 @@ pub const OUT: usize = 4;
 pub const FILE: usize = 5;
 /// The marks of a closing or spreading are in the file's buffer.
 pub const MARKS: usize = FILE;
-/// Not buffers: a patch that seals a block of the file, and one that repeats the memory's beginning.
+/// So is a text, and the buffer that the text of a list is put into.
+pub const TEXT: usize = FILE;
+/// Not buffers: a patch that seals a block of the file, one that repeats the memory's beginning, and one that repeats the
+/// file's.
 pub const SEAL: u8 = 255;
 pub const REPEAT: u8 = 254;
+pub const REPEAT_FILE: u8 = 253;
 
 /// How many buffers a case has.
 pub const COUNT: usize = 6;
@@ -55,8 +59,11 @@ pub const WRITE_ASKED: u8 = 18;
 pub const TO_NEW: u8 = 19;
 pub const TO_OLD: u8 = 20;
 pub const ISOLATED: u8 = 21;
+pub const SHOW: u8 = 22;
+pub const MAKE: u8 = 23;
+pub const REACH: u8 = 24;
 
-pub const KINDS: [&str; 22] = [
+pub const KINDS: [&str; 25] = [
     "run",
     "step",
     "pass",
@@ -79,9 +86,12 @@ pub const KINDS: [&str; 22] = [
     "old picture to new",
     "new picture to old",
     "isolated",
+    "show",
+    "make",
+    "reach",
 ];
 
-pub const BUFFERS: [&str; COUNT] = ["memory", "registers", "list or output", "items", "out", "file or marks"];
+pub const BUFFERS: [&str; COUNT] = ["memory", "registers", "list or output", "items", "out", "file, marks or text"];
 
 #[derive(Clone, PartialEq, Eq, Debug)]
 pub struct Patch {
@@ -216,6 +226,12 @@ impl Case {
         self
     }
 
+    /// The same of the file.
+    pub fn repeat_file(&mut self, period: usize) -> &mut Case {
+        self.patches.push(Patch { target: REPEAT_FILE, offset: period as u16, bytes: vec![] });
+        self
+    }
+
     pub fn seal(&mut self, block: usize) -> &mut Case {
         self.patches.push(Patch { target: SEAL, offset: block as u16, bytes: vec![] });
         self
@@ -251,12 +267,20 @@ impl Case {
         if self.kind == ISOLATED {
             assert!([MEMORY, ITEMS, OUT, FILE].iter().all(|&k| self.lengths[k] == 0) && self.p == [0; 4]);
         }
+        if [SHOW, MAKE].contains(&self.kind) {
+            assert!([MEMORY, REGISTERS, ITEMS, OUT].iter().all(|&k| self.lengths[k] == 0) && self.p == [0; 4]);
+        }
+        if self.kind == REACH {
+            assert!([MEMORY, ITEMS, FILE].iter().all(|&k| self.lengths[k] == 0) && self.p == [0; 4]);
+        }
         assert!(self.patches.len() < 256);
         for patch in &self.patches {
             if patch.target == SEAL {
                 assert!(patch.bytes.is_empty() && (patch.offset as usize) < self.lengths[FILE] as usize / 512);
             } else if patch.target == REPEAT {
                 assert!(patch.bytes.is_empty() && 32 <= patch.offset && patch.offset <= 8192);
+            } else if patch.target == REPEAT_FILE {
+                assert!(patch.bytes.is_empty() && 1 <= patch.offset && patch.offset <= 35000);
             } else {
                 let end = patch.offset as usize + patch.bytes.len();
                 assert!(end <= self.lengths[patch.target as usize] as usize, "{:?}", self);
@@ -369,6 +393,10 @@ impl Case {
                 for i in offset..buffers[MEMORY].len() {
                     buffers[MEMORY][i] = buffers[MEMORY][i - offset];
                 }
+            } else if patch.target == REPEAT_FILE {
+                for i in offset..buffers[FILE].len() {
+                    buffers[FILE][i] = buffers[FILE][i - offset];
+                }
             } else {
                 buffers[patch.target as usize][offset..offset + patch.bytes.len()].copy_from_slice(&patch.bytes);
             }
@@ -411,14 +439,15 @@ impl Case {
         self.search().is_some() || self.way().is_some()
     }
 
-    /// Whether registers of the right length have mode registers: all kinds that run or step, and isolation.
+    /// Whether registers of the right length have mode registers: all kinds that run or step, isolation and reach.
     pub fn has_modes(&self) -> bool {
-        (self.run_numbers().is_some() || self.kind == ISOLATED) && self.lengths[REGISTERS] as usize == RECORD
+        let looks = self.run_numbers().is_some() || [ISOLATED, REACH].contains(&self.kind);
+        looks && self.lengths[REGISTERS] as usize == RECORD
     }
 
     /// Whether buffer 2 is a list that is judged as it is lent.
     pub fn has_list(&self) -> bool {
-        [RUN, STEP, ISOLATED].contains(&self.kind)
+        [RUN, STEP, ISOLATED, SHOW, REACH].contains(&self.kind)
     }
 
     /// The mode registers at the start are these bytes: set-flag and mode of A, then of B.
@@ -509,7 +538,7 @@ impl Case {
         build(a, b, s, width, list)
     }
 
-    /// A pass, a builder alone, reading, writing, making new or old, and isolation.
+    /// A pass, a builder alone, reading, writing, making new or old, isolation, and lists as text.
     fn call_other(&self, buffers: &mut Buffers) -> [u32; NUMBERS] {
         let [memory, registers, list, items, out, file] = buffers;
         let p = self.p;
@@ -538,6 +567,12 @@ impl Case {
                 let said = emulator::isolated(list, registers);
                 [said.number, said.place, 0, 0, 0]
             }
+            SHOW => written(emulator::show(list, file)),
+            MAKE => {
+                let made = emulator::make(file, list);
+                [made.number, made.line, made.column, made.count, 0]
+            }
+            REACH => written(emulator::reach(registers, list, out)),
             _ => panic!("no such case"),
         }
     }
@@ -560,11 +595,11 @@ impl Case {
         Reply { words }
     }
 
-    /// The number and the place of its answer: the run's, where a list is built and run.
+    /// The number and the place of its answer: the run's, where a list is built and run; the line, where one is made.
     pub fn number_and_place(&self, reply: &Reply) -> (u32, u32) {
         let at = if self.prepares() && reply.words[0] == 0 { OF_BUILDER } else { 0 };
-        let place = if self.prepares() && at == 0 { 0 } else { reply.words[at + 1] };
-        (reply.words[at], place)
+        let none = self.prepares() && at == 0 || [SHOW, REACH].contains(&self.kind);
+        (reply.words[at], if none { 0 } else { reply.words[at + 1] })
     }
 }
 
@@ -574,6 +609,10 @@ fn numbers(a: emulator::Answer) -> [u32; OF_RUN] {
 
 fn put(a: emulator::Put) -> [u32; NUMBERS] {
     [a.number, a.place, a.bytes, 0, 0]
+}
+
+fn written(a: emulator::Written) -> [u32; NUMBERS] {
+    [a.number, a.count, 0, 0, 0]
 }
 
 /// The numbers of an answer, then the digests of the buffers.
@@ -737,7 +776,7 @@ mod tests {
         let mut checked = 0;
         let asked: Vec<&str> = lines.iter().copied().filter(|l| l.len() >= 2 * (HEADER + BUFFER * COUNT) && l.bytes().all(|c| c.is_ascii_hexdigit())).collect();
         let answered: Vec<&str> = lines.iter().copied().filter(|l| Reply::from_line(l).is_some()).collect();
-        assert_eq!((asked.len(), answered.len()), (46, 46));
+        assert_eq!((asked.len(), answered.len()), (58, 58));
         for (line, reply) in asked.iter().zip(&answered) {
             let case = Case::from_line(line).unwrap();
             case.check();
@@ -745,7 +784,7 @@ mod tests {
             assert_eq!(case.answer().line(), *reply);
             checked += 1;
         }
-        assert_eq!(checked, 46);
+        assert_eq!(checked, 58);
         let mut case = Case::new(RUN, 1);
         case.lengths[LIST] = 8;
         assert_eq!(case.make()[LIST], [0x21, 0x01, 0xc5, 0x4f, 0xd1, 0xd0, 0x1a, 0xb2]);

@@ -855,7 +855,7 @@ mod tests {
     #[test]
     fn one_random_case_in_nine_closes_or_spreads() {
         let mut plan = Plan::new(4);
-        plan.random_cases(6000);
+        plan.random_others(6000);
         let closings: Vec<&Case> = plan.cases.iter().filter(|case| case.way().is_some()).collect();
         assert!(600 < closings.len() && closings.len() < 900, "{}", closings.len());
         let mut numbers = BTreeSet::new();

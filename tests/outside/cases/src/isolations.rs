@@ -1136,7 +1136,7 @@ mod tests {
     #[test]
     fn one_random_case_in_ten_is_an_isolation() {
         let mut plan = Plan::new(3);
-        plan.random_cases(6000);
+        plan.random_others(6000);
         let mut numbers: BTreeMap<u32, usize> = BTreeMap::new();
         let (mut all, mut used, mut long, mut places) = (0, 0, 0, [0; 3]);
         for case in plan.cases.iter().filter(|case| case.kind == ISOLATED) {

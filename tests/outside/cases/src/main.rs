@@ -12,6 +12,7 @@ mod modes;
 mod pictures;
 mod resolves;
 mod searches;
+mod texts;
 mod words;
 
 use case::*;

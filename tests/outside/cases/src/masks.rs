@@ -305,7 +305,7 @@ mod tests {
     #[test]
     fn many_random_cases_have_a_masked_store_with_a_flip() {
         let mut plan = Plan::new(3);
-        plan.random_cases(1000);
+        plan.random_others(1000);
         let count = plan.cases.iter().filter(|case| has_moved(case)).count();
         assert!(120 < count, "{}", count);
     }

@@ -1154,7 +1154,7 @@ mod tests {
     #[test]
     fn one_random_case_in_nine_uses_the_mode_registers() {
         let mut plan = Plan::new(3);
-        plan.random_cases(4000);
+        plan.random_others(4000);
         let (mut shaped, mut done, mut uses, mut fifteen, mut fourteen) = (0, 0, 0, 0, 0);
         let (mut runs, mut runs_done) = (0, 0);
         for case in &plan.cases {

@@ -1320,7 +1320,7 @@ mod tests {
     #[test]
     fn one_random_case_in_ten_is_a_picture() {
         let mut plan = Plan::new(3);
-        plan.random_cases(8000);
+        plan.random_others(8000);
         let (mut of, mut done) = ([0; 4], [0; 4]);
         let mut numbers: std::collections::BTreeMap<u32, usize> = Default::default();
         let mut plain = 0;

@@ -539,7 +539,7 @@ mod tests {
     #[test]
     fn about_one_random_case_in_six_has_a_resolve() {
         let mut plan = Plan::new(3);
-        plan.random_cases(6000);
+        plan.random_others(6000);
         let mut count = 0;
         let mut seen = std::collections::BTreeMap::new();
         for case in &plan.cases {

@@ -450,7 +450,7 @@ mod tests {
     #[test]
     fn one_random_case_in_nine_is_a_search() {
         let mut plan = Plan::new(3);
-        plan.random_cases(4000);
+        plan.random_others(4000);
         let searches = plan.cases.iter().filter(|case| case.search().is_some()).count();
         assert!(400 < searches && searches < 600, "{}", searches);
     }

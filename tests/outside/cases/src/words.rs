@@ -9,8 +9,9 @@ use std::collections::{BTreeMap, BTreeSet};
 use std::fmt::Write;
 
 const DID: [&str; 7] = ["logic", "set M", "store", "masked store", "deliver", "resolve", "set mode register"];
-/// How many instructions of a list are shown.
+/// How many instructions of a list are shown, how many lines of a text, and how many characters of a line.
 const SHOWN: usize = 24;
+const LINE: usize = 120;
 const FROM: [&str; 5] = ["memory", "M", "X", "Y", "outside"];
 
 pub fn hex(bytes: &[u8]) -> String {
@@ -71,6 +72,7 @@ pub fn describe(case: &Case) -> String {
         WRITE_PLAIN | WRITE_ASKED => writeln!(t, "kind asked {}", p[0]).unwrap(),
         EQUAL_RUN | LESS_RUN | GREATEST_RUN => describe_search(&mut t, case),
         CLOSE_RUN | SPREAD_RUN => describe_closing(&mut t, case),
+        MAKE => t.push_str(&lines_of(&case.make()[TEXT])),
         _ => {}
     }
     for k in 0..COUNT {
@@ -95,7 +97,7 @@ pub fn describe(case: &Case) -> String {
             let at = patch.offset as usize;
             patch.target as usize == LIST && at < 8 * k + 8 && 8 * k < at + patch.bytes.len()
         });
-        let shown = |k: usize| k < SHOWN || case.kind == ISOLATED && written(k);
+        let shown = |k: usize| k < SHOWN || [ISOLATED, REACH].contains(&case.kind) && written(k);
         for (k, b) in buffers[LIST].chunks(8).enumerate() {
             if k == SHOWN {
                 writeln!(t, "  ... {} instructions in all", buffers[LIST].len() / 8).unwrap();
@@ -118,17 +120,32 @@ pub fn describe(case: &Case) -> String {
         match patch.target {
             SEAL => writeln!(t, "then block {} is sealed", at).unwrap(),
             REPEAT => writeln!(t, "then the memory repeats its first {} bytes", at).unwrap(),
+            REPEAT_FILE => writeln!(t, "then the file repeats its first {} bytes", at).unwrap(),
             k if k as usize == LIST && case.has_list() && at % 8 == 0 => {
                 writeln!(t, "patch: list from instruction {} on, {} bytes", at / 8, patch.bytes.len()).unwrap()
             }
             k if k as usize == MARKS && case.way().is_some() => {
                 writeln!(t, "patch: marks byte {}: {}", at, hex(&patch.bytes)).unwrap()
             }
+            k if k as usize == TEXT && case.kind == MAKE => {
+                writeln!(t, "patch: text from character {} on, {} characters", at, patch.bytes.len()).unwrap()
+            }
             k if k as usize == FILE => {
                 writeln!(t, "patch: file byte {} (block {}, byte {}): {}", at, at / 512, at % 512, hex(&patch.bytes)).unwrap()
             }
             k => writeln!(t, "patch: {} byte {}: {}", BUFFERS[k as usize], at, hex(&patch.bytes)).unwrap(),
         }
+    }
+    t
+}
+
+/// The lines of a text with their numbers; what is no character of a text stands as its hex digits.
+fn lines_of(text: &[u8]) -> String {
+    let lines: Vec<&[u8]> = text.split(|&byte| byte == b'\n').collect();
+    let mut t = format!("the text has {} characters, {} lines\n", text.len(), lines.len());
+    for (k, line) in lines.iter().enumerate().take(SHOWN) {
+        let cut = &line[..line.len().min(LINE)];
+        writeln!(t, "  {:>4}: {}{}", k + 1, cut.escape_ascii(), if line.len() > LINE { " .." } else { "" }).unwrap();
     }
     t
 }
@@ -271,15 +288,28 @@ fn meaning(number: u32) -> &'static str {
         27 => "output too short",
         28 => "a mode register set, which an old picture has not",
         40 => "not isolated",
+        60 => "no instruction has this name",
+        61 => "no such choice",
+        62 => "no such function",
+        63 => "no such source, place or mode register",
+        64 => "no number 0 to 255, or behind mode none, a or b",
+        65 => "address, from or mod has to stand here",
+        66 => "no such shift",
+        67 => "more than the instruction takes",
+        68 => "no byte of two hex digits",
+        69 => "the line ends too early",
         _ => "the builder's",
     }
 }
 
-/// The answer of a run or step, also of one that was built before, of reading, writing and making new or old, and of
-/// isolation, in words; of other entries nothing.
+/// The answer of a run or step, also of one that was built before, of reading, writing and making new or old, of
+/// isolation and of lists as text, in words; of other entries nothing.
 pub fn answered(case: &Case, reply: &Reply) -> String {
     if case.kind == ISOLATED {
         return answered_of_isolation(case, reply);
+    }
+    if [SHOW, MAKE, REACH].contains(&case.kind) {
+        return answered_of_text(case, reply);
     }
     let Some(at) = case.run_numbers() else { return answered_by_blocks(case, reply) };
     let (before, run) = (&reply.words[..at.start], &reply.words[at]);
@@ -326,6 +356,41 @@ fn answered_of_isolation(case: &Case, reply: &Reply) -> String {
     format!("{} at instruction {}: {}   {}: {}\n", meaning(number), place, hex(b), instruction(b), why)
 }
 
+/// The text that is shown; where a text is refused and what stands there; how many words the stores reach.
+fn answered_of_text(case: &Case, reply: &Reply) -> String {
+    let mut buffers = case.make();
+    let numbers = case.call(&mut buffers);
+    assert_eq!(numbers, reply.words[..NUMBERS]);
+    match (case.kind, numbers[0]) {
+        (SHOW, 0) => format!("shown: {}", lines_of(&buffers[TEXT][..numbers[1] as usize])),
+        (REACH, 0) => {
+            let mut t = format!("done: {} bytes\n", numbers[1]);
+            for (k, pair) in buffers[OUT][..numbers[1] as usize].chunks(2).enumerate().filter(|(_, pair)| pair != &[0, 0]).take(SHOWN) {
+                writeln!(t, "  {:>4}: reaches {}", k, pair[0] as u32 + 256 * pair[1] as u32).unwrap();
+            }
+            t
+        }
+        (MAKE, 0) => {
+            let list = &buffers[LIST][..numbers[3] as usize];
+            let mut t = format!("made: {} instructions\n", list.len() / 8);
+            for (k, b) in list.chunks(8).enumerate().take(SHOWN) {
+                writeln!(t, "  {:>4}: {}   {}", k, hex(b), instruction(b)).unwrap();
+            }
+            t
+        }
+        (MAKE, 3) => "refused with 3: over 4,096 instructions\n".to_string(),
+        (MAKE, 33) => "refused with 33: the list buffer is shorter than the list\n".to_string(),
+        (MAKE, number) => {
+            let line = buffers[TEXT].split(|&byte| byte == b'\n').nth(numbers[1] as usize - 1).unwrap_or(&[]);
+            let behind = &line[line.len().min(numbers[2] as usize - 1)..];
+            let cut = &behind[..behind.len().min(LINE)];
+            let there = if cut.is_empty() { "the line's end".to_string() } else { cut.escape_ascii().to_string() };
+            format!("refused with {} at line {}, column {}: {}; there stands {}\n", number, numbers[1], numbers[2], meaning(number), there)
+        }
+        (_, number) => format!("refused with {}: {}\n", number, meaning(number)),
+    }
+}
+
 pub fn differences(one: &str, x: Option<&str>, other: &str, y: Option<&str>) -> String {
     let mut t = String::new();
     writeln!(t, "{}: {}", one, x.unwrap_or("(no line)")).unwrap();
@@ -338,7 +403,7 @@ pub fn differences(one: &str, x: Option<&str>, other: &str, y: Option<&str>) -> 
             return t;
         }
     };
-    const OTHER_NAMES: [&str; NUMBERS] = ["number", "place", "count or bytes", "word 3", "word 4"];
+    const OTHER_NAMES: [&str; NUMBERS] = ["number", "place, line, or count of show or reach", "count, bytes or column", "count of make", "word 4"];
     const RUN_NAMES: [&str; OF_RUN] = ["number", "place", "byte", "steps", "taken", "given"];
     const BUILDER_NAMES: [&str; OF_BUILDER] = ["builder's number", "bytes of the list", "bytes of the items"];
     let numbers = a.len() - COUNT;

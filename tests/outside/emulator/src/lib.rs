@@ -3,7 +3,8 @@
 //! and Y are 256 bools each, a mode register holds a mode or none, an item on the lines is 256 bools. Lent bytes are
 //! unpacked at the start of a call and packed again at its end, and only if the call is done.
 //!
-//! Points that the documents leave open follow the readings A to K and Q; the comments name them.
+//! Points that the documents leave open follow the readings A to K and Q; the comments name them. Lists as text are no
+//! document's; they are written from docs/TEXT.md alone.
 
 pub mod bits;
 pub mod blocks;
@@ -15,6 +16,7 @@ pub mod memory;
 pub mod network;
 pub mod program;
 pub mod searches;
+pub mod text;
 
 pub use blocks::{new_to_old, old_to_new, read_picture, read_plain, write_picture, write_plain, Put};
 pub use closing::{Fields, Way};
@@ -23,3 +25,4 @@ pub use lists::{difference_list, sum_list, Built};
 pub use machine::{run, step, Answer, REGISTERS};
 pub use network::{pass, wired_pass};
 pub use searches::{prepare, run_prepared, Prepared, Search};
+pub use text::{make, reach, show, Made, Written};

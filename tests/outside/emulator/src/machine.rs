@@ -231,6 +231,11 @@ fn judge_one(b: &[u8], set: &[bool; 2]) -> Result<Instruction, Fault> {
     Ok(Instruction::Pass { source, flip: b[5] as usize, shift, act })
 }
 
+/// The number and the byte for which an instruction by itself is refused where these mode registers count as set.
+pub(crate) fn fault(b: &[u8], set: &[bool; 2]) -> Option<(u32, usize)> {
+    judge_one(b, set).err().map(|fault| (fault.number, fault.byte))
+}
+
 /// What each instruction in turn is refused for; then 12; then 13. A mode register counts as set from the start if its
 /// flag is 1 then, and otherwise behind the first kind 6 that names it. Nothing moves here (reading J5).
 fn judge(list: &[u8], modes: &Modes, items: usize, room: usize) -> Result<Vec<Instruction>, Answer> {

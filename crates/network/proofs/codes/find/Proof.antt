@@ -5,8 +5,10 @@ use Prim.Native.Nat.{ℕ, _+_, _-_, _≤_, _<_}
 use native.Mathlib.Omega.{arith}
 use lib.ListN.{length, getD, drop}
 use borrow.Author.Needs.{needs}
-use Rattle.network.specs.Shifts.{codes, indexOf}
-use Rattle.network.proofs.TableRules.{codes-length, find-none, find-here, find-more, find-end}
+use Rattle.bits.specs.Search.{indexOf}
+use Rattle.bits.proofs.Find.{find-none, find-here, find-more, find-end}
+use Rattle.network.specs.Shifts.{codes}
+use Rattle.network.proofs.TableRules.{codes-length}
 use Rattle.network.proofs.codes.find.Statement.{statement}
 use Rattle.network.proofs.codes.find.Tie as tie
 
