@@ -1,5 +1,4 @@
 -- `wording::after_place`: by what its calls gave.
--- `wording::after_place`: by what its calls gave.
 use borrow.Author.Needs.{needs}
 use Rattle.lines.proofs.wording.after_place.Statement.{statement}
 use Rattle.lines.proofs.wording.after_place.Tie as tie

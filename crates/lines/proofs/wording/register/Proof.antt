@@ -4,7 +4,6 @@ use native.Mathlib.Omega.{arith}
 use Rattle.bits.proofs.Rows.{and-right}
 use borrow.Author.Tests.{ltb-true}
 use Rattle.lines.specs.Worded.{registerWord}
--- `wording::register`: by what its calls gave.
 use borrow.Author.Needs.{needs}
 use Rattle.lines.proofs.wording.register.Statement.{statement}
 use Rattle.lines.proofs.wording.register.Tie as tie

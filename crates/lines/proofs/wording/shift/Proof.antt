@@ -1,6 +1,5 @@
 -- `wording::shift`: by what its calls gave.
 use Rattle.lines.specs.Worded.{shiftHead}
--- `wording::shift`: by what its calls gave.
 use borrow.Author.Needs.{needs}
 use Rattle.lines.proofs.wording.shift.Statement.{statement}
 use Rattle.lines.proofs.wording.shift.Tie as tie
