@@ -85,7 +85,7 @@ extern "C" {
 
 /* The version of this header, and the linked library's: see staran_version. */
 #define STARAN_VERSION_MAJOR 5
-#define STARAN_VERSION_MINOR 3
+#define STARAN_VERSION_MINOR 4
 #define STARAN_VERSION (STARAN_VERSION_MAJOR * UINT32_C(65536) + STARAN_VERSION_MINOR)
 
 /* Lengths in bytes. The registers of a picture of kind 1 are M, X and Y, the first 96 bytes of a run's; of one of kind 4 they are all 100,
@@ -123,9 +123,11 @@ extern "C" {
  * 192 characters. */
 #define STARAN_TEXT_BYTES(n) (192 * ((size_t)(n) / 8))
 #define STARAN_REACH_BYTES(n) (2 * ((size_t)(n) / 8))
+/* The longest text that staran_make takes. */
+#define STARAN_LONGEST_TEXT 1048576
 
 /* How many numbers an answer has: of a run or a step, of reading or writing, of a list's builder, of a builder of a list with its
- * items, of the question whether a list is isolated, of what it reaches, of its text, of a pass. */
+ * items, of the question whether a list is isolated, of what it reaches, of its text, of a list made of a text, of a pass. */
 #define STARAN_RUN_NUMBERS 6
 #define STARAN_DISK_NUMBERS 3
 #define STARAN_LIST_NUMBERS 2
@@ -133,6 +135,7 @@ extern "C" {
 #define STARAN_ISOLATED_NUMBERS 2
 #define STARAN_REACH_NUMBERS 2
 #define STARAN_SHOW_NUMBERS 2
+#define STARAN_MAKE_NUMBERS 5
 #define STARAN_PASS_NUMBERS 1
 
 /* Where each number of a run's or a step's answer stands: answer[STARAN_ANSWER_BYTE] is the byte. */
@@ -527,6 +530,31 @@ void staran_reach(const uint8_t *registers, size_t registers_length, const uint8
  * Refused: count 0, and text is as it was.
  * Stack: at most 896 bytes. */
 void staran_show(const uint8_t *list, size_t list_length, uint8_t *text, size_t text_length, uint32_t answer[STARAN_SHOW_NUMBERS]);
+
+/* Makes the list of a text, and its items. A line of the text is an instruction, as staran_show writes it, or a statement: a field that gets
+ * a name, a sum, a difference or a search over such fields, or how many words a store may reach. docs/TEXT.md has them all.
+ *
+ *   field height 0 32
+ *   less height 20000
+ *   reach at most 1 word
+ *   store word 13 from outside
+ *
+ * text     any bytes; at most 1,048,576 (STARAN_LONGEST_TEXT), else 50. No zero is needed behind the last
+ * list     any length; 32,768 bytes are always enough
+ * items    any length; 32,768 bytes are always enough. A text without `equal` and `less` brings none
+ * answer   number, line, column, count of bytes written to list, count of bytes written to items
+ *
+ * Judged: 50; then the lines in turn, and in each its words from left to right: 60 to 77, and 30, 31, 32 and 34 as of the builders; then 3
+ * (the list has over 32,768 bytes), 4 (the items have), 33 (list_length is under the list, or items_length under the items). Line and
+ * column say where the refused word begins, both from 1 and in bytes; for 69 where the line ends, for 75 and 77 where its first word
+ * begins; for 50, 3, 4 and 33 they are 0.
+ * Done: line and column 0; the first bytes of list are the list and the first bytes of items its items, the counts are their lengths, and
+ * the bytes past them stay. Refused: both counts are 0, and list and items are as they were.
+ * To run it, lend staran_run_4 the list with the length of the first count, and the items with that of the second, behind them an item for
+ * each instruction of the text that takes one from outside. What the list then reaches staran_reach tells.
+ * Stack: at most 3,392 bytes. */
+void staran_make(const uint8_t *text, size_t text_length, uint8_t *list, size_t list_length, uint8_t *items, size_t items_length,
+                 uint32_t answer[STARAN_MAKE_NUMBERS]);
 
 /* Reads the blocks of a list or of items.
  *

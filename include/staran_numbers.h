@@ -16,7 +16,8 @@ enum {
     /* run, step, isolated, reach, showing of a list as text, making of a list from text: the list is not a multiple
        of 8 bytes, or over 32,768; a step's instruction is not 8 bytes; a text makes over 4,096 instructions */
     STARAN_REFUSED_LIST_LENGTH = 3,
-    /* run, step: the items are not a multiple of 32 bytes, or over 32,768 */
+    /* run, step, making of a list from text: the items are not a multiple of 32 bytes, or over 32,768; a text brings
+       over 1,024 items */
     STARAN_REFUSED_ITEMS_LENGTH = 4,
     /* run, step: byte 0, the kind, is over 6 */
     STARAN_REFUSED_KIND = 5,
@@ -74,19 +75,20 @@ enum {
     STARAN_REFUSED_OUTPUT_TOO_SHORT = 27,
     /* converting new to old: a mode register is set in a picture of kind 4, and one of kind 1 has no place for it */
     STARAN_REFUSED_MODE_SET = 28,
-    /* builders of lists: the width n is not 1 to 64; for closing or spreading, not 1 to 32 */
+    /* builders of lists, making of a list from text: the width n is not 1 to 64; for closing or spreading, not 1 to
+       32 */
     STARAN_REFUSED_WIDTH = 30,
-    /* builders of lists: a start plus the width is over 256 */
+    /* builders of lists, making of a list from text: a start plus the width is over 256 */
     STARAN_REFUSED_FIELD_BEYOND = 31,
-    /* sum and difference lists, closing and spreading: for a sum or difference, S overlaps A or B without having its
-       start; for closing or spreading, S and A have a bit in common */
+    /* sum and difference lists, closing and spreading, making of a list from text: for a sum or difference, S
+       overlaps A or B without having its start; for closing or spreading, S and A have a bit in common */
     STARAN_REFUSED_FIELDS_CROSS = 32,
     /* builders of lists, making of a list from text: the list buffer is under 8(1 + 5n) bytes for a sum, 8(2 + 5n)
        for a difference, 8(2 + 3n) for a search for equal or less, 8(1 + 11n) for greatest, 8(10 + 19n) for closing,
-       8(1 + 18n) for spreading, 8 for each instruction of a text; or the items buffer is under 32n bytes for equal
-       or less, 288 for closing, 32(1 + 8n) for spreading */
+       8(1 + 18n) for spreading, 8 for each instruction that a text makes; or the items buffer is under 32n bytes for
+       equal or less, 288 for closing, 32(1 + 8n) for spreading, 32 for each item that a text brings */
     STARAN_REFUSED_LIST_TOO_SHORT = 33,
-    /* searches for equal and less: the number is 2^n or more, n being the width */
+    /* searches for equal and less, making of a list from text: the number is 2^n or more, n being the width */
     STARAN_REFUSED_NUMBER_TOO_LARGE = 34,
     /* closing and spreading: the marks are not 32 bytes */
     STARAN_REFUSED_MARKS_LENGTH = 35,
@@ -96,7 +98,7 @@ enum {
     STARAN_REFUSED_NOT_ISOLATED = 40,
     /* making of a list from text: the text has over 1,048,576 characters */
     STARAN_REFUSED_TEXT_LENGTH = 50,
-    /* making of a list from text: no instruction has this name */
+    /* making of a list from text: no instruction and no statement has this name */
     STARAN_REFUSED_TEXT_NAME = 60,
     /* making of a list from text: there is no such choice */
     STARAN_REFUSED_TEXT_CHOICE = 61,
@@ -104,18 +106,37 @@ enum {
     STARAN_REFUSED_TEXT_FUNCTION = 62,
     /* making of a list from text: there is no such source, place or mode register */
     STARAN_REFUSED_TEXT_SOURCE = 63,
-    /* making of a list from text: a number 0 to 255 has to stand here, or, behind mode, such a number or a or b */
+    /* making of a list from text: a number 0 to 255 has to stand here, or, behind mode, such a number or a or b;
+       behind reach at most a number 1 to 256 */
     STARAN_REFUSED_TEXT_NUMBER = 64,
-    /* making of a list from text: address, from or mod has to stand here */
+    /* making of a list from text: address, from, mod, into, at, most or word has to stand here */
     STARAN_REFUSED_TEXT_WORD = 65,
     /* making of a list from text: there is no such shift */
     STARAN_REFUSED_TEXT_SHIFT = 66,
-    /* making of a list from text: this is more than the instruction takes */
+    /* making of a list from text: this is more than the line takes */
     STARAN_REFUSED_TEXT_TOO_MUCH = 67,
     /* making of a list from text: this is no byte of two hex digits */
     STARAN_REFUSED_TEXT_BYTE = 68,
     /* making of a list from text: the line ends too early */
-    STARAN_REFUSED_TEXT_TOO_EARLY = 69
+    STARAN_REFUSED_TEXT_TOO_EARLY = 69,
+    /* making of a list from text: this is no name of a field: it has over eight characters, or one that no word has */
+    STARAN_REFUSED_TEXT_FIELD_NAME = 70,
+    /* making of a list from text: a field above has this name */
+    STARAN_REFUSED_TEXT_FIELD_TWICE = 71,
+    /* making of a list from text: 256 fields have names already */
+    STARAN_REFUSED_TEXT_FIELDS_TOO_MANY = 72,
+    /* making of a list from text: no field above has this name */
+    STARAN_REFUSED_TEXT_FIELD_UNKNOWN = 73,
+    /* making of a list from text: this field is not as wide as the first of the line */
+    STARAN_REFUSED_TEXT_FIELD_WIDTH = 74,
+    /* making of a list from text: a store of this line reaches more words than reach at most allows, or takes its
+       mode from a register that nothing above sets */
+    STARAN_REFUSED_TEXT_REACH = 75,
+    /* making of a list from text: this is no number below 2^64 in one to twenty digits */
+    STARAN_REFUSED_TEXT_VALUE = 76,
+    /* making of a list from text: an instruction above this search takes an item from outside, and would take the
+       first of the items of this search */
+    STARAN_REFUSED_TEXT_ITEM_ABOVE = 77
 };
 
 /* What a number means, in words: when it is given. A number that is never given has a sentence too; the pointer is never null.
@@ -133,7 +154,7 @@ static inline const char *staran_meaning(uint32_t number)
         return "the list is not a multiple of 8 bytes, or over 32,768; a step's instruction is not 8 bytes; a text "
                "makes over 4,096 instructions";
     case STARAN_REFUSED_ITEMS_LENGTH:
-        return "the items are not a multiple of 32 bytes, or over 32,768";
+        return "the items are not a multiple of 32 bytes, or over 32,768; a text brings over 1,024 items";
     case STARAN_REFUSED_KIND:
         return "byte 0, the kind, is over 6";
     case STARAN_REFUSED_SOURCE:
@@ -199,8 +220,8 @@ static inline const char *staran_meaning(uint32_t number)
     case STARAN_REFUSED_LIST_TOO_SHORT:
         return "the list buffer is under 8(1 + 5n) bytes for a sum, 8(2 + 5n) for a difference, 8(2 + 3n) for a "
                "search for equal or less, 8(1 + 11n) for greatest, 8(10 + 19n) for closing, 8(1 + 18n) for "
-               "spreading, 8 for each instruction of a text; or the items buffer is under 32n bytes for equal or "
-               "less, 288 for closing, 32(1 + 8n) for spreading";
+               "spreading, 8 for each instruction that a text makes; or the items buffer is under 32n bytes for "
+               "equal or less, 288 for closing, 32(1 + 8n) for spreading, 32 for each item that a text brings";
     case STARAN_REFUSED_NUMBER_TOO_LARGE:
         return "the number is 2^n or more, n being the width";
     case STARAN_REFUSED_MARKS_LENGTH:
@@ -212,7 +233,7 @@ static inline const char *staran_meaning(uint32_t number)
     case STARAN_REFUSED_TEXT_LENGTH:
         return "the text has over 1,048,576 characters";
     case STARAN_REFUSED_TEXT_NAME:
-        return "no instruction has this name";
+        return "no instruction and no statement has this name";
     case STARAN_REFUSED_TEXT_CHOICE:
         return "there is no such choice";
     case STARAN_REFUSED_TEXT_FUNCTION:
@@ -220,17 +241,36 @@ static inline const char *staran_meaning(uint32_t number)
     case STARAN_REFUSED_TEXT_SOURCE:
         return "there is no such source, place or mode register";
     case STARAN_REFUSED_TEXT_NUMBER:
-        return "a number 0 to 255 has to stand here, or, behind mode, such a number or a or b";
+        return "a number 0 to 255 has to stand here, or, behind mode, such a number or a or b; behind reach at most "
+               "a number 1 to 256";
     case STARAN_REFUSED_TEXT_WORD:
-        return "address, from or mod has to stand here";
+        return "address, from, mod, into, at, most or word has to stand here";
     case STARAN_REFUSED_TEXT_SHIFT:
         return "there is no such shift";
     case STARAN_REFUSED_TEXT_TOO_MUCH:
-        return "this is more than the instruction takes";
+        return "this is more than the line takes";
     case STARAN_REFUSED_TEXT_BYTE:
         return "this is no byte of two hex digits";
     case STARAN_REFUSED_TEXT_TOO_EARLY:
         return "the line ends too early";
+    case STARAN_REFUSED_TEXT_FIELD_NAME:
+        return "this is no name of a field: it has over eight characters, or one that no word has";
+    case STARAN_REFUSED_TEXT_FIELD_TWICE:
+        return "a field above has this name";
+    case STARAN_REFUSED_TEXT_FIELDS_TOO_MANY:
+        return "256 fields have names already";
+    case STARAN_REFUSED_TEXT_FIELD_UNKNOWN:
+        return "no field above has this name";
+    case STARAN_REFUSED_TEXT_FIELD_WIDTH:
+        return "this field is not as wide as the first of the line";
+    case STARAN_REFUSED_TEXT_REACH:
+        return "a store of this line reaches more words than reach at most allows, or takes its mode from a register"
+               " that nothing above sets";
+    case STARAN_REFUSED_TEXT_VALUE:
+        return "this is no number below 2^64 in one to twenty digits";
+    case STARAN_REFUSED_TEXT_ITEM_ABOVE:
+        return "an instruction above this search takes an item from outside, and would take the first of the items "
+               "of this search";
     default:
         return "no such number is ever given";
     }

@@ -426,14 +426,14 @@ cmp -s sheet/run.lst lists/list; judge "and is as it was" $?
 gives "list make --replace" 0 'sheet/run.lst: 1 instruction' "$staran" list make --replace lists/short sheet
 cmp -s sheet/run.lst lists/one && [ "$(ls -A sheet)" = run.lst ] && [ ! -s "$work/err" ] && [ "$(stat -c %a sheet/run.lst)" = "$(printf '%o' $((0666 & ~0$(umask))))" ]; judge "it is the new one, for whom a new file is, and nothing is left beside it" $?
 printf 'resolve\n\nhalt\n' >lists/wrong
-complains "list make --replace: a text that is refused" 1 'lists/wrong:3:1: no instruction has this name; ' "$staran" list make --replace lists/wrong sheet
+complains "list make --replace: a text that is refused" 1 'lists/wrong:3:1: no instruction and no statement has this name; ' "$staran" list make --replace lists/wrong sheet
 cmp -s sheet/run.lst lists/one && [ "$(ls -A sheet)" = run.lst ]; judge "leaves the old one, and nothing beside it" $?
 complains "list make --replace: a text that is not there" 2 'missing: No such file or directory' "$staran" list make --replace missing sheet
 grep -qx 'staran: no list was made: the reason stands above' "$work/err" && cmp -s sheet/run.lst lists/one && [ "$(ls -A sheet)" = run.lst ]; judge "does so too" $?
 rm sheet/run.lst; gives "list make --replace: where there is none" 0 'sheet/run.lst: 5 instructions' "$staran" list make --replace lists/text sheet
 rm sheet/run.lst; ln -s ../nothing sheet/run.lst; complains "list make: a link that leads nowhere is there too" 2 'sheet/run.lst: it is there' "$staran" list make lists/text sheet
 call "$staran" list make --replace lists/text sheet; [ $status -eq 0 ] && [ ! -L sheet/run.lst ] && cmp -s sheet/run.lst lists/list && [ ! -e nothing ]; judge "list make --replace: it takes the link's place, and nothing is made where it leads" $?
-rm sheet/run.lst; mkdir sheet/run.lst; for option in --replace --; do complains "list make $option: run.lst is a folder" 2 'staran: sheet/run.lst: a folder, and no list is made in its place' "$staran" list make $option lists/text sheet; done
+rm sheet/run.lst; mkdir sheet/run.lst; for option in --replace --; do complains "list make $option: run.lst is a folder" 2 'staran: sheet/run.lst: a folder, and nothing is made in its place' "$staran" list make $option lists/text sheet; done
 [ -z "$(ls -A sheet/run.lst)" ]; judge "in which nothing is made" $?
 rmdir sheet/run.lst; : >lists/nothing; gives "list make: an empty text" 0 'sheet/run.lst: 0 instructions' "$staran" list make lists/nothing sheet; cmp -s sheet/run.lst lists/empty; judge "which makes the empty list" $?
 remake() { rm -f sheet/run.lst; call "$staran" list make "$1" sheet; } # TEXT
@@ -446,10 +446,11 @@ call "$staran" list show sheet/run.lst; cmp -s "$work/out" lists/more; judge "an
 cp "$here/crates/program/data/before.pic" sheet; printf 'logic y one x ; all\nresolve\n' >lists/example; remake lists/example; gives "what is made, the program runs" 0 "$done_line" "$staran" sheet
 # a text that is refused: NUMBER WHERE TEXT; the words are those of docs/numbers.tsv, on one line
 said() { awk -F '\t' -v number="$1" '$1 == number { print $4 "; " $6 " (" $1 ")" }' "$here/docs/numbers.tsv"; }
-while read -r number where text <&3; do
-    printf '%b' "$text" >lists/bad; remake lists/bad
-    [ $status -eq 1 ] && [ ! -s "$work/out" ] && [ "$(cat "$work/err")" = "lists/bad:$where: $(said "$number")" ] && [ ! -e sheet/run.lst ]; judge "list make: $number at $where" $?
-done 3<<'ROWS'
+refused_text() { # NUMBER WHERE TEXT
+    printf '%b' "$3" >lists/bad; remake lists/bad
+    [ $status -eq 1 ] && [ ! -s "$work/out" ] && [ -n "$(said "$1")" ] && [ "$(cat "$work/err")" = "lists/bad:$2: $(said "$1")" ] && [ "$(ls -A sheet)" = $'after.pic\nbefore.pic' ]; judge "list make: $1 at $2" $?
+}
+while read -r number where text <&3; do refused_text "$number" "$where" "$text"; done 3<<'ROWS'
 60 2:1 resolve\nResolve\n
 61 1:7 logic z one m\n
 62 1:9 logic x nxor m\n
@@ -460,7 +461,20 @@ done 3<<'ROWS'
 67 3:9 \n\nresolve m\n
 68 1:7 bytes 0G 01 02 03 04 05 06 07\n
 69 1:13 store word 9\n
+70 1:7 field ninechars 0 8\n
+71 2:7 field a 0 8\nfield a 8 8\n
+30 1:11 field a 0 65\n
+31 1:13 field a 249 8\n
+73 1:10 greatest a\n
+74 3:7 field a 0 8\nfield b 8 9\nsum a b into a\n
+32 3:14 field a 0 8\nfield s 7 8\nsum a a into s\n
+75 2:1 reach at most 1 word\nstore slice 9 from m\n
+76 2:8 field a 0 8\nless a x\n
+34 2:9 field a 0 8\nequal a 256\n
 ROWS
+refused_text 72 257:7 "$(printf 'field f%d 0 8\\n' $(seq 257))"
+refused_text 77 3:1 'field a 0 8\nsetm outside\nless a 5\n' # 77
+rm -f sheet/run.lst sheet/in.itm # 77: made by a build that does not have the number yet
 yes resolve | head -n 4097 >lists/many; remake lists/many; [ $status -eq 1 ] && [ ! -s "$work/out" ] && [ "$(cat "$work/err")" = "lists/many: $(said 3)" ] && [ ! -e sheet/run.lst ]; judge "list make: 4,097 instructions, which is of no line" $?
 yes '; a comment' | head -c 1048577 >lists/long; remake lists/long; [ $status -eq 1 ] && [ ! -s "$work/out" ] && [ "$(cat "$work/err")" = "lists/long: $(said 50)" ] && [ ! -e sheet/run.lst ]; judge "list make: 1,048,577 characters, which are of no line" $?
 grep -qF "    list.txt:3:7: $(said 61)" "$here/docs/COMMAND.md"; judge "docs/COMMAND.md: a refusal as it is said" $?
@@ -474,7 +488,7 @@ complains "list make: a name that is too long" 2 'staran: a name has at most 4,0
 if [ "$(id -u)" -ne 0 ]; then
     cp lists/text lists/barred; chmod 000 lists/barred; complains "list make: a text that may not be read" 2 'lists/barred: Permission denied' "$staran" list make lists/barred sheet
     complains "list show: a list that may not be read" 2 'lists/barred: Permission denied' "$staran" list show lists/barred
-    mkdir closed; chmod 555 closed; complains "list make: a folder that may not be written" 2 'closed/run.lst: Permission denied' "$staran" list make lists/text closed
+    mkdir closed; chmod 555 closed; complains "list make: a folder that may not be written" 2 'staran: closed: no new list can be made there: Permission denied' "$staran" list make lists/text closed
     complains "list make --replace: nor with it" 2 'staran: closed: no new list can be made there: Permission denied' "$staran" list make --replace lists/text closed
     chmod 755 closed; "$blocks" list closed/run.lst; chmod 555 closed; complains "list make --replace: nor a list that is there" 2 'closed: no new list can be made there' "$staran" list make --replace lists/text closed
     cmp -s closed/run.lst lists/empty; judge "which is as it was" $?
@@ -515,6 +529,176 @@ for task in show reach; do
 done
 timeout 60 "$staran" list make --replace lists/short sheet >/dev/full 2>err; status=$?
 [ $status -eq 2 ] && grep -qx 'staran: standard output: No space left on device' err && cmp -s sheet/run.lst lists/one; judge "list make: 2 for an output that takes nothing, and the list is made" $?
+
+# ---- list make where the text brings items: FOLDER/in.itm is made as well
+printf 'field a 0 8\nless a 5\n' >lists/search; printf 'field a 0 8\nless b 5\n' >lists/lost
+python 'files.write("lists/search.lst", files.blocks(2, files.search_list(True, 0, 8)))
+files.write("lists/search.itm", files.blocks(3, files.search_items(5, 8)))'
+"$blocks" list lists/old.lst 000200000000001F 0404000000000000; "$blocks" items lists/old.itm "$(printf '%064d' 7)"; cp lists/one lists/short.lst
+place() { rm -rf "pair/${1:?}"; [ "$2" = - ] || cp "$2" "pair/$1"; } # NAME FILE: it is in pair under that name, or for - nothing is
+holds() { # LIST ITEMS: these are in pair, or for - none of that name, and nothing else is
+    for entry in run.lst in.itm; do
+        if [ "$1" = - ]; then [ ! -e pair/$entry ] && [ ! -L pair/$entry ]; else cmp -s pair/$entry "$1"; fi || return
+        shift
+    done
+    [ -z "$(find pair -mindepth 1 ! -name run.lst ! -name in.itm)" ]
+}
+files_of() { # LETTERS [TEXT]: the names of list and items that the two letters stand for: o old ones, n those of the text
+    for at in 0:lst 1:itm; do case ${1:${at%:*}:1} in o) echo "lists/old.${at#*:}" ;; n) echo "lists/$2.${at#*:}" ;; *) echo - ;; esac; done
+}
+# HAD|OPTION|TEXT|STATUS|HAS|SENTENCE: of list and items in the folder before and after; the sentence is the first line that is printed or said
+mkdir pair
+while IFS='|' read -r had option text want has sentence <&3; do
+    mapfile -t before < <(files_of "$had" "$text"); mapfile -t after < <(files_of "$has" "$text")
+    place run.lst "${before[0]}"; place in.itm "${before[1]}"; call "$staran" list make "$option" "lists/$text" pair
+    [ $status -eq "$want" ] && holds "${after[@]}" && [ "$(cat "$work/out" "$work/err" | head -n 1)" = "$sentence" ]; judge "list make $option: the text $text, where there is $had: $has" $?
+done 3<<'ROWS'
+--|--|search|0|nn|pair/run.lst: 26 instructions
+--|--replace|search|0|nn|pair/run.lst: 26 instructions
+o-|--|search|2|o-|staran: pair/run.lst: it is there, and is replaced only if told to: ./staran list make --replace TEXT FOLDER
+o-|--replace|search|0|nn|pair/run.lst: 26 instructions
+-o|--|search|2|-o|staran: pair/in.itm: it is there, and is replaced only if told to: ./staran list make --replace TEXT FOLDER; no list was made
+-o|--replace|search|0|nn|pair/run.lst: 26 instructions
+oo|--|search|2|oo|staran: pair/run.lst: it is there, and is replaced only if told to: ./staran list make --replace TEXT FOLDER
+oo|--replace|search|0|nn|pair/run.lst: 26 instructions
+-o|--|short|0|no|pair/run.lst: 1 instruction
+oo|--replace|short|0|no|pair/run.lst: 1 instruction
+o-|--replace|short|0|n-|pair/run.lst: 1 instruction
+oo|--|short|2|oo|staran: pair/run.lst: it is there, and is replaced only if told to: ./staran list make --replace TEXT FOLDER
+oo|--replace|missing|2|oo|./lists/missing: No such file or directory
+ROWS
+for had in -- -o oo; do
+    mapfile -t before < <(files_of $had); place run.lst "${before[0]}"; place in.itm "${before[1]}"; call "$staran" list make --replace lists/lost pair
+    [ $status -eq 1 ] && [ ! -s "$work/out" ] && [ "$(cat "$work/err")" = "lists/lost:2:6: $(said 73)" ] && holds "${before[@]}"; judge "list make --replace: a text that is refused, where there is $had" $?
+done
+place run.lst -; place in.itm -; call "$staran" list make lists/search pair; printf '%s\n' 'pair/run.lst: 26 instructions' 'pair/in.itm: 8 items' >want
+[ $status -eq 0 ] && cmp -s "$work/out" want && [ ! -s "$work/err" ] && [ "$(stat -c %a pair/run.lst pair/in.itm | sort -u)" = "$(printf '%o' $((0666 & ~0$(umask))))" ]; judge "list make: both are said, and are for whom new files are" $?
+echo 'field a 0 1' >lists/single; echo 'less a 1' >>lists/single; call "$staran" list make --replace lists/single pair; [ $status -eq 0 ] && [ "$(sed -n 2p "$work/out")" = 'pair/in.itm: 1 item' ]; judge "list make: one item" $?
+for option in --replace --; do
+    place run.lst -; place in.itm -; mkdir pair/in.itm; complains "list make $option: in.itm is a folder" 2 'staran: pair/in.itm: a folder, and nothing is made in its place; no list was made' "$staran" list make $option lists/search pair
+    [ "$(ls -A pair)" = in.itm ] && [ -z "$(ls -A pair/in.itm)" ]; judge "and nothing is made in it, nor a list" $?
+done
+call "$staran" list make lists/short pair; [ $status -eq 0 ] && cmp -s pair/run.lst lists/one && [ -d pair/in.itm ] && [ "$(ls -A pair)" = $'in.itm\nrun.lst' ]; judge "list make: unless the text brings no items" $?
+rm -r pair/in.itm pair/run.lst; ln -s ../nothing pair/in.itm; complains "list make: in.itm is a link that leads nowhere" 2 'pair/in.itm: it is there' "$staran" list make lists/search pair
+call "$staran" list make --replace lists/search pair; [ $status -eq 0 ] && [ ! -L pair/in.itm ] && holds lists/search.lst lists/search.itm && [ ! -e nothing ]; judge "list make --replace: items take its place, and nothing is made where it leads" $?
+for entry in run.lst in.itm; do
+    rm -rf pair other; mkdir pair other; ln -s ../other pair/$entry; complains "list make --replace: $entry is a link to a folder" 2 "staran: pair/$entry: a folder, and nothing is made in its place" "$staran" list make --replace lists/search pair
+    [ "$(ls -A pair)" = $entry ] && [ -L pair/$entry ] && [ -z "$(ls -A other)" ]; judge "and nothing is made there, nor where it leads" $?
+done
+rm -rf pair other; mkdir pair other; ln -s ../other pair/run.lst; complains "list make --replace: and so for a list alone" 2 'staran: pair/run.lst: a folder, and nothing is made in its place' "$staran" list make --replace lists/short pair
+[ -L pair/run.lst ] && [ -z "$(ls -A other)" ]; judge "nor is anything made there" $?
+rm pair/run.lst; mkdir pair/run.lst.new.mine; call "$staran" list make --replace lists/search pair; [ $status -eq 0 ] && [ "$(ls -A pair)" = $'in.itm\nrun.lst\nrun.lst.new.mine' ]; judge "list make: what another left is in nobody's way, and stays" $?; rmdir pair/run.lst.new.mine
+# names of any kind, a pipe, and an output that takes nothing
+name=$'--odd  f*o"l\'d\\er\n'; mkdir -- "$name"; call "$staran" list make -- lists/search "$name/"; printf '%s\n' "$name/run.lst: 26 instructions" "$name/in.itm: 8 items" >want
+[ $status -eq 0 ] && cmp -s "$work/out" want && cmp -s "./$name/run.lst" lists/search.lst && cmp -s "./$name/in.itm" lists/search.itm && [ "$(ls -A "./$name")" = $'in.itm\nrun.lst' ]; judge "list make: items in a folder of any name" $?
+# shellcheck disable=SC2016
+call sh -c 'cd pair && "$0" list make --replace /dev/stdin . <../lists/search' "$staran"; [ $status -eq 0 ] && [ "$(cat "$work/out")" = $'./run.lst: 26 instructions\n./in.itm: 8 items' ] && holds lists/search.lst lists/search.itm; judge "list make: items of a text from a pipe, in the folder one stands in" $?
+place run.lst -; place in.itm -; timeout 60 "$staran" list make lists/search pair >/dev/full 2>err; status=$?; : >out
+[ $status -eq 2 ] && grep -qx 'staran: standard output: No space left on device' err && holds lists/search.lst lists/search.itm; judge "list make: 2 for an output that takes nothing, and both are made" $?
+# how much a run takes
+several_items() { # COUNT: a text that brings so many, in searches of 31 bits
+    { echo 'field a 0 31'; for _ in $(seq $(($1 / 31))); do echo 'equal a 9'; done; [ $(($1 % 31)) -eq 0 ] || printf 'field b 0 %d\nequal b 1\n' $(($1 % 31)); } >lists/items; call "$staran" list make --replace lists/items pair
+}
+many_items='a run in a folder takes at most 248 items, and refuses these with 20 (docs/COMMAND.md)' many_steps='a run in a folder takes at most 992 instructions, and refuses this list with 20 (docs/COMMAND.md)'
+several_items 248; [ $status -eq 0 ] && [ ! -s "$work/err" ] && [ "$(sed -n 2p "$work/out")" = 'pair/in.itm: 248 items' ]; judge "list make: as many items as a run takes" $?
+cp "$here/crates/program/data/before.pic" pair; gives "and it takes them" 0 'r 0 0 0 760 248 0' "$staran" pair
+several_items 249; [ $status -eq 0 ] && [ "$(sed -n 2p "$work/out")" = 'pair/in.itm: 249 items' ] && [ "$(cat "$work/err")" = "staran: pair/in.itm: $many_items" ]; judge "list make: of one more that is said" $?
+gives "and a run refuses them" 1 'i 20 0 0 0 0 0' "$staran" pair
+{ cat lists/items; yes resolve | head -n 227; } >lists/more; call "$staran" list make --replace lists/more pair; [ $status -eq 0 ] && [ "$(cat "$work/err")" = "staran: pair/in.itm: $many_items" ] && [ "$(head -n 1 "$work/out")" = 'pair/run.lst: 992 instructions' ]; judge "list make: but not of as many instructions as it takes" $?
+echo resolve >>lists/more; call "$staran" list make --replace lists/more pair; [ $status -eq 0 ] && printf '%s\n' "staran: pair/run.lst: $many_steps" "staran: pair/in.itm: $many_items" | cmp -s - "$work/err"; judge "list make: of too many of both" $?
+several_items 1024; [ $status -eq 0 ] && [ "$(sed -n 2p "$work/out")" = 'pair/in.itm: 1024 items' ]; judge "list make: 1,024 items" $?
+cp pair/run.lst lists/kept.lst; cp pair/in.itm lists/kept.itm; rm pair/before.pic pair/after.pic
+several_items 1025; [ $status -eq 1 ] && [ ! -s "$work/out" ] && [ "$(cat "$work/err")" = "lists/items: $(said 4)" ] && holds lists/kept.lst lists/kept.itm; judge "list make: one more, which is of no line" $?
+# the text is run: the page's lines, and the marks that the resolver tells of
+sed -n '/^    field height 0 32$/,/^    less /s/^    //p' "$here/docs/TEXT.md" >lists/page; call "$staran" list make --replace lists/page pair
+[ $status -eq 0 ] && sed -n 's,^    FOLDER/\([a-z.]*: [0-9]* .*s\)$,pair/\1,p' "$here/docs/COMMAND.md" | cmp -s - "$work/out"; judge "docs/COMMAND.md: what is printed of docs/TEXT.md's sum and search" $?
+{ cat lists/page; echo resolve; } >lists/page.2; call "$staran" list make --replace lists/page.2 pair
+python 'import random
+draw = random.Random(2)
+values = [(draw.randrange(30000), draw.randrange(2 ** 32) if w % 3 else 47) for w in range(256)]
+files.write("pair/before.pic", files.picture([files.station(a, b, 9) for a, b in values]))
+low = [w for w in range(256) if sum(values[w]) % 2 ** 32 < 20000]
+files.write("want", ("r 0 0 0 260 32 1\n%s\n" % (bytes([1]) + files.two(low[0]) + files.two(len(low)) + bytes(27)).hex()).encode())'
+call "$staran" pair; [ $status -eq 0 ] && cmp -s "$work/out" want; judge "what is made of statements, the program runs: the stations below 20,000 are told" $?
+rm pair/in.itm; call "$staran" why pair; textual "an item that a search lacks" $'logic y load outside\nInstruction 162'
+rm -rf pair; mkdir pair; printf 'field a 6 2\nsum a a into a\n' >lists/sum; call "$staran" list make lists/sum pair; call "$staran" list reach pair/run.lst
+[ $status -eq 0 ] && [ "$(cat "$work/out")" = $'3: store slice 6 from y ; reaches 256 words\n8: store slice 7 from y ; reaches 256 words\n2 stores; the widest reaches 256 words.' ]; judge "list reach: of a sum" $?
+call "$staran" list show pair/run.lst 4; [ $status -eq 0 ] && [ "$(cat "$work/out")" = 'logic x-if-y not x' ]; judge "list show: of a sum" $?
+
+# what is not moved: a stand-in for mv that fails at one of its calls, or waits there until it is let go; nothing is then as if no list had been asked for
+mkdir moving
+cat >moving/mv <<STAND
+#!/bin/sh
+at=\$((\$(cat "$work/moves" 2>/dev/null || echo 0) + 1))
+echo \$at >"$work/moves"
+[ \$at -ne "\${FAILS:-0}" ] && [ \$at -lt "\${FROM:-99}" ] || { echo 'mv: cannot move: No room' >&2; exit 1; }
+[ \$at -ne "\${WAITS:-0}" ] || { : >"$work/held"; while [ -e "$work/hold" ]; do sleep 0.02; done; }
+exec "$(command -v mv)" "\$@"
+STAND
+chmod +x moving/mv
+# HAD TEXT CALL NAME: it is this file that could not be moved
+while read -r had text at name <&3; do
+    mapfile -t before < <(files_of "$had"); place run.lst "${before[0]}"; place in.itm "${before[1]}"; rm -f moves
+    FAILS=$at PATH=$work/moving:$PATH call "$staran" list make --replace "lists/$text" pair
+    [ $status -eq 2 ] && [ ! -s "$work/out" ] && [ "$(wc -l <"$work/err")" -eq 1 ] && grep -qx "staran: pair/$name: No room: what was there is as it was" "$work/err" && holds "${before[@]}"; judge "list make: move $at of the text $text fails, where there is $had" $?
+done 3<<'ROWS'
+oo search 1 run.lst
+oo search 2 in.itm
+oo search 3 in.itm
+oo search 4 run.lst
+o- search 1 run.lst
+o- search 2 in.itm
+o- search 3 run.lst
+-o search 1 in.itm
+-o search 2 in.itm
+-o search 3 run.lst
+-- search 1 in.itm
+-- search 2 run.lst
+oo short 1 run.lst
+-- short 1 run.lst
+ROWS
+# moves that fail from one on: the old files cannot be put back either, and are not lost
+for at in 2 3 4; do
+    place run.lst lists/old.lst; place in.itm lists/old.itm; rm -f moves; FROM=$at PATH=$work/moving:$PATH call "$staran" list make --replace lists/search pair
+    for name in lst itm; do find pair -type f -exec cmp -s {} lists/old.$name \; -print; done >kept
+    [ $status -eq 2 ] && [ "$(wc -l <kept)" -eq 2 ] && grep -q "what was there is in .*pair/run.lst.new.*/old" "$work/err" && ! grep -q 'as it was' "$work/err"; judge "list make: every move from $at on fails: the old list and items are there still, and it is said where" $?
+    rm -rf pair/run.lst.new.*
+done
+# shellcheck disable=SC2016
+printf '#!/bin/sh\ncase $* in */old) echo "mkdir: cannot create: No room" >&2; exit 1 ;; esac\nexec "%s" "$@"\n' "$(command -v mkdir)" >moving/mkdir; chmod +x moving/mkdir
+place run.lst lists/old.lst; place in.itm lists/old.itm; PATH=$work/moving:$PATH call "$staran" list make --replace lists/search pair; rm moving/mkdir
+[ $status -eq 2 ] && [ "$(cat "$work/err")" = 'staran: pair/run.lst: No room: what was there is as it was' ] && holds lists/old.lst lists/old.itm; judge "list make: no place for the old ones: that is said, and they are as they were" $?
+# SIGNAL HAD TEXT CALL: the command is interrupted while that move is under way, and is no longer
+while read -r signal had text at <&3; do
+    mapfile -t before < <(files_of "$had"); place run.lst "${before[0]}"; place in.itm "${before[1]}"; rm -f moves held; : >hold
+    WAITS=$at PATH=$work/moving:$PATH python3 -c 'import os, signal, sys; signal.signal(signal.SIGINT, signal.SIG_DFL); os.execv(sys.argv[1], sys.argv[1:])' "$staran" list make --replace "lists/$text" pair >out 2>err & one=$!
+    for _ in $(seq 400); do [ ! -e held ] || break; sleep 0.02; done
+    kill "-$signal" $one; rm hold; wait $one; status=$?
+    [ $status -eq 130 ] && [ -e held ] && [ ! -s out ] && holds "${before[@]}"; judge "list make: $signal at move $at of the text $text, where there is $had" $?
+done 3<<'ROWS'
+INT oo search 1
+INT oo search 2
+INT oo search 3
+INT oo search 4
+TERM oo search 1
+TERM oo search 2
+TERM oo search 3
+TERM oo search 4
+TERM o- search 1
+TERM o- search 2
+TERM o- search 3
+TERM -o search 1
+TERM -o search 2
+TERM -o search 3
+INT -- search 1
+INT -- search 2
+ROWS
+
+# ---- the demonstration: its list is made of demo/run.txt
+mkdir shown text; "$blocks" demo shown; for name in before.pic in.itm; do cmp -s shown/$name "$here/demo/$name"; judge "the demonstration's $name is that of tests/make_blocks.py" $?; done
+gives "demo/run.txt is made" 0 'text/run.lst: 519 instructions' "$staran" list make "$here/demo/run.txt" text
+cmp -s text/run.lst shown/run.lst && [ "$(ls -A text)" = run.lst ]; judge "and is the list of tests/make_blocks.py, and no items" $?
+{ "$staran" shown; echo; "$blocks" heights shown; } >want; call "$staran"; [ $status -eq 0 ] && [ ! -s "$work/err" ] && tail -n "$(wc -l <want)" "$work/out" | cmp -s - want && [ "$(wc -l <"$work/out")" -eq $(($(wc -l <want) + 3)) ]; judge "the demonstration: what the program prints of it, and the heights" $?
 
 # ---- several folders
 call "$staran" good bad 'two words  and more'
@@ -614,10 +798,11 @@ bare convert new pictures/one bare.pic; [ $status -eq 0 ] && cmp -s bare.pic pic
 bare convert old pictures/set bare.2; [ $status -eq 1 ] && grep -q '^ 28  ' "$work/out" && grep -qx 'bare.2 was not made.' "$work/out" && grep -q 'python3 is not on PATH' "$work/err"; judge "no python3: and a refusal says what it can, and so" $?
 bare list show lists/list; [ $status -eq 0 ] && cmp -s "$work/out" lists/text && [ ! -s "$work/err" ]; judge "no python3: a list is shown" $?
 rm -f sheet/run.lst; bare list make lists/text sheet; [ $status -eq 0 ] && cmp -s sheet/run.lst lists/list && [ ! -s "$work/err" ]; judge "no python3: and made" $?
+mkdir made2; bare list make lists/search made2; [ $status -eq 0 ] && cmp -s made2/run.lst lists/search.lst && cmp -s made2/in.itm lists/search.itm && [ "$(ls -A made2)" = $'in.itm\nrun.lst' ] && [ ! -s "$work/err" ]; judge "no python3: with items too" $?
 bare list reach lists/list; [ $status -eq 0 ] && [ "$(tail -n 1 "$work/out")" = '2 stores; the widest reaches 32 words.' ] && [ ! -s "$work/err" ]; judge "no python3: and its stores told" $?
 
 # ---- the lists that docs/MACHINE.md works through: their commands as they stand there, what it says they print, and that the bytes of a table are those of its commands
-mkdir page; ln -s "$here/tests" page/tests; ln -s "$staran" page/staran
+mkdir page; ln -s "$here/tests" page/tests; ln -s "$here/demo" page/demo; ln -s "$staran" page/staran
 printed() { # HEADING NUMBER: the lines of the section's block, counted from 1, that starts with a run's line or is an item alone
     awk -v heading="## $1" -v number="$2" '$0 == heading { on = 1; next } /^## / { on = 0 } !on { next }
         /^    / { if (!block && /^    (r [0-9]|[0-9a-f]+$)/) { block = 1; count++ } if (block && count == number) print substr($0, 5); next } { block = 0 }' "$here/docs/MACHINE.md"
@@ -648,6 +833,16 @@ sed -n 's/^    \([0-9]: .*\|[0-9] stores; .*\)/\1/p' page/section >page/want
 call "$staran" list reach page/first/run.lst; [ $status -eq 0 ] && [ "$(wc -l <page/want)" -eq 5 ] && cmp -s page/want out; judge "and what it reaches" $?
 sed 's/^store slice 48/store 48/' page/first/list.txt >page/first/without.txt
 call sh -c 'cd page && ./staran list make --replace first/without.txt first'; [ $status -eq 1 ] && grep -q '^first/without.txt:6:7: .*(63)$' err; judge "and the store without its mode, as text" $?
+# fields by name: what the text makes and its run prints, and the store that the limit refuses
+below='Fields by name, worked through'
+section "$below" below
+# shellcheck disable=SC2016
+{ grep -oE '`below/(run.lst|in.itm): [0-9]+ [a-z]+`' page/section | tr -d '`'; printed "$below" 1; } >page/want
+call sh -c 'cd page && sh -eu commands'; [ $status -eq 0 ] && [ "$(wc -l <page/want)" -eq 5 ] && cmp -s page/want out; judge "the manual: $below" $?
+sed 's/^store word 200/store slice 200/' page/below/list.txt >page/below/wide.txt; cp page/below/run.lst page/left
+call sh -c 'cd page && ./staran list make --replace below/wide.txt below'
+[ $status -eq 1 ] && grep -q '^below/wide.txt:9:1: .*(75)$' err && grep -q 'below/list.txt:9:1., with 75' page/section && cmp -s page/left page/below/run.lst
+judge "and the store that its limit refuses" $?
 # document 02, Three: what the office's list writes now; what it wrote before is on the page the item of another run, of the list that flips M with the item, which comes after
 mirrored='Every second station, mirrored'
 worked "$mirrored" mirror 2

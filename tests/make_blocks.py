@@ -229,6 +229,29 @@ def sum_list(a, b, s, width):
     return b''.join(out)
 
 
+def difference_list(a, b, s, width):
+    """The difference list of three fields: a sum list that starts with Y at 1, and takes the other bit of B."""
+    out = sum_list(a, b, s, width)
+    steps = [out[at:at + 8] for at in range(0, len(out), 8)]
+    steps[2::5] = [step[:7] + bytes([0x49]) for step in steps[2::5]]
+    return b''.join(steps[:1] + [bytes([0, 2, 0, 0, 0, 0, 0, 0x1F])] + steps[1:])
+
+
+def search_list(less, start, width):
+    """The list that marks in Y the words whose field is equal to a number, or less than it; the number is in the items."""
+    out = [bytes([0, 2, 0, 0, 0, 0, 0, 0x00 if less else 0x0F])]
+    for k in range(width):
+        out += [bytes([0, 4, 0, 0, 0, 0, 0, 0x1A]),
+                bytes([0, 0, 1, 0, start + k, 0, 0, 0x16]),
+                bytes([0, 0, 1, 0, start + k, 0, 0, 0x35]) if less else bytes([0, 2, 0, 0, 0, 0, 0, 0x30])]
+    return b''.join(out + [bytes([0, 2, 0, 0, 0, 0, 0, 0x1A])])
+
+
+def search_items(number, width):
+    """The items of a search: bit k of the number on every line of item k."""
+    return b''.join(bytes([255 * (number >> k & 1)]) * 32 for k in range(width))
+
+
 def greatest_list(start, width):
     """The list that keeps marked, of the words marked in Y, those whose field is the greatest."""
     out = [bytes([0, 2, 0, 0, 0, 0, 0, 0])]

@@ -1,8 +1,8 @@
 #!/bin/bash
 # The program on folders of every kind, from outside: absent, empty, too long, damaged and unreadable files; which byte of an instruction is wrong; the
 # mode registers, and pictures of both kinds; what happens to an old after.pic; what is left behind; the command's exit status; two runs in one folder;
-# a picture of one kind made one of the other; lists shown as text and made of it. Prints a line for each case, and at last 'N passed, 0 failed'. Run it from
-# anywhere; it builds the program if the sources have changed.
+# a picture of one kind made one of the other; lists shown as text and made of it, with fields by name, sums and searches; how much stack a run needs. Prints a
+# line for each case, and at last 'N passed, 0 failed'. Run it from anywhere; it builds the program if the sources have changed.
 #   tests/program_cases.sh
 set -u
 here=$(cd "$(dirname "$0")/.." && pwd -P)
@@ -411,6 +411,14 @@ another; run; whole "$here/demo/before.pic"; judge "and the next run is not hind
 fresh; timeout 20 ${emulator:+"$emulator"} "$loader" --library-path "$tools/lib" "$here/target/bin/program" >/dev/full 2>"$work/err"; : >"$work/out"
 grep -qx 'standard output: No space left on device' "$work/err" && [ -s "$work/f/after.pic" ]; judge "an output that takes nothing: the reason is said, and after.pic is whole" $?
 
+# ---- a run in a folder needs little stack
+if [ -z "$emulator" ]; then
+    narrow() { (ulimit -s 256; timeout 20 "$loader" --library-path "$tools/lib" "$here/target/bin/program") >"$work/out" 2>"$work/err"; }
+    fresh; narrow; printf '%b' "$done_lines" | cmp -s - "$work/out" && [ ! -s "$work/err" ]; judge "256 KB of stack: the document's example" $?
+    fresh; blocks list run.lst "$(times 248 000400000000001A)" "$(times 488 000200000000001F)" "$(times 256 0500000000000000)"; blocks items in.itm "$(times 248 "$zeros")"; blocks --replace picture before.pic 01FF01FF
+    narrow; [ "$(head -n 1 "$work/out")" = 'r 0 0 0 992 248 256' ] && [ "$(wc -l <"$work/out")" -eq 257 ] && [ -s after.pic ] && [ ! -s "$work/err" ]; judge "256 KB of stack: as many instructions and items as a folder has" $?
+fi
+
 # ---- a picture of one kind made one of the other, by the program itself: new or old, the file, and the file to be made
 program() { (cd "$work/f" && timeout 20 ${emulator:+"$emulator"} "$loader" --library-path "$tools/lib" "$here/target/bin/program" "$@") >"$work/out" 2>"$work/err"; }
 converts() { # NAME LINE WAY: before.pic to x.pic; LINE is printed and nothing said, and x.pic is there exactly if the line is that of done
@@ -436,10 +444,10 @@ fresh; program new . x.pic; silent "a folder for a file" '.: Is a directory'; [ 
 fresh; program old before.pic nothing/x.pic; [ "$(cat "$work/out")" = 'c 22 0 0' ]; judge "a refusal comes before a file that cannot be made" $?
 fresh; program new before.pic nothing/x.pic; silent "a file that cannot be made" 'nothing/x.pic: No such file or directory'
 fresh; (ulimit -f 4; trap '' XFSZ; program new before.pic x.pic); [ ! -s "$work/out" ] && grep -q '^x.pic: ' "$work/err" && [ ! -e x.pic ]; judge "a write that fails half way: the reason is said, and nothing is left" $?
-usage='new or old, a file and the file to be made; show and a list; make, a text and the list to be made; or no word at all'
+usage='new or old, a file and the file to be made; show and a list; make, a text, and the files of list and items to be made; or no word at all'
 while read -ra words <&3; do
     fresh; program "${words[@]}"; silent "other words: ${words[*]}" "$usage"
-    if [ -e x.pic ] || [ -e after.pic ]; then judge "other words make nothing" 1; fi
+    if [ -e x.pic ] || [ -e y.pic ] || [ -e after.pic ]; then judge "other words make nothing" 1; fi
 done 3<<'CASES'
 new
 new before.pic
@@ -456,9 +464,10 @@ sho run.lst
 Show run.lst
 make
 make before.pic
-make before.pic x.pic y.pic
-makes before.pic x.pic
-mak before.pic x.pic
+make before.pic x.pic
+make before.pic x.pic y.pic z.pic
+makes before.pic x.pic y.pic
+mak before.pic x.pic y.pic
 CASES
 fresh; program ''; silent "one empty word is no run" "$usage"; none "and no after.pic"
 
@@ -641,15 +650,15 @@ if [ "$(id -u)" -ne 0 ]; then
 fi
 fresh; (cd "$work/f" && timeout 20 ${emulator:+"$emulator"} "$loader" --library-path "$tools/lib" "$here/target/bin/program" show run.lst >/dev/full) 2>"$work/err"; : >"$work/out"; silent "show: an output that takes nothing" 'standard output: No space left on device'
 
-# ---- a list made of a text, by the program itself: make, the text's file, and the list's that is to be made
-made_of() { rm -f x.lst; program make x.txt x.lst; } # x.lst of x.txt
-makes() { # NAME TEXT BYTES..: of the text, which is given with escapes, a list of these bytes; nothing is said
+# ---- a list made of a text, by the program itself: make, the text's file, and those of list and items that are to be made
+made_of() { rm -f x.lst x.itm; program make x.txt x.lst x.itm; } # x.lst, and x.itm where there are items, of x.txt
+makes() { # NAME TEXT BYTES..: of the text, which is given with escapes, a list of these bytes, and no items; nothing is said
     printf '%b' "$2" >x.txt; name=$1; shift 2
     blocks list want.lst "$@"; made_of
-    [ "$(cat "$work/out")" = "m 0 0 0 $(python3 -B -c 'import sys; print(len("".join("".join(sys.argv[1:]).split())) // 2)' "$@")" ] && [ ! -s "$work/err" ] && cmp -s x.lst want.lst
+    [ "$(cat "$work/out")" = "m 0 0 0 $(python3 -B -c 'import sys; print(len("".join("".join(sys.argv[1:]).split())) // 2)' "$@") 0" ] && [ ! -s "$work/err" ] && cmp -s x.lst want.lst && [ ! -e x.itm ]
     judge "$name" $?
 }
-unmade() { [ "$(cat "$work/out")" = "$2" ] && [ ! -s "$work/err" ] && [ ! -e x.lst ]; judge "$1" $?; } # NAME LINE: the line is printed, nothing said and no list made
+unmade() { [ "$(cat "$work/out")" = "$2" ] && [ ! -s "$work/err" ] && [ ! -e x.lst ] && [ ! -e x.itm ]; judge "$1" $?; } # NAME LINE: the line is printed, nothing said, and neither list nor items made
 fresh; makes "make: the document's list" 'logic y one x\nresolve\n' 000200000000001F0500000000000000
 makes "make: an empty text" ''
 makes "make: empty lines and comments alone" '\n\n; a comment\n  \t ; another\r\n;\n'
@@ -664,7 +673,7 @@ makes "make: zeros in front, small digits of a byte, functions by number" 'set a
 makes "make: slice and word by their modes" 'deliver mode 0 address 3\ndeliver mode 255 address 3\nsetm m flip 0\n' 0400010003000000 040001FF03000000 0101000000000000
 # NUMBER LINE COLUMN TEXT: what is refused, and where
 while read -r number line column text <&3; do
-    printf '%b' "$text" >x.txt; made_of; unmade "make: $number at $line:$column of '$text'" "m $number $line $column 0"
+    printf '%b' "$text" >x.txt; made_of; unmade "make: $number at $line:$column of '$text'" "m $number $line $column 0 0"
 done 3<<'CASES'
 60 1 1 Resolve\n
 60 2 1 resolve\nresolves\n
@@ -719,16 +728,16 @@ done 3<<'CASES'
 60 2 1 resolve\nhalt\nstore\n
 CASES
 # whole texts: their length, and how many instructions they make
-fresh; { times 4095 resolve; printf ';%1015815s' ''; } >x.txt; made_of; [ "$(wc -c <x.txt)" -eq 1048576 ] && [ "$(cat "$work/out")" = 'm 0 0 0 32760' ]; judge "make: a text of 1,048,576 characters" $?
-printf ' ' >>x.txt; made_of; unmade "make: and of one more" 'm 50 0 0 0'
-{ echo halt; head -c 1048576 /dev/zero; } >x.txt; made_of; unmade "make: 50 before what is wrong in its lines" 'm 50 0 0 0'
-{ truncate -s 1T x.txt; made_of; }; unmade "make: 2^40 characters are not read to their end" 'm 50 0 0 0'
-head -c 1048576 /dev/zero | tr '\0' '\n' >x.txt; made_of; cmp -s x.lst <(blocks list want.lst && cat want.lst) && [ "$(cat "$work/out")" = 'm 0 0 0 0' ]; judge "make: 1,048,576 empty lines" $?
-{ head -c 1048570 /dev/zero | tr '\0' '\n'; echo halt; } >x.txt; made_of; unmade "make: a line that is far down" 'm 60 1048571 1 0'
-printf '%1048570shalt' '' >x.txt; made_of; unmade "make: and one that is far to the right" 'm 60 1 1048571 0'
-times 4096 resolve >x.txt; made_of; [ "$(cat "$work/out")" = 'm 0 0 0 32768' ] && [ "$(wc -c <x.lst)" -eq 34304 ]; judge "make: 4,096 instructions" $?
-times 4097 resolve >x.txt; made_of; unmade "make: and one more" 'm 3 0 0 0'
-{ times 4097 resolve; echo halt; } >x.txt; made_of; unmade "make: what is wrong in a line before that they are too many" 'm 60 4098 1 0'
+fresh; { times 4095 resolve; printf ';%1015815s' ''; } >x.txt; made_of; [ "$(wc -c <x.txt)" -eq 1048576 ] && [ "$(cat "$work/out")" = 'm 0 0 0 32760 0' ]; judge "make: a text of 1,048,576 characters" $?
+printf ' ' >>x.txt; made_of; unmade "make: and of one more" 'm 50 0 0 0 0'
+{ echo halt; head -c 1048576 /dev/zero; } >x.txt; made_of; unmade "make: 50 before what is wrong in its lines" 'm 50 0 0 0 0'
+{ truncate -s 1T x.txt; made_of; }; unmade "make: 2^40 characters are not read to their end" 'm 50 0 0 0 0'
+head -c 1048576 /dev/zero | tr '\0' '\n' >x.txt; made_of; cmp -s x.lst <(blocks list want.lst && cat want.lst) && [ "$(cat "$work/out")" = 'm 0 0 0 0 0' ]; judge "make: 1,048,576 empty lines" $?
+{ head -c 1048570 /dev/zero | tr '\0' '\n'; echo halt; } >x.txt; made_of; unmade "make: a line that is far down" 'm 60 1048571 1 0 0'
+printf '%1048570shalt' '' >x.txt; made_of; unmade "make: and one that is far to the right" 'm 60 1 1048571 0 0'
+times 4096 resolve >x.txt; made_of; [ "$(cat "$work/out")" = 'm 0 0 0 32768 0' ] && [ "$(wc -c <x.lst)" -eq 34304 ]; judge "make: 4,096 instructions" $?
+times 4097 resolve >x.txt; made_of; unmade "make: and one more" 'm 3 0 0 0 0'
+{ times 4097 resolve; echo halt; } >x.txt; made_of; unmade "make: what is wrong in a line before that they are too many" 'm 60 4098 1 0 0'
 # a text that was shown makes the same list, whatever its bytes
 back() { # NAME FILE: shown, and made again, it is the same file
     program show "$2"; sed 1d "$work/out" >x.txt; made_of
@@ -736,7 +745,7 @@ back() { # NAME FILE: shown, and made again, it is the same file
 }
 fresh; back "the document's list" run.lst; blocks list run.lst; back "a list of no instructions" run.lst
 blocks list run.lst "$(cut -d ' ' -f 1 "$work/rows")"; back "an instruction of each form" run.lst
-back "the demonstration's" "$here/demo/run.lst"
+cp "$here/demo/run.txt" x.txt; made_of; mv x.lst run.lst; back "the demonstration's" run.lst
 for seed in 1 2 3 4 5; do
     python3 -B - "$here/tests" "$seed" <<'PYTHON'
 import random
@@ -752,17 +761,410 @@ done
 sed -n '/^    set a 13$/,/^$/s/^    //p' "$here/docs/TEXT.md" >x.txt; made_of; cp x.lst run.lst; program show run.lst
 [ "$(wc -l <x.txt)" -eq 7 ] && sed 1d "$work/out" | cmp -s - x.txt; judge "docs/TEXT.md: its text is made, and shown as it stands there" $?
 # what cannot be read or made
-fresh; echo resolve >x.txt; echo mine >x.lst; program make x.txt x.lst; silent "make: a file that is there is not written over" 'x.lst: File exists'; [ "$(cat x.lst)" = mine ]; judge "and is as it was" $?
-fresh; echo resolve >x.txt; program make x.txt x.txt; silent "make: nor is the text itself" 'x.txt: File exists'; [ "$(cat x.txt)" = resolve ]; judge "which is as it was" $?
-fresh; echo resolve >x.txt; ln -s nothing x.lst; program make x.txt x.lst; silent "make: nor is a link that leads nowhere followed" 'x.lst: File exists'; [ ! -e nothing ]; judge "and nothing is made there" $?
-fresh; program make nothing x.lst; silent "make: no text" 'nothing: No such file or directory'; [ ! -e x.lst ]; judge "and nothing is made" $?
-fresh; program make . x.lst; silent "make: a folder for a text" '.: Is a directory'; [ ! -e x.lst ]; judge "and nothing is made of it" $?
-fresh; echo halt >x.txt; program make x.txt nothing/x.lst; [ "$(cat "$work/out")" = 'm 60 1 1 0' ]; judge "make: a refusal comes before a file that cannot be made" $?
-fresh; echo resolve >x.txt; program make x.txt nothing/x.lst; silent "make: a file that cannot be made" 'nothing/x.lst: No such file or directory'
-fresh; times 4096 resolve >x.txt; (ulimit -f 4; trap '' XFSZ; program make x.txt x.lst); [ ! -s "$work/out" ] && grep -q '^x.lst: ' "$work/err" && [ ! -e x.lst ]; judge "make: a write that fails half way: the reason is said, and nothing is left" $?
-fresh; { sleep 0.1; echo resolve; sleep 0.1; printf 'set a'; sleep 0.1; echo ' 13'; } | program make /dev/stdin x.lst; [ "$(cat "$work/out")" = 'm 0 0 0 16' ] && blocks list want.lst 05000000000000000600020D00000000 && cmp -s x.lst want.lst; judge "make: a text that comes in pieces" $?
-fresh; echo resolve >x.txt; (cd "$work/f" && timeout 20 ${emulator:+"$emulator"} "$loader" --library-path "$tools/lib" "$here/target/bin/program" make x.txt x.lst >/dev/full) 2>"$work/err"; : >"$work/out"
+fresh; echo resolve >x.txt; echo mine >x.lst; program make x.txt x.lst x.itm; silent "make: a file that is there is not written over" 'x.lst: File exists'; [ "$(cat x.lst)" = mine ]; judge "and is as it was" $?
+fresh; echo resolve >x.txt; program make x.txt x.txt x.itm; silent "make: nor is the text itself" 'x.txt: File exists'; [ "$(cat x.txt)" = resolve ]; judge "which is as it was" $?
+fresh; echo resolve >x.txt; ln -s nothing x.lst; program make x.txt x.lst x.itm; silent "make: nor is a link that leads nowhere followed" 'x.lst: File exists'; [ ! -e nothing ]; judge "and nothing is made there" $?
+fresh; program make nothing x.lst x.itm; silent "make: no text" 'nothing: No such file or directory'; [ ! -e x.lst ]; judge "and nothing is made" $?
+fresh; program make . x.lst x.itm; silent "make: a folder for a text" '.: Is a directory'; [ ! -e x.lst ]; judge "and nothing is made of it" $?
+fresh; echo halt >x.txt; program make x.txt nothing/x.lst x.itm; [ "$(cat "$work/out")" = 'm 60 1 1 0 0' ]; judge "make: a refusal comes before a file that cannot be made" $?
+fresh; echo resolve >x.txt; program make x.txt nothing/x.lst x.itm; silent "make: a file that cannot be made" 'nothing/x.lst: No such file or directory'
+fresh; times 4096 resolve >x.txt; (ulimit -f 4; trap '' XFSZ; program make x.txt x.lst x.itm); [ ! -s "$work/out" ] && grep -q '^x.lst: ' "$work/err" && [ ! -e x.lst ]; judge "make: a write that fails half way: the reason is said, and nothing is left" $?
+fresh; { sleep 0.1; echo resolve; sleep 0.1; printf 'set a'; sleep 0.1; echo ' 13'; } | program make /dev/stdin x.lst x.itm; [ "$(cat "$work/out")" = 'm 0 0 0 16 0' ] && blocks list want.lst 05000000000000000600020D00000000 && cmp -s x.lst want.lst; judge "make: a text that comes in pieces" $?
+fresh; echo resolve >x.txt; (cd "$work/f" && timeout 20 ${emulator:+"$emulator"} "$loader" --library-path "$tools/lib" "$here/target/bin/program" make x.txt x.lst x.itm >/dev/full) 2>"$work/err"; : >"$work/out"
 silent "make: an output that takes nothing" 'standard output: No space left on device'; [ "$(wc -c <x.lst)" -eq 512 ]; judge "and the list is made" $?
+
+# ---- texts with statements (docs/TEXT.md): fields by name, sums and searches, and a limit of what stores reach
+# What a text makes, worked out by tests/make_blocks.py of docs/LISTS.md: its other lines are `bytes`, or instructions of the rows above.
+cat >"$work/statements.py" <<'PYTHON'
+import re
+import sys
+sys.path.insert(0, sys.argv[1])
+import make_blocks as files
+rows = {text.split(' ;')[0].strip(): bytes.fromhex(digits) for digits, text in (line.split(' ', 1) for line in open(sys.argv[2]))}
+fields, list_, items = {}, b'', b''
+for line in open('x.txt', encoding='latin-1', newline='\n'):
+    name, *words = re.findall('[^ \t\r\n]+', line.split(';')[0]) or ['']
+    if name == 'field':
+        fields[words[0]] = int(words[1]), int(words[2])
+    elif name in ('sum', 'difference'):
+        build = files.sum_list if name == 'sum' else files.difference_list
+        list_ += build(*(fields[words[k]][0] for k in (0, 1, 3)), fields[words[0]][1])
+    elif name in ('equal', 'less'):
+        list_ += files.search_list(name == 'less', *fields[words[0]])
+        items += files.search_items(int(words[1]), fields[words[0]][1])
+    elif name == 'greatest':
+        list_ += files.greatest_list(*fields[words[0]])
+    elif name == 'bytes':
+        list_ += bytes.fromhex(''.join(words))
+    elif name not in ('', 'reach'):
+        list_ += rows[' '.join([name] + words)]
+files.write('want.lst', files.blocks(files.LIST, list_))
+files.write('want.itm', files.blocks(files.ITEMS, items))
+print('m 0 0 0', len(list_), len(items))
+PYTHON
+as_built() { # x.txt makes the list that it should, and the items, of which there is a file only if there are any; nothing is said
+    python3 -B "$work/statements.py" "$here/tests" "$work/rows" >"$work/want" || return
+    made_of; cmp -s "$work/want" "$work/out" && [ ! -s "$work/err" ] && cmp -s x.lst want.lst && case $(cat "$work/want") in *' 0') [ ! -e x.itm ] ;; *) cmp -s x.itm want.itm ;; esac
+}
+states() { printf '%b' "$2" >x.txt; as_built; judge "make: $1" $?; } # NAME TEXT
+# each statement by itself: WIDTH, and the greatest number of so many bits
+fresh
+while read -r width most <&3; do
+    for statement in 'sum a b into s' 'difference a b into s' 'equal b 0' "equal s $most" 'less a 1' "less s $most" 'greatest b'; do
+        states "$statement, of $width bits" "field a 0 $width\nfield b $((width + 7)) $width\nfield s $((256 - width)) $width\n$statement\n"
+    done
+done 3<<'CASES'
+1 1
+8 255
+32 4294967295
+33 8589934591
+64 18446744073709551615
+CASES
+for width in $(seq 64); do
+    value=$((0x5a5a5a5a5a5a5a5a & (1 << (width - 1)) - 1))
+    printf 'field a %d %d\nfield b %d %d\nfield s %d %d\n' $((width % 5)) "$width" $((70 + width % 3)) "$width" $((256 - width)) "$width" >x.txt
+    printf '%s\n' "difference s a into b" "less a $value" "sum a b into s" "greatest s" "equal s $value" >>x.txt; as_built || break
+done; [ "$width" -eq 64 ] && as_built; judge "make: all of them in one text, of every width" $?
+# fields: where they lie towards each other, and what they are called
+while IFS='|' read -r name text <&3; do states "$name" "$text"; done 3<<'CASES'
+fields alone|field a 0 8\nfield b 8 8\n
+a limit alone|reach at most 1 word\nreach at most 256 words\n
+S is A|field a 0 8\nfield b 8 8\nsum a b into a\ndifference a b into a\n
+S is B|field a 0 8\nfield b 8 8\nsum a b into b\ndifference a b into b\n
+one field for all three|field a 9 64\nsum a a into a\ndifference a a into a\n
+S is A by another name|field a 9 8\nfield b 40 8\nfield s 9 8\nsum a b into s\nsum b a into s\n
+A and B overlap, and S does not|field a 0 8\nfield b 3 8\nfield s 11 8\nsum a b into s\ndifference b a into s\n
+S ends where A begins, and begins where B ends|field a 16 8\nfield b 0 8\nfield s 8 8\nsum a b into s\n
+to the last bit|field a 255 1\nfield b 192 64\nequal a 1\ngreatest b\n
+zeros in front|field a 007 008\nequal a 00000000000000000255\nreach at most 001 word\n
+a name of eight characters, and another|field eightch1 0 8\nfield eightch2 8 8\nsum eightch1 eightch2 into eightch2\n
+names in capitals and small letters|field a 0 8\nfield A 8 8\nfield aa 16 8\ngreatest A\ngreatest aa\ngreatest a\n
+names of the plainest kind|field ! 0 8\nfield ~ 8 8\nfield 42 16 8\nfield - 24 8\nsum ! ~ into 42\nless 42 42\nless - 0\n
+names that mean something elsewhere|field field 0 8\nfield sum 8 8\nfield into 16 8\nfield at 24 8\nfield word 32 8\nsum sum into into into\nless sum 5\ngreatest field\ngreatest at\nequal word 1\n
+tabs, blanks and CR LF|\tfield  a\t0 8 \r\n  less\ta  5\r\n\r\ngreatest a\t\r\n
+comments right behind a word|field a 0 8;one\nless a 5;two\n;three\nsum a a into a;four
+the text ends with a word|field a 0 8\nless a 200
+two searches, and a third|field a 0 8\nless a 5\nequal a 6\nless a 7\n
+instructions between them|field a 0 8\nresolve\nless a 5\ndeliver m\nset a 255\nsum a a into a\nbytes 00 01 02 03 04 05 06 07\n
+an instruction that takes from outside below the last search|field a 0 8\nless a 5\nequal a 6\nlogic y load outside\ngreatest a\nsum a a into a\n
+four is its kind, and not its source|field a 0 8\nbytes 04 01 00 00 00 00 00 00\nless a 5\n
+CASES
+{ for k in $(seq 256); do echo "field f$k $((k - 1)) 1"; done; echo 'sum f1 f2 into f256'; echo 'greatest f255'; } >x.txt; as_built; judge "make: 256 fields" $?
+# drawn texts: every search stands above what takes from outside
+for seed in 1 2 3 4 5 6 7 8; do
+    python3 -B - "$work/rows" "$seed" >x.txt <<'PYTHON'
+import random
+import sys
+draw = random.Random(int(sys.argv[2]))
+rows = [line.split(' ', 1)[1].split(' ;')[0].strip() for line in open(sys.argv[1])]
+quiet = [row for row in rows if 'outside' not in row and not row.startswith('bytes')]
+places, used = {}, 0
+for k in range(draw.randint(20, 60)):
+    width = draw.choice([size for _, size in places.values()] * (k % 3 > 0) or (1, 2, 5, 16, 31, 32, 64))
+    where = {name: at for name, (at, size) in places.items() if size == width}
+    kind = draw.choice(('field', 'field', 'sum', 'sum', 'difference', 'equal', 'less', 'greatest', 'reach', 'row', ''))
+    name = ''.join(chr(draw.choice([c for c in range(33, 127) if c != 59])) for _ in range(draw.randint(1, 8)))
+    if kind == 'field' and name not in places:
+        places[name] = draw.randint(0, 256 - width), width
+        print('field', name, *places[name])
+    elif kind in ('sum', 'difference', 'equal', 'less', 'greatest') and where and used + 11 * width < 3900:
+        a, b, s = (draw.choice(sorted(where)) for _ in range(3))
+        used += 11 * width
+        if kind == 'greatest':
+            print(kind, a)
+        elif kind in ('equal', 'less'):
+            print(kind, a, draw.randrange(2 ** width), '; of', width)
+        elif all(where[x] == where[s] or abs(where[x] - where[s]) >= width for x in (a, b)):
+            print(kind, a, b, 'into', s)
+    elif kind == 'reach':
+        print('reach at most 256', draw.choice(('word', 'words')))
+    elif kind in ('row', ''):
+        row = draw.choice(quiet) if kind else draw.choice(('', '; a comment', ' \t '))
+        print('set a 255\nset b 13\n' * (' mode ' in row) + row)
+for row in rows[:6]:
+    print('set a 255\n' + row)
+PYTHON
+    as_built; judge "make: a drawn text of $(wc -l <x.txt) lines, $(grep -cE '^(sum|difference|equal|less|greatest) ' x.txt) sums and searches" $?
+done
+# docs/TEXT.md: its statements, and how many instructions and items it says that a line makes
+sed -n '/^    field height 0 32$/,/^$/s/^    //p' "$here/docs/TEXT.md" >page.txt; cp page.txt x.txt; as_built && [ "$(wc -l <x.txt)" -eq 6 ]; judge "docs/TEXT.md: its statements are made as they stand there" $?
+{ grep '^field' page.txt; grep '^sum' page.txt; } >x.txt; made_of; grep -q '^sum .* ; 161 instructions$' page.txt && [ "$(cat "$work/out")" = "m 0 0 0 $((8 * 161)) 0" ]; judge "and its sum is 161 instructions" $?
+{ grep '^field' page.txt; grep '^less' page.txt; } >x.txt; made_of; grep -q '^less .* ; 98 instructions, and 32 items$' page.txt && [ "$(cat "$work/out")" = "m 0 0 0 $((8 * 98)) $((32 * 32))" ]; judge "and its search 98, and 32 items" $?
+python3 -B -c 'import sys; sys.path.insert(0, sys.argv[1]); import make_blocks as files; sys.exit(files.content(files.ITEMS, open("x.itm", "rb").read()) != files.search_items(20000, 32))' "$here/tests" 2>"$work/err"; judge "which are a file of items" $?
+
+# what is refused, and where: a field, and a limit
+refused_at() { printf '%b' "${5-}$4" >x.txt; made_of; unmade "make: $1 at $2:$3 of '$4'" "m $1 $2 $3 0 0"; } # NUMBER LINE COLUMN TEXT [HEAD]: of the text, behind HEAD
+while read -r number line column text <&3; do refused_at "$number" "$line" "$column" "$text"; done 3<<'CASES'
+60 1 1 Field a 0 8\n
+60 1 1 fields a 0 8\n
+60 2 1 field a 0 8\nsums a a into a\n
+60 2 1 field a 0 8\ndifferences a a into a\n
+60 2 1 field a 0 8\ndifferenc a a into a\n
+60 2 1 field a 0 8\na\n
+60 1 1 most\n
+70 1 7 field ninechars 0 8\n
+70 1 7 field a\177 0 8\n
+70 1 7 field \200 0 8\n
+70 1 7 field \377 0 8\n
+70 1 7 field \001 0 8\n
+70 1 7 field a\000 0 8\n
+70 1 7 field a\013 0 8\n
+70 2 7 field eightcha 0 8\nfield eightchar 8 8\n
+70 1 7 field ninechars
+71 2 7 field a 0 8\nfield a 8 8\n
+71 2 7 field a 0 8\nfield a x\n
+71 3 7 field a 0 8\nfield b 0 8\nfield a 0 8\n
+64 1 9 field a 256 1\n
+64 1 9 field a x 1\n
+64 1 9 field a -1 1\n
+64 1 9 field a 0000 1\n
+69 1 10 field a 1; 1\n
+64 1 9 field a a\n
+30 1 11 field a 0 0\n
+30 1 11 field a 0 65\n
+30 1 11 field a 0 256\n
+30 1 11 field a 0 x\n
+30 1 11 field a 0 0008\n
+30 1 13 field a 255 65\n
+30 1 13 field a 255 0 9\n
+31 1 13 field a 255 2\n
+31 1 13 field a 193 64\n
+31 1 13 field a 249 8 9\n
+67 1 13 field a 0 8 9\n
+67 1 14 field a 0 64 into\n
+69 1 6 field
+69 1 6 field\n
+69 1 6 field;a 0 8\n
+69 1 8 field a\n
+69 1 8 field a;b 0 8\n
+69 1 10 field a \r\n
+69 1 10 field a 0
+69 1 11 field a 0 ; 8\n
+65 1 7 reach 1 word\n
+65 1 7 reach At most 1 word\n
+65 1 7 reach most 1 word\n
+65 1 10 reach at 1 word\n
+65 1 10 reach at least 1 word\n
+64 1 15 reach at most 0 words\n
+64 1 15 reach at most 257 words\n
+64 1 15 reach at most x\n
+64 1 15 reach at most 0001 word\n
+64 1 15 reach at most word\n
+65 1 17 reach at most 1 Word\n
+65 1 17 reach at most 1 wordss\n
+65 1 17 reach at most 1 wor\n
+65 1 19 reach at most 256 m\n
+67 1 22 reach at most 1 word word\n
+67 1 23 reach at most 2 words 3\n
+69 1 6 reach
+69 1 9 reach at\n
+69 1 14 reach at most\n
+69 1 16 reach at most 1\n
+69 1 17 reach at most 1 ; word\n
+73 1 5 sum a a into a\nfield a 0 8\n
+CASES
+# sums and searches, behind fields of 8 bits: o overlaps a and b, and w has 16; `difference` stands for each `sum` as well, and `less` for each `equal`
+head='field a 0 8\nfield b 8 8\nfield s 16 8\nfield o 4 8\nfield w 4 16\n'
+while read -r number column text <&3; do
+    refused_at "$number" 6 "$column" "$text" "$head"
+    case $text in sum*) refused_at "$number" 6 $((column + 7)) "difference${text#sum}" "$head" ;; equal*) refused_at "$number" 6 $((column - 1)) "less${text#equal}" "$head" ;; esac
+done 3<<'CASES'
+73 5 sum c b into s\n
+73 5 sum A b into s\n
+73 5 sum ninechars b into s\n
+73 5 sum a\001 b into s\n
+73 5 sum \377\n
+73 7 sum a c into s\n
+73 7 sum a into s\n
+74 7 sum a w into s\n
+74 7 sum a w\n
+74 7 sum w a into w\n
+65 9 sum a b s\n
+65 9 sum a b Into s\n
+65 9 sum a b from s\n
+73 14 sum a b into c\n
+73 14 sum a b into into\n
+74 14 sum a b into w\n
+32 14 sum a s into o\n
+32 14 sum s a into o\n
+32 14 sum s b into o\n
+32 14 sum o s into a\n
+32 14 sum s o into b\n
+32 14 sum a a into o x\n
+67 16 sum a b into s s\n
+67 16 sum a b into s flip 1\n
+69 4 sum
+69 4 sum\n
+69 6 sum a\n
+69 8 sum a b\n
+69 8 sum a b;into s\n
+69 13 sum a b into
+69 14 sum a b into ; s\n
+73 7 equal c 5\n
+73 7 equal 5 a\n
+73 7 equal c\n
+76 9 equal a x\n
+76 9 equal a -1\n
+76 9 equal a 1e3\n
+76 9 equal a 0x5\n
+76 9 equal a 5,\n
+76 9 equal a \0615\377\n
+76 9 equal a 000000000000000000005\n
+76 9 equal a 18446744073709551616\n
+76 9 equal a 99999999999999999999\n
+76 9 equal a 100000000000000000000\n
+34 9 equal a 256\n
+34 9 equal w 65536\n
+34 9 equal a 18446744073709551615\n
+34 9 equal a 256 7\n
+67 11 equal a 5 6\n
+67 13 equal a 255 flip 1\n
+69 6 equal
+69 8 equal a\n
+69 8 equal a;5\n
+69 9 equal a ; 5\n
+73 10 greatest c\n
+73 10 greatest ninechars\n
+67 12 greatest a b\n
+67 12 greatest a 5\n
+69 9 greatest
+69 9 greatest;a\n
+69 10 greatest ; a\n
+CASES
+# the most that a text has: fields, instructions, items
+fresh; head=$(printf 'field f%d 0 8\\n' $(seq 256))
+while read -r number column text <&3; do refused_at "$number" 257 "$column" "$text" "$head"; done 3<<'CASES'
+72 7 field f257 0 8\n
+72 7 field f257
+72 7 field F1 x
+71 7 field f256 0 8\n
+70 7 field ninechars 0 8\n
+69 6 field\n
+73 10 greatest f257\n
+CASES
+{ echo 'field a 0 64'; times 16 'equal a 5'; } >x.txt; as_built && grep -qx 'm 0 0 0 24832 32768' "$work/out"; judge "make: 1,024 items" $?
+printf 'field b 0 1\nless b 1\n' >>x.txt; made_of; unmade "make: and one more" 'm 4 0 0 0 0'
+echo halt >>x.txt; made_of; unmade "make: what is wrong in a line before that they are too many, of items too" 'm 60 20 1 0 0'
+{ echo 'field a 0 64'; times 22 'equal a 5'; } >x.txt; made_of; unmade "make: too many of both: the instructions come first" 'm 3 0 0 0 0'
+{ echo 'field a 0 64'; times 5 'greatest a'; times 571 resolve; } >x.txt; as_built && grep -qx 'm 0 0 0 32768 0' "$work/out"; judge "make: 4,096 instructions, of statements too" $?
+{ echo 'field a 0 64'; times 571 resolve; times 4 'greatest a'; echo resolve; echo 'greatest a'; } >x.txt; made_of; unmade "make: and one more" 'm 3 0 0 0 0'
+{ echo 'field a 0 64'; times 200 'greatest a'; } >x.txt; made_of; unmade "make: and far more" 'm 3 0 0 0 0'
+{ echo 'field a 0 64'; times 200 'greatest a'; echo 'greatest b'; } >x.txt; made_of; unmade "make: what is wrong in a line before that" 'm 73 202 10 0 0'
+{ echo 'field a 0 8'; printf '%1048552sless a 5' ''; } >x.txt; as_built && [ "$(wc -c <x.txt)" -eq 1048572 ]; judge "make: a statement that is far to the right" $?
+
+# a limit: what stands under one, and what does not
+fresh
+makes "limit: a word under one word" 'reach at most 1 word\nstore word 9 from m\nmstore word 9 from m\n' 020101FF09000000 030101FF09000000
+makes "limit: as many words as it says" 'reach at most 2 words\nstore mode 254 address 9 from m\nreach at most 128 words\nstore mode 1 address 9 from m\nreach at most 256 words\nstore slice 9 from m\n' 020101FE09000000 0201010109000000 0201010009000000
+makes "limit: the lines above it are not judged" 'store slice 9 from m\nstore mode a address 9 from m\nreach at most 1 word\n' 0201010009000000 0201020009000000
+makes "limit: a later one lets more stand" 'reach at most 1 word\nstore word 9 from m\nreach at most 256 words\nstore slice 9 from m\n' 020101FF09000000 0201010009000000
+makes "limit: registers set below it" 'reach at most 1 word\nset a 255\nset b 255\nstore mode a address 9 from m\nmstore mode b address 9 from m\n' 060002FF00000000 060003FF00000000 0201020009000000 0301030009000000
+makes "limit: registers set above it, and again" 'set a 0\nset a 255\nreach at most 1 word\nstore mode a address 9 from m\n' 0600020000000000 060002FF00000000 0201020009000000
+makes "limit: a register set in bytes, whatever else is wrong with them" 'reach at most 1 word\nbytes 06 04 02 FF 09 09 09 09\nstore mode a address 9 from m\n' 060402FF09090909 0201020009000000
+makes "limit: a store in bytes, by what the register says and not by its byte 3" 'set b 255\nreach at most 1 word\nbytes 02 01 03 00 09 00 00 00\n' 060003FF00000000 0201030009000000
+makes "limit: by its byte 3 where the tag is another" 'reach at most 1 word\nbytes 02 01 00 FF 09 00 00 00\nbytes 03 09 FF FF 09 09 09 09\n' 020100FF09000000 0309FFFF09090909
+makes "limit: what is no store" 'reach at most 1 word\ndeliver slice 9\nsetm slice 9\nlogic x load mode a address 9\nbytes 07 01 01 00 09 00 00 00\nset a 0\nresolve\n' 0400010009000000 0100010009000000 000002000900000A 0701010009000000 0600020000000000 0500000000000000
+states "limit: searches store nothing" 'field a 0 8\nreach at most 1 word\nequal a 5\nless a 5\ngreatest a\n'
+states "limit: a sum and a difference under 256 words" 'field a 0 8\nreach at most 256 words\nsum a a into a\ndifference a a into a\n'
+while read -r number line column text <&3; do refused_at "$number" "$line" "$column" "$text"; done 3<<'CASES'
+75 2 1 reach at most 1 word\nstore slice 9 from m\n
+75 2 1 reach at most 1 word\nmstore slice 9 from m\n
+75 2 3 reach at most 1 word\n\t store mode 254 address 9 from m ; reaches 1 word\n
+75 2 1 reach at most 255 words\nstore slice 9 from m flip 3
+75 2 1 reach at most 127 words\nmstore mode 1 address 9 from outside\n
+75 3 1 reach at most 2 words\nstore mode 254 address 9 from m\nstore mode 252 address 9 from m\n
+75 4 1 reach at most 256 words\nstore slice 9 from m\nreach at most 128 words\nstore slice 9 from m\n
+75 2 1 reach at most 256 words\nstore mode a address 9 from m\n
+75 2 1 reach at most 256 words\nmstore mode b address 9 from m\n
+75 3 1 set b 255\nreach at most 1 word\nstore mode a address 9 from m\n
+75 3 1 set a 255\nreach at most 1 word\nstore mode b address 9 from m\n
+75 3 1 set a 254\nreach at most 1 word\nstore mode a address 9 from m\n
+75 4 1 reach at most 1 word\nset a 255\nset a 0\nstore mode a address 9 from m\n
+75 2 1 reach at most 1 word\nstore mode a address 9 from m\nset a 255\n
+75 3 1 reach at most 1 word\nbytes 06 00 01 FF 00 00 00 00\nstore mode a address 9 from m\n
+75 3 1 reach at most 1 word\nbytes 06 00 03 FE 00 00 00 00\nstore mode b address 9 from m\n
+75 2 1 reach at most 1 word\nbytes 02 01 01 00 09 00 00 00\n
+75 2 1 reach at most 1 word\nbytes 03 01 01 FE 09 00 00 00\n
+75 2 1 reach at most 1 word\nbytes 02 09 01 00 09 FF FF FF\n
+75 2 1 reach at most 1 word\nbytes 02 01 00 00 09 00 00 00\n
+75 2 1 reach at most 1 word\nbytes 02 01 04 FE 09 00 00 00\n
+75 2 1 reach at most 256 words\nbytes 02 01 02 FF 09 00 00 00\n
+75 3 1 set a 0\nreach at most 255 words\nbytes 02 01 02 FF 09 00 00 00\n
+75 3 1 field a 0 8\nreach at most 255 words\nsum a a into a\n
+75 3 2 field a 0 1\nreach at most 1 word\n difference a a into a\n
+75 2 1 reach at most 1 word\nstore slice 9 from m\nhalt\n
+67 2 22 reach at most 1 word\nstore slice 9 from m shift 1 mod 8\n
+68 2 28 reach at most 1 word\nbytes 02 01 01 00 00 00 00 0G\n
+69 2 19 reach at most 1 word\nstore slice 9 from\n
+67 3 16 field a 0 8\nreach at most 1 word\nsum a a into a a\n
+64 2 15 reach at most 1 word\nreach at most 0 words\nstore slice 9 from m\n
+CASES
+
+# 77: a search below an instruction that takes from outside, behind a field
+while read -r number line column text <&3; do refused_at "$number" "$line" "$column" "$text" 'field a 0 8\n'; done 3<<'CASES'
+77 3 1 logic y load outside\nless a 5\n
+77 3 1 setm outside\nequal a 5\n
+77 3 3 deliver outside\n  less a 5 ; of its own\n
+77 3 1 store word 13 from outside\nless a 5
+77 4 1 mstore slice 13 from outside\nresolve\nequal a 5\n
+77 4 1 less a 5\nsetm outside\nless a 5\n
+77 4 1 greatest a\nsetm outside\nequal a 5\nequal a 5\n
+77 3 1 bytes FF 04 FF FF FF FF FF FF\nless a 5\n
+77 3 1 bytes 05 04 00 00 00 00 00 00\nless a 5\n
+77 3 1 setm outside\nless a 5\nhalt\n
+34 3 8 setm outside\nless a 256\n
+76 3 8 setm outside\nless a x\n
+73 3 7 setm outside\nequal b 5\n
+67 3 10 setm outside\nless a 5 6\n
+69 3 7 setm outside\nless a\n
+60 3 1 setm outside\nhalt\nless a 5\n
+CASES
+
+# the items' file: only where there are any; and where it cannot be made, there is no list either
+fresh; printf 'field a 0 8\nless a 5\n' >x.txt; echo mine >x.itm
+program make x.txt x.lst x.itm; silent "make: items that are there are not written over" 'x.itm: File exists'; [ ! -e x.lst ] && [ "$(cat x.itm)" = mine ]; judge "which are as they were, and no list is made" $?
+program make x.txt x.lst nothing/x.itm; silent "make: items that cannot be made" 'nothing/x.itm: No such file or directory'; [ ! -e x.lst ]; judge "and no list is made" $?
+program make x.txt x.lst x.txt; silent "make: the text itself for the items" 'x.txt: File exists'; [ ! -e x.lst ] && [ "$(wc -l <x.txt)" -eq 2 ]; judge "which is as it was, and no list is made" $?
+program make x.txt x.lst x.lst; silent "make: one name for list and items" 'x.lst: File exists'; [ ! -e x.lst ]; judge "and nothing is made" $?
+program make x.txt x.lst .; [ ! -s "$work/out" ] && grep -q '^\.: ' "$work/err" && [ ! -e x.lst ]; judge "make: a folder for the items" $?
+ln -s nowhere link.itm; program make x.txt x.lst link.itm; silent "make: a link that leads nowhere for them" 'link.itm: File exists'; [ ! -e x.lst ] && [ ! -e nowhere ]; judge "and nothing is made, nor where it leads" $?
+echo mine >x.lst; program make x.txt x.lst y.itm; silent "make: a list that is there, and items" 'x.lst: File exists'; [ "$(cat x.lst)" = mine ] && [ ! -e y.itm ]; judge "it is as it was, and no items are made" $?
+rm x.lst; echo 'greatest a' >>x.txt; sed -i /^less/d x.txt; program make x.txt x.lst x.itm; [ "$(cat "$work/out")" = 'm 0 0 0 712 0' ] && [ "$(cat x.itm)" = mine ] && [ -s x.lst ]; judge "make: no items: what has their name is as it was" $?
+rm x.lst; program make x.txt x.lst nothing/x.itm; [ "$(cat "$work/out")" = 'm 0 0 0 712 0' ] && [ ! -s "$work/err" ] && [ -s x.lst ]; judge "make: and need not be a name that can be made" $?
+fresh; printf 'field a 0 8\nless b 5\n' >x.txt; echo mine >x.itm; program make x.txt x.lst x.itm; [ "$(cat "$work/out")" = 'm 73 2 6 0 0' ] && [ ! -s "$work/err" ] && [ ! -e x.lst ] && [ "$(cat x.itm)" = mine ]; judge "make: a refusal comes before items that cannot be made" $?
+fresh; printf 'field a 0 64\nless a 5\n' >x.txt; (ulimit -f 2; trap '' XFSZ; program make x.txt x.lst x.itm); [ ! -s "$work/out" ] && grep -q '^x.itm: ' "$work/err" && [ ! -e x.lst ] && [ ! -e x.itm ]; judge "make: a write of the items that fails half way: neither is left" $?
+(ulimit -f 1; trap '' XFSZ; program make x.txt x.lst x.itm); [ ! -s "$work/out" ] && grep -q '^x.lst: ' "$work/err" && [ ! -e x.lst ] && [ ! -e x.itm ]; judge "make: and of the list" $?
+fresh; printf 'field a 0 8\nless a 5\n' >x.txt; (cd "$work/f" && timeout 20 ${emulator:+"$emulator"} "$loader" --library-path "$tools/lib" "$here/target/bin/program" make x.txt x.lst x.itm >/dev/full) 2>"$work/err"; : >"$work/out"
+silent "make: an output that takes nothing, and items" 'standard output: No space left on device'; [ "$(wc -c <x.lst)" -eq 512 ] && [ "$(wc -c <x.itm)" -eq 512 ]; judge "and both are made" $?
+# What is made is run, on fields a, b and s of 32 bits that start at 0, 40 and 80, every word marked: PYTHON says of the `a` and `b` that a word had which `s` it has
+# now, and whether it is `marked`; `every` are the a of all words.
+works() { # NAME TEXT PYTHON
+    fresh; rm run.lst
+    printf '%b' "field a 0 32\nfield b 40 32\nfield s 80 32\n$2" >x.txt; made_of; mv x.lst run.lst; [ ! -e x.itm ] || mv x.itm in.itm
+    make 'words = [draw.choice((7, 7, 20000, 2 ** 32 - 1, draw.randrange(2 ** 32))).to_bytes(4, "little") + word[4:] for word in words]; data = files.picture(words, registers[:64] + b"\xff" * 32)'
+    run
+    python3 -B - "$here/tests" >"$work/got" 2>&1 <<PYTHON
+import sys
+sys.path.insert(0, sys.argv[1])
+import make_blocks as files
+before, after = ([int.from_bytes(word, 'little') for word in files.words_of(name)] for name in ('before.pic', 'after.pic'))
+most, every, marks = 2 ** 32, [word % 2 ** 32 for word in before], files.marks_of('after.pic')
+for word, (old, new) in enumerate(zip(before, after)):
+    a, b, s = (old >> at & most - 1 for at in (0, 40, 80))
+    $3
+    if new != old & ~(most - 1 << 80) | s << 80 or (word in marks) != marked:
+        print(word, a, b, s, marked)
+PYTHON
+    [ $status -eq 0 ] && [ ! -s "$work/got" ]; judge "$1" $?
+}
+works "run: a sum" 'sum a b into s\n' 's, marked = (a + b) % most, a + b >= most'
+works "run: a difference" 'difference a b into s\n' 's, marked = (a - b) % most, a >= b'
+works "run: a search for equal" 'equal a 7\n' 'marked = a == 7'
+works "run: a search for less" 'less a 20000\n' 'marked = a < 20000'
+works "run: the greatest" 'greatest a\n' 'marked = a == most - 1'
+works "run: a sum, then a search in it" 'sum a b into s\nless s 2000000000\n' 's = (a + b) % most; marked = s < 2000000000'
+works "run: and the greatest of those" 'less a 4294967295\ngreatest a\n' 'marked = a == max(n for n in every if n < most - 1)'
+works "run: two searches, of which the second is the last word" 'equal a 7\nequal a 20000\ndifference b a into s\nless a 7\n' 's = (b - a) % most; marked = a < 7'
 
 # ---- the demonstration: 20 stations, word 13 stored by itself, the highest marked, and the marks resolved
 "$here/staran" >"$work/out" 2>"$work/err"; status=$?

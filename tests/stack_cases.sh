@@ -35,6 +35,7 @@ as_long_as the stack pointer in a form that is not known
 aligned the stack pointer in a form that is not known
 through it is indirect
 on_through it is indirect
+by_either_table it is indirect
 itself calls itself
 each_other calls itself by way of other
 elsewhere puts is not in the library

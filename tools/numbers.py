@@ -26,9 +26,9 @@ the place on every line. It is 0 where the table has none: for done, where no in
 then 13. A step judges 1, 3, 4, 15 and so on. Reading judges the kind asked for (22), 20, then each block in turn, 21 to 24 within it, then 25, then 26, then 15;
 writing 22, 26, 15, 27: in both 15 is of a picture of kind 4 alone. Converting a picture judges the file as reading does, to 25; then, new to old, 15 and 28; then 27.
 A list's builder judges 35, 30, 31, 32, 34, 33, in this order, those of them that it has. Who asks whether a list is isolated is answered 2, 3, 15; then 40.
-The reach of a list judges 2, 3, 15, 27; the showing of a list as text 3, 27. The making of a list from text judges 50; then the text's lines, one word after the
-other, 60 to 69; then 3, 33; and it has line and column instead of a place, both counted from 1, of the word that is wrong, for 69 of the
-line's end; for 50, 3 and 33 both are 0.
+The reach of a list judges 2, 3, 15, 27; the showing of a list as text 3, 27. The making of a list from text judges 50; then the text's lines in turn, one word after the
+other: 60 to 69 and, in statements, 70 to 77, 30, 31, 32 and 34; then 3, 4, 33. It has line and column instead of a place, both counted from 1, of the word that is wrong,
+for 69 of the line's end, for 75 and 77 of the line's first word; for 50, 3, 4 and 33 both are 0.
 A refusal has 0 for all counts and changes nothing that was lent; the program then writes no after.pic.
 10 is not given: since version 4.0 it is 18, 16 or 17.
 

@@ -5,6 +5,7 @@
  *     driver modes     has lists judged and run with mode registers, and counts
  *     driver isolated  asks of lists whether they are isolated, runs those that are, and counts
  *     driver texts     asks of lists what they reach, has them shown, runs stores, and counts
+ *     driver making    has lists made of texts, runs some, and counts
  *     driver searches  builds searches over a field, runs them, and counts
  *     driver closing   builds lists that close up a field and spread it back, runs them, and counts
  *     driver pictures  reads, writes and converts pictures of either kind, and counts
@@ -15,6 +16,7 @@
 #include "judging.h"
 #include "lengths.h"
 #include "lent.h"
+#include "making.h"
 #include "modes.h"
 #include "pictures.h"
 #include "replay.h"
@@ -41,6 +43,8 @@ int main(int count, char **words)
         return isolated();
     if (count == 2 && strcmp(words[1], "texts") == 0)
         return texts();
+    if (count == 2 && strcmp(words[1], "making") == 0)
+        return making();
     if (count == 2 && strcmp(words[1], "searches") == 0)
         return searches();
     if (count == 2 && strcmp(words[1], "closing") == 0)
@@ -49,6 +53,8 @@ int main(int count, char **words)
         return pictures();
     if (count == 2 && strcmp(words[1], "unwritten") == 0)
         return unwritten();
-    fputs("usage: driver cases | driver lengths | driver judging | driver modes | driver isolated | driver texts | driver searches | driver closing | driver pictures | driver unwritten\n", stderr);
+    fputs("usage: driver cases | driver lengths | driver judging | driver modes | driver isolated | driver texts | driver making | driver searches | driver closing | "
+          "driver pictures | driver unwritten\n",
+          stderr);
     return 2;
 }

@@ -458,6 +458,49 @@ static void text_lengths(void)
     function("show");
 }
 
+/* ---- a list made of a text: a search of one bit and a comment, as long as the text is, or a comment alone; so the lengths alone decide */
+
+static const char one_search[] = "field f 0 1\nless f 1\n";
+enum { SEARCH_TEXT = sizeof one_search - 1, SEARCH_LIST = STARAN_SEARCH_LIST_BYTES(1), SEARCH_ITEMS = STARAN_SEARCH_ITEMS_BYTES(1) };
+
+static void make_once(size_t text, size_t list, size_t items, int end)
+{
+    const size_t need = text < SEARCH_TEXT ? 0 : SEARCH_LIST, items_need = text < SEARCH_TEXT ? 0 : SEARCH_ITEMS;
+    uint32_t expected[STARAN_MAKE_NUMBERS] = {0}, *answer;
+    check("make: text %zu, list %zu, items %zu", text, list, items);
+    nothing_lent(end);
+    lend(TEXT, text, end);
+    memset(buffers[TEXT].bytes, ';', text);
+    if (text >= SEARCH_TEXT)
+        memcpy(buffers[TEXT].bytes, one_search, SEARCH_TEXT);
+    memcpy(buffers[TEXT].expected, buffers[TEXT].bytes, text);
+    lend(LIST, list, end);
+    lend(ITEMS, items, end);
+    if (text > 1048576)
+        expected[0] = 50;
+    else if (list < need || items < items_need)
+        expected[0] = 33;
+    else {
+        expected[3] = (uint32_t)need;
+        expected[4] = (uint32_t)items_need;
+        if (need > 0)
+            model_search(1, 0, 1, 1, buffers[LIST].expected, list, buffers[ITEMS].expected, items);
+    }
+    answer = lend_answer(STARAN_MAKE_NUMBERS, end);
+    staran_make(WHOLE(TEXT), WHOLE(LIST), WHOLE(ITEMS), answer);
+    settle(answer, STARAN_MAKE_NUMBERS, expected);
+}
+
+static void make_lengths(void)
+{
+    static const size_t texts[] = {0, 1, SEARCH_TEXT - 1, SEARCH_TEXT, SEARCH_TEXT + 1, 800, 65536, 1048575, 1048576, 1048577, 1048584, 1050000};
+    for (size_t i = 0; i < ENDS * COUNT(texts); i++)
+        for (size_t l = 0; around(SEARCH_LIST, l) != SIZE_MAX; l++)
+            for (size_t k = 0; around(SEARCH_ITEMS, k) != SIZE_MAX; k++)
+                make_once(texts[i / ENDS], around(SEARCH_LIST, l), around(SEARCH_ITEMS, k), (int)(i % ENDS));
+    function("make");
+}
+
 /* ---- disk: kinds, file lengths, targets, damaged blocks */
 
 #define OVER_32_BITS(kind) (((size_t)1 << 32) + (kind))
@@ -717,6 +760,15 @@ static void refused_long(uint8_t *far, size_t long_by)
     lend(LIST, 7, LAST);
     LONG_CALL(reach(WHOLE(REGISTERS), WHOLE(LIST), far, long_by, answer), STARAN_REACH_NUMBERS, 3);
     LONG_CALL(show(WHOLE(LIST), far, long_by, answer), STARAN_SHOW_NUMBERS, 3);
+    LONG_CALL(make(far, long_by + 8, WHOLE(LIST), WHOLE(ITEMS), answer), STARAN_MAKE_NUMBERS, 50);
+    lend_bytes(TEXT, (const uint8_t *)one_search, SEARCH_TEXT - 2, LAST);
+    LONG_CALL(make(WHOLE(TEXT), far, long_by, WHOLE(ITEMS), answer), STARAN_MAKE_NUMBERS, 69, 2, 8);
+    lend_bytes(TEXT, (const uint8_t *)one_search, SEARCH_TEXT, LAST);
+    lend(LIST, SEARCH_LIST - 1, LAST);
+    lend(ITEMS, SEARCH_ITEMS - 1, LAST);
+    LONG_CALL(make(WHOLE(TEXT), far, long_by + SEARCH_LIST, WHOLE(ITEMS), answer), STARAN_MAKE_NUMBERS, 33);
+    LONG_CALL(make(WHOLE(TEXT), WHOLE(LIST), far, long_by + SEARCH_ITEMS, answer), STARAN_MAKE_NUMBERS, 33);
+    lend(TEXT, 0, LAST);
     lend(REGISTERS, 96, LAST);
     LONG_CALL(read_content(STARAN_CONTENT_LIST, far, long_by + 512, WHOLE(OUT), answer), 3, 20);
     LONG_CALL(read_picture(STARAN_CONTENT_PICTURE, far, long_by + 8704, WHOLE(MEMORY), WHOLE(REGISTERS), answer), 3, 20);
@@ -857,6 +909,22 @@ static void texts_long(uint8_t *far, size_t long_by)
     }
 }
 
+/* A list made of a text, into a long list, and with long items. */
+static void made_long(uint8_t *far, size_t long_by, uint8_t *made)
+{
+    nothing_lent(LAST);
+    lend_bytes(TEXT, (const uint8_t *)one_search, SEARCH_TEXT, LAST);
+    lend(ITEMS, SEARCH_ITEMS, LAST);
+    model_search(1, 0, 1, 1, made, SEARCH_LIST, buffers[ITEMS].expected, SEARCH_ITEMS);
+    LONG_CALL(make(WHOLE(TEXT), far, long_by + SEARCH_LIST - 1, WHOLE(ITEMS), answer), STARAN_MAKE_NUMBERS, 0, 0, 0, SEARCH_LIST, SEARCH_ITEMS);
+    written_long(far, long_by, made, SEARCH_LIST);
+    lend(LIST, SEARCH_LIST, LAST);
+    lend(ITEMS, 0, LAST);
+    model_search(1, 0, 1, 1, buffers[LIST].expected, SEARCH_LIST, made, SEARCH_ITEMS);
+    LONG_CALL(make(WHOLE(TEXT), WHOLE(LIST), far, long_by, answer), STARAN_MAKE_NUMBERS, 0, 0, 0, SEARCH_LIST, SEARCH_ITEMS);
+    written_long(far, long_by, made, SEARCH_ITEMS);
+}
+
 /* Where any length will do, a long one is no refusal. */
 static void done_long(uint8_t *far, size_t long_by)
 {
@@ -890,6 +958,7 @@ static void done_long(uint8_t *far, size_t long_by)
     searched_long(far, long_by, made);
     moved_long(far, long_by, made);
     texts_long(far, long_by);
+    made_long(far, long_by, made);
 }
 
 static void long_lengths(void)
@@ -924,6 +993,7 @@ int lengths(void)
     move_lengths("spreading_list", staran_spreading_list, 1);
     isolated_lengths();
     text_lengths();
+    make_lengths();
     read_lengths();
     read_picture_lengths();
     damaged_blocks();

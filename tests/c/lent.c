@@ -10,7 +10,7 @@
 #include <unistd.h>
 
 /* A multiple of every page length that Linux has. */
-enum { PAGE = 65536, ROOM = 2 * PAGE, TEXT_ROOM = 13 * PAGE, GUARD = 64, GUARD_BYTE = 0xC3, POISON = 0xA5 };
+enum { PAGE = 65536, ROOM = 2 * PAGE, TEXT_ROOM = 17 * PAGE, GUARD = 64, GUARD_BYTE = 0xC3, POISON = 0xA5 };
 
 lent buffers[BUFFERS] = {{"memory", 0, 0, 0, 0, 0}, {"registers", 0, 0, 0, 0, 0}, {"list", 0, 0, 0, 0, 0},   {"items", 0, 0, 0, 0, 0},
                          {"out", 0, 0, 0, 0, 0},    {"file", 0, 0, 0, 0, 0},      {"text", 0, 0, 0, 0, 0},   {"answer", 0, 0, 0, 0, 0}};

@@ -18,7 +18,7 @@ typedef struct {
 /* At which end of its room a buffer stands: its first byte behind an untouchable one, or its last byte before one. */
 enum { FIRST, LAST, ENDS };
 
-enum { LONGEST = 70000, LONGEST_TEXT = 800000 }; /* of a buffer, and of the text's */
+enum { LONGEST = 70000, LONGEST_TEXT = 1060000 }; /* of a buffer, and of the text's */
 
 /* The buffers of all calls, and the answer. */
 enum { MEMORY, REGISTERS, LIST, ITEMS, OUT, FILE_BYTES, TEXT, ANSWER, BUFFERS };

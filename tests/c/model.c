@@ -799,3 +799,484 @@ void model_show(const uint8_t *list, size_t list_length, uint8_t *text, size_t t
     memcpy(text, whole, length);
     answer[1] = (uint32_t)length;
 }
+
+/* ---- a list made of a text: a line is taken apart into its words, which are asked for in turn. The first refusal stays; what is asked for behind it does not matter */
+
+enum { MOST_WORDS = 16, MOST_NAMED = 256, MOST_MADE = 32768, LONGEST_BUILT = 5640 }; /* no line that stands has so many words */
+
+static struct {
+    const uint8_t *text;
+    size_t begins, ends; /* the line's first character, and its line feed, its comment or the text's end */
+    size_t words, start[MOST_WORDS], length[MOST_WORDS];
+    size_t now;          /* the word that is asked for */
+    unsigned refused, column;
+} line;
+
+static struct {
+    char name[9];
+    unsigned start, width;
+} named[MOST_NAMED];
+
+static struct {
+    size_t fields;
+    unsigned limit; /* 0 for none */
+    uint8_t modes[4];
+    int taken;      /* does an instruction above take an item? */
+    uint8_t list[MOST_MADE], items[MOST_MADE];
+    size_t list_length, items_length; /* also where they have no room there */
+} made;
+
+static int between(uint8_t c) { return c == ' ' || c == '\t' || c == '\r'; }
+
+/* The line that begins here, and where the next one begins: behind the text's end where there is none. */
+static size_t take_line(const uint8_t *text, size_t length, size_t begins)
+{
+    size_t next = begins, at;
+    memset(&line, 0, sizeof line);
+    line.text = text;
+    line.begins = begins;
+    while (next < length && text[next] != '\n')
+        next++;
+    for (line.ends = begins; line.ends < next && text[line.ends] != ';';)
+        line.ends++;
+    for (at = begins; at < line.ends && line.words < MOST_WORDS; at++) {
+        if (between(text[at]))
+            continue;
+        if (at == begins || between(text[at - 1]))
+            line.start[line.words++] = at;
+        line.length[line.words - 1]++;
+    }
+    return next + 1;
+}
+
+static int at_end(void) { return line.now >= line.words; }
+
+/* Refuses the word that is asked for; where the line has none, the line ends too early. */
+static void refuse(unsigned number)
+{
+    if (line.refused != 0)
+        return;
+    line.refused = at_end() ? 69 : number;
+    line.column = (unsigned)((at_end() ? line.ends : line.start[line.now]) - line.begins + 1);
+}
+
+static int is(const char *name)
+{
+    return !at_end() && line.length[line.now] == strlen(name) && memcmp(line.text + line.start[line.now], name, strlen(name)) == 0;
+}
+
+/* Is it one of these, from 0? */
+static int which(const char *const *names, int n)
+{
+    for (int k = 0; k < n; k++)
+        if (is(names[k]))
+            return k;
+    return -1;
+}
+
+static void demand(const char *name)
+{
+    if (!is(name))
+        refuse(65);
+    line.now++;
+}
+
+/* Has it this many decimal digits at most, and nothing else? They are then put to `digits`, without the zeros in front. */
+static int in_digits(size_t most, char *digits)
+{
+    size_t zeros = 0;
+    if (at_end() || line.length[line.now] > most)
+        return 0;
+    memcpy(digits, line.text + line.start[line.now], line.length[line.now]);
+    digits[line.length[line.now]] = 0;
+    if (strspn(digits, "0123456789") != line.length[line.now])
+        return 0;
+    zeros = strspn(digits, "0");
+    memmove(digits, digits + zeros, strlen(digits) - zeros + 1);
+    return 1;
+}
+
+/* The number, of one to three digits; -1 for none. */
+static int small(void)
+{
+    char digits[4];
+    int number = 0;
+    if (!in_digits(3, digits))
+        return -1;
+    for (const char *d = digits; *d != 0; d++)
+        number = 10 * number + *d - '0';
+    return number;
+}
+
+static unsigned demand_number(int least, int most, unsigned otherwise)
+{
+    const int number = small();
+    if (number < least || number > most)
+        refuse(otherwise);
+    line.now++;
+    return (unsigned)number;
+}
+
+static void read_place(uint8_t *i)
+{
+    static const char *const places[] = {"slice", "word", "mode"};
+    const int place = which(places, 3);
+    if (place < 0)
+        refuse(63);
+    line.now++;
+    i[2] = 1;
+    i[3] = place == 1 ? 255 : 0;
+    if (place == 2 && (is("a") || is("b"))) {
+        i[2] = is("a") ? 2 : 3;
+        line.now++;
+        demand("address");
+    } else if (place == 2) {
+        i[3] = (uint8_t)demand_number(0, 255, 64);
+        demand("address");
+    }
+    i[4] = (uint8_t)demand_number(0, 255, 64);
+}
+
+static void read_register(uint8_t *i)
+{
+    const int k = which(register_names + 1, 4);
+    if (k < 0)
+        refuse(63);
+    i[1] = (uint8_t)(k + 1);
+    line.now++;
+}
+
+static void read_flip(uint8_t *i)
+{
+    if (!is("flip"))
+        return;
+    line.now++;
+    i[5] = (uint8_t)demand_number(0, 255, 64);
+}
+
+static int read_power(const char *const *powers, int n)
+{
+    const int k = which(powers, n);
+    if (k < 0)
+        refuse(66);
+    line.now++;
+    return k;
+}
+
+static void read_moves(uint8_t *i)
+{
+    static const char *const powers[] = {"1", "2", "4", "8", "16", "32", "64", "128", "256"};
+    read_flip(i);
+    if (!is("shift"))
+        return;
+    line.now++;
+    const int m = read_power(powers, 8);
+    demand("mod");
+    const int p = m < 0 ? 0 : read_power(powers + m + 1, 8 - m);
+    i[6] = (uint8_t)(16 * (m + 1 + p) + m);
+}
+
+static void read_source_and_moves(uint8_t *i)
+{
+    if (which(register_names + 1, 4) >= 0)
+        read_register(i);
+    else
+        read_place(i);
+    read_moves(i);
+}
+
+static void read_logic(uint8_t *i)
+{
+    static const char *const choices[] = {"x", "y", "both", "x-if-y", "x-if-y+y"};
+    static const char *const functions[] = {"zero", "nor", "", "not", "clear", "loadnot", "xor", "nand", "and", "xnor", "load", "", "keep", "ornot", "or", "one"};
+    const int choice = which(choices, 5);
+    if (choice < 0)
+        refuse(61);
+    line.now++;
+    const int function = which(functions, 16);
+    i[7] = (uint8_t)(16 * choice + function);
+    if (function >= 0)
+        line.now++;
+    else
+        i[7] = (uint8_t)(16u * (unsigned)choice + demand_number(0, 15, 62));
+    read_source_and_moves(i);
+}
+
+static void read_bytes(uint8_t *i)
+{
+    static const char digits[] = "0123456789abcdefABCDEF";
+    for (int b = 0; b < 8; b++, line.now++) {
+        const uint8_t *w = line.text + line.start[line.now % MOST_WORDS];
+        const int two_long = !at_end() && line.length[line.now] == 2 && w[0] != 0 && w[1] != 0;
+        const char *high = two_long ? strchr(digits, w[0]) : NULL, *low = high != NULL ? strchr(digits, w[1]) : NULL;
+        if (low == NULL) {
+            refuse(68);
+            return;
+        }
+        const long h = high - digits, l = low - digits;
+        i[b] = (uint8_t)(16 * (h < 16 ? h : h - 6) + (l < 16 ? l : l - 6));
+    }
+}
+
+static void demand_end(void)
+{
+    if (!at_end())
+        refuse(67);
+}
+
+/* The line as a whole is refused, where all else of it stands. */
+static void refuse_line(unsigned number)
+{
+    demand_end();
+    line.now = 0;
+    refuse(number);
+}
+
+static void append(const uint8_t *list, size_t list_length, const uint8_t *items, size_t items_length)
+{
+    if (made.list_length + list_length <= MOST_MADE)
+        memcpy(made.list + made.list_length, list, list_length);
+    if (made.items_length + items_length <= MOST_MADE)
+        memcpy(made.items + made.items_length, items, items_length);
+    made.list_length += list_length;
+    made.items_length += items_length;
+}
+
+/* What is over the most is refused in the end, and not built. */
+static int is_built(void) { return made.list_length <= MOST_MADE && made.items_length <= MOST_MADE; }
+
+static void read_instruction(const char *const *names, int kind)
+{
+    uint8_t i[8] = {(uint8_t)kind};
+    line.now++;
+    if (strcmp(names[kind], "bytes") == 0)
+        read_bytes(i);
+    else if (kind == 0)
+        read_logic(i);
+    else if (kind == 1 || kind == 4)
+        read_source_and_moves(i);
+    else if (kind == 2 || kind == 3) {
+        read_place(i);
+        demand("from");
+        read_register(i);
+        read_flip(i);
+    } else if (kind == 6) {
+        i[2] = is("a") ? 2 : 3;
+        if (!is("a") && !is("b"))
+            refuse(63);
+        line.now++;
+        i[3] = (uint8_t)demand_number(0, 255, 64);
+    }
+    demand_end();
+    if (line.refused != 0)
+        return;
+    const int by_register = i[2] == 2 || i[2] == 3, unset = by_register && made.modes[2 * (i[2] - 2)] == 0;
+    if (made.limit != 0 && is_store(i) && (unset || words_met(by_register ? made.modes[2 * (i[2] - 2) + 1] : i[3]) > made.limit)) {
+        refuse_line(75);
+        return;
+    }
+    made.taken |= takes(i);
+    set_mode(i, made.modes);
+    append(i, 8, NULL, 0);
+}
+
+/* The field of that name; how many there are where none has it. */
+static size_t find_field(void)
+{
+    size_t f = 0;
+    while (f < made.fields && !is(named[f].name))
+        f++;
+    return f;
+}
+
+static void name_field(void)
+{
+    const uint8_t *w = at_end() ? line.text : line.text + line.start[line.now];
+    const size_t length = at_end() ? 0 : line.length[line.now];
+    int wrong = length < 1 || length > 8;
+    for (size_t k = 0; k < length; k++)
+        wrong |= w[k] < 33 || w[k] > 126;
+    if (wrong)
+        refuse(70);
+    if (find_field() < made.fields)
+        refuse(71);
+    if (made.fields == MOST_NAMED)
+        refuse(72);
+    line.now++;
+    const unsigned start = demand_number(0, 255, 64), width = (unsigned)small();
+    if (width < 1 || width > 64)
+        refuse(30);
+    if (start + width > 256)
+        refuse(31);
+    line.now++;
+    demand_end();
+    if (line.refused != 0)
+        return;
+    memset(named[made.fields].name, 0, sizeof named->name);
+    memcpy(named[made.fields].name, w, length);
+    named[made.fields].start = start;
+    named[made.fields].width = width;
+    made.fields++;
+}
+
+static size_t demand_field(void)
+{
+    const size_t f = find_field();
+    if (f == made.fields)
+        refuse(73);
+    return f == made.fields ? 0 : f; /* then whatever comes of it is refused */
+}
+
+static void read_sum(int lead)
+{
+    static uint8_t list[LONGEST_BUILT];
+    const size_t a = demand_field();
+    line.now++;
+    const size_t b = demand_field();
+    if (named[b].width != named[a].width)
+        refuse(74);
+    line.now++;
+    demand("into");
+    const size_t s = demand_field();
+    const unsigned n = named[a].width;
+    if (named[s].width != n)
+        refuse(74);
+    if (crosses(named[s].start, named[a].start, n) || crosses(named[s].start, named[b].start, n))
+        refuse(32);
+    line.now++;
+    demand_end();
+    if (line.refused == 0 && made.limit != 0 && made.limit < 256)
+        refuse_line(75);
+    if (line.refused != 0)
+        return;
+    if (is_built())
+        model_list(lead, named[a].start, named[b].start, named[s].start, n, list, sizeof list);
+    append(list, 8 * ((size_t)lead + 5 * n), NULL, 0);
+}
+
+/* Below 2^64, in one to twenty digits? */
+static int read_value(uint64_t *value)
+{
+    char digits[21];
+    *value = 0;
+    if (!in_digits(20, digits) || (strlen(digits) == 20 && strcmp(digits, "18446744073709551615") > 0))
+        return 0;
+    for (const char *d = digits; *d != 0; d++)
+        *value = 10 * *value + (uint64_t)(*d - '0');
+    return 1;
+}
+
+static void read_search(int less)
+{
+    static uint8_t list[LONGEST_BUILT], items[LONGEST_BUILT];
+    uint64_t value = 0;
+    const size_t a = demand_field();
+    line.now++;
+    const unsigned n = named[a].width;
+    if (!read_value(&value))
+        refuse(76);
+    if (n < 64 && value >= (uint64_t)1 << n)
+        refuse(34);
+    line.now++;
+    demand_end();
+    if (line.refused == 0 && made.taken)
+        refuse_line(77);
+    if (line.refused != 0)
+        return;
+    if (is_built())
+        model_search(less, named[a].start, n, value, list, sizeof list, items, sizeof items);
+    append(list, 8 * (2 + 3 * (size_t)n), items, 32 * (size_t)n);
+}
+
+static void read_greatest(void)
+{
+    static uint8_t list[LONGEST_BUILT];
+    const size_t a = demand_field();
+    line.now++;
+    demand_end();
+    if (line.refused != 0)
+        return;
+    if (is_built())
+        model_greatest(named[a].start, named[a].width, list, sizeof list);
+    append(list, 8 * (1 + 11 * (size_t)named[a].width), NULL, 0);
+}
+
+static void read_limit(void)
+{
+    demand("at");
+    demand("most");
+    const unsigned limit = demand_number(1, 256, 64);
+    demand(is("words") ? "words" : "word");
+    demand_end();
+    made.limit = limit;
+}
+
+static void read_line(void)
+{
+    static const char *const instructions[] = {"logic", "setm", "store", "mstore", "deliver", "resolve", "set", "bytes"};
+    static const char *const statements[] = {"field", "sum", "difference", "equal", "less", "greatest", "reach"};
+    const int kind = which(instructions, 8), statement = which(statements, 7);
+    if (at_end())
+        return;
+    if (kind >= 0) {
+        read_instruction(instructions, kind);
+        return;
+    }
+    if (statement < 0)
+        refuse(60);
+    line.now++;
+    switch (statement) {
+    case 0:
+        name_field();
+        break;
+    case 1:
+    case 2:
+        read_sum(statement);
+        break;
+    case 3:
+    case 4:
+        read_search(statement == 4);
+        break;
+    case 5:
+        read_greatest();
+        break;
+    case 6:
+        read_limit();
+    }
+}
+
+void model_make(const uint8_t *text, size_t text_length, uint8_t *list, size_t list_length, uint8_t *items, size_t items_length, uint32_t answer[5])
+{
+    memset(answer, 0, 4 * 5);
+    made.fields = 0;
+    made.limit = 0;
+    made.taken = 0;
+    made.list_length = made.items_length = 0;
+    memset(made.modes, 0, sizeof made.modes);
+    if (text_length > 1048576) {
+        answer[0] = 50;
+        return;
+    }
+    for (size_t begins = 0, number = 1; begins <= text_length; number++) {
+        begins = take_line(text, text_length, begins);
+        read_line();
+        if (line.refused != 0) {
+            answer[0] = line.refused;
+            answer[1] = (uint32_t)number;
+            answer[2] = line.column;
+            return;
+        }
+    }
+    if (made.list_length > MOST_MADE)
+        answer[0] = 3;
+    else if (made.items_length > MOST_MADE)
+        answer[0] = 4;
+    else if (list_length < made.list_length || items_length < made.items_length)
+        answer[0] = 33;
+    if (answer[0] != 0)
+        return;
+    memcpy(list, made.list, made.list_length);
+    memcpy(items, made.items, made.items_length);
+    answer[3] = (uint32_t)made.list_length;
+    answer[4] = (uint32_t)made.items_length;
+}

@@ -82,4 +82,7 @@ void model_isolated(const uint8_t *list, size_t list_length, const uint8_t *regi
 void model_reach(const uint8_t *registers, size_t registers_length, const uint8_t *list, size_t list_length, uint8_t *out, size_t out_length, uint32_t answer[2]);
 void model_show(const uint8_t *list, size_t list_length, uint8_t *text, size_t text_length, uint32_t answer[2]);
 
+/* What is answered of a text that a list is made of, and what then stands in `list` and `items`. */
+void model_make(const uint8_t *text, size_t text_length, uint8_t *list, size_t list_length, uint8_t *items, size_t items_length, uint32_t answer[5]);
+
 #endif

@@ -1,5 +1,5 @@
-/* Replays outside cases through the library: tests/outside/cases/PROTOCOL.md has the form of the cases and of the answers. The cases of `make`, kind 23, are passed over with no answer:
- * the library has no such function. */
+/* Replays outside cases through the library: tests/outside/cases/PROTOCOL.md has the form of the cases and of the answers. The cases of `make`, kind 23, which knows
+ * instructions alone, are passed over with no answer: the library has no such function, but staran_make, which knows statements too, kind 25. */
 #include "replay.h"
 
 #include "lent.h"
@@ -10,7 +10,8 @@
 #include <string.h>
 
 enum { RECORD = 1000, FEWEST_NUMBERS = 5, NUMBERS = 3 + STARAN_RUN_NUMBERS, COUNT = 6, WORDS = NUMBERS + COUNT, REPEAT_FILE = 253, REPEAT = 254, SEAL = 255 };
-enum { RUN, STEP, SUM_RUN = 10, DIFFERENCE_RUN, EQUAL_RUN, LESS_RUN, GREATEST_RUN, CLOSING_RUN, SPREADING_RUN, READ_PICTURE, WRITE_PICTURE, MADE_NEW, MADE_OLD, ISOLATED, SHOWN, MADE_LIST, REACHED, KINDS };
+enum { RUN, STEP, SUM_RUN = 10, DIFFERENCE_RUN, EQUAL_RUN, LESS_RUN, GREATEST_RUN, CLOSING_RUN, SPREADING_RUN };
+enum { READ_PICTURE = SPREADING_RUN + 1, WRITE_PICTURE, MADE_NEW, MADE_OLD, ISOLATED, SHOWN, MADE_LIST, REACHED, ASSEMBLED, KINDS };
 
 /* A case, taken apart: every kind that is known here has COUNT buffers and at most four parameters. */
 typedef struct {
@@ -260,6 +261,11 @@ static unsigned call(const outside_case *c, int end, uint32_t words[WORDS])
         staran_reach(WHOLE(REGISTERS), WHOLE(LIST), WHOLE(OUT), a);
         memcpy(words, a, 4 * STARAN_REACH_NUMBERS);
         return 1u << OUT;
+    case ASSEMBLED:
+        a = lend_answer(STARAN_MAKE_NUMBERS, end);
+        staran_make(WHOLE(FILE_BYTES), WHOLE(LIST), WHOLE(ITEMS), a);
+        memcpy(words, a, 4 * STARAN_MAKE_NUMBERS);
+        return 1u << LIST | 1u << ITEMS;
     default:
         a = lend_answer(3, end);
         staran_write_picture(kind == 9 ? STARAN_CONTENT_PICTURE : p[0], WHOLE(MEMORY), WHOLE(REGISTERS), WHOLE(FILE_BYTES), a);

@@ -1,6 +1,6 @@
-/* A call that is refused, a run of no instructions, what an empty list reaches and its text, and the question whether a list is isolated, whatever its answer, write nothing at all,
- * not even the same bytes back: every buffer but the answer's stands in memory that cannot be written. And what a list reaches, and its text, are written though the list and the
- * registers cannot be. */
+/* A call that is refused, a run of no instructions, what an empty list reaches, its text, a text that makes nothing, and the question whether a list is isolated,
+ * whatever its answer, write nothing at all, not even the same bytes back: every buffer but the answer's stands in memory that cannot be written. And what a list
+ * reaches, its text, and what a text makes are written though the list and the registers, or the text, cannot be. */
 #include "unwritten.h"
 
 #include "checks.h"
@@ -217,6 +217,87 @@ static void texts(void)
     written_texts(list, sizeof list, counts, text);
 }
 
+/* A list made of a text, with room for any. */
+static void make(const char *name, const char *text, size_t length, uint32_t number, uint32_t line, uint32_t column)
+{
+    const uint32_t expected[STARAN_MAKE_NUMBERS] = {number, line, column, 0, 0};
+    for (int end = 0; end < ENDS; end++) {
+        lend_bytes(TEXT, (const uint8_t *)text, length, end);
+        lend(LIST, 65536, end);
+        lend(ITEMS, 65536, end);
+        uint32_t *answer = lend_answer(STARAN_MAKE_NUMBERS, end);
+        shut_rooms();
+        check("make that writes nothing: %s", name);
+        staran_make(WHOLE(TEXT), WHOLE(LIST), WHOLE(ITEMS), answer);
+        expect(answer, STARAN_MAKE_NUMBERS, expected);
+        open_rooms();
+    }
+}
+
+static void make_text(const char *name, const char *text, uint32_t number, uint32_t line, uint32_t column) { make(name, text, strlen(text), number, line, column); }
+
+/* With too little room for what the text makes. */
+static void make_short(const char *text, size_t list, size_t items)
+{
+    const uint32_t expected[STARAN_MAKE_NUMBERS] = {STARAN_REFUSED_LIST_TOO_SHORT, 0, 0, 0, 0};
+    for (int end = 0; end < ENDS; end++) {
+        lend_bytes(TEXT, (const uint8_t *)text, strlen(text), end);
+        lend(LIST, list, end);
+        lend(ITEMS, items, end);
+        uint32_t *answer = lend_answer(STARAN_MAKE_NUMBERS, end);
+        shut_rooms();
+        check("make that writes nothing: room for %zu and %zu", list, items);
+        staran_make(WHOLE(TEXT), WHOLE(LIST), WHOLE(ITEMS), answer);
+        expect(answer, STARAN_MAKE_NUMBERS, expected);
+        open_rooms();
+    }
+}
+
+/* It is done, though the text cannot be written; and, where the text brings no items, though these cannot be either. */
+static void written_list(const char *text, int items_too)
+{
+    uint32_t expected[STARAN_MAKE_NUMBERS];
+    for (int end = 0; end < ENDS; end++) {
+        nothing_lent(end);
+        lend_bytes(TEXT, (const uint8_t *)text, strlen(text), end);
+        lend(LIST, 300, end);
+        lend(ITEMS, 300, end);
+        model_make(WHOLE(TEXT), buffers[LIST].expected, 300, buffers[ITEMS].expected, 300, expected);
+        uint32_t *answer = lend_answer(STARAN_MAKE_NUMBERS, end);
+        shut_room(TEXT);
+        if (!items_too)
+            shut_room(ITEMS);
+        check("make of a text that cannot be written");
+        staran_make(WHOLE(TEXT), WHOLE(LIST), WHOLE(ITEMS), answer);
+        settle(answer, STARAN_MAKE_NUMBERS, expected);
+        open_rooms();
+    }
+}
+
+static void made(void)
+{
+    static const char search[] = "field f 0 2\nless f 1\nresolve\n";
+    static char longer[STARAN_LONGEST_TEXT + 1], many[8 * 4097];
+    memset(longer, '\n', sizeof longer);
+    for (size_t i = 0; i < sizeof many; i++)
+        many[i] = "resolve\n"[i % 8];
+    make_text("no text", "", STARAN_DONE, 0, 0);
+    make("the longest text, of empty lines", longer, sizeof longer - 1, STARAN_DONE, 0, 0);
+    make_text("fields, a limit and a comment", "field f 0 2\n;\nreach at most 1 word", STARAN_DONE, 0, 0);
+    make("a text too long", longer, sizeof longer, STARAN_REFUSED_TEXT_LENGTH, 0, 0);
+    make_text("a wrong word behind good lines", "resolve\nset a 5\nset c 5", STARAN_REFUSED_TEXT_SOURCE, 3, 5);
+    make_text("a wrong word behind a search", "field f 0 2\nless f 1\nequal f 4", STARAN_REFUSED_NUMBER_TOO_LARGE, 3, 9);
+    make_text("a line cut off behind a sum", "field f 0 2\nsum f f into f\nsum f f into", STARAN_REFUSED_TEXT_TOO_EARLY, 3, 13);
+    make_text("a store too wide behind good lines", "resolve\nreach at most 1 word\nstore slice 5 from x", STARAN_REFUSED_TEXT_REACH, 3, 1);
+    make_text("a search behind an item from outside", "field f 0 2\nless f 1\ndeliver outside\nless f 1", STARAN_REFUSED_TEXT_ITEM_ABOVE, 4, 1);
+    make("4,097 instructions", many, sizeof many, STARAN_REFUSED_LIST_LENGTH, 0, 0);
+    make_short(search, 71, 64);
+    make_short(search, 72, 63);
+    make_short(search, 0, 0);
+    written_list(search, 1);
+    written_list("field f 0 2\nsum f f into f\nstore slice 5 from x\nresolve", 0);
+}
+
 /* A refused builder's counts are 0. S has its start at 2n. */
 static void sums(const char *name, uint32_t a, uint32_t b, uint32_t n, size_t short_by, uint32_t number)
 {
@@ -396,6 +477,7 @@ int unwritten(void)
     mode_registers();
     questions();
     texts();
+    made();
     pictures();
     written_pictures();
     sums("a width of 0", 0, 0, 0, 0, STARAN_REFUSED_WIDTH);

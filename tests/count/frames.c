@@ -12,6 +12,7 @@ void by_call(size_t k);
 void by_jump(size_t k);
 void on_a_path(size_t k);
 void by_table(size_t k);
+void by_table_in_turn(size_t k);
 void of_c(size_t k);
 void repeated(size_t k);
 void with_words(size_t a, size_t b, size_t c, size_t d, size_t e, size_t f, size_t g, size_t h, size_t i);
@@ -20,6 +21,7 @@ void as_long_as(size_t k);
 void aligned(size_t k);
 void through(void (*called)(size_t));
 void on_through(void (*called)(size_t));
+void by_either_table(size_t k);
 void itself(size_t k);
 void each_other(size_t k);
 void elsewhere(size_t k);
@@ -93,6 +95,34 @@ APART by_table(size_t k)
     seen = k;
 }
 
+/* Where the table is stands in a register before the first turn, and calls keep it there. */
+APART by_table_in_turn(size_t k)
+{
+    for (size_t turn = 0; turn < k; turn++) {
+        switch (turn * seen % 7) {
+        case 0:
+            in_red_zone(turn);
+            break;
+        case 1:
+            at_index(9);
+            break;
+        case 2:
+            in_frame(27);
+            break;
+        case 3:
+            by_jump(turn);
+            break;
+        case 4:
+            on_a_path(turn);
+            break;
+        case 5:
+            seen = 243;
+            break;
+        }
+        seen = turn;
+    }
+}
+
 APART of_c(size_t k)
 {
     static unsigned char bytes[64];
@@ -135,6 +165,29 @@ APART through(void (*called)(size_t))
 
 APART on_through(void (*called)(size_t)) { called(1); }
 
+/* On one path the register holds the first table, on another the second, which leads on to a call. */
+__asm__(".section .text.by_either_table, \"ax\", @progbits\n"
+        ".globl by_either_table\n"
+        ".type by_either_table, @function\n"
+        "by_either_table:\n"
+        "    push %rbp\n"
+        "    lea first_table(%rip), %rbp\n"
+        "    test %rdi, %rdi\n"
+        "    je 1f\n"
+        "    lea second_table(%rip), %rbp\n"
+        "1:  movslq 0(%rbp, %rdi, 4), %rax\n"
+        "    add %rbp, %rax\n"
+        "    jmp *%rax\n"
+        "2:  call in_frame\n"
+        "3:  pop %rbp\n"
+        "    ret\n"
+        ".size by_either_table, . - by_either_table\n"
+        ".section .rodata.by_either_table, \"a\", @progbits\n"
+        ".balign 4\n"
+        "first_table: .long 3b - first_table\n"
+        "second_table: .long 2b - second_table, 2b - second_table\n"
+        ".text\n");
+
 APART itself(size_t k)
 {
     if (k > 0)
@@ -175,6 +228,7 @@ static const struct {
     {"by_jump", by_jump, 0, 8 + 1000, 32},
     {"on_a_path", on_a_path, 0, 8 + 100 + 8 + 1000, 64}, /* a path that is not taken here */
     {"by_table", by_table, 0, 8 + 8 + 100 + 8 + 1000, 96},
+    {"by_table_in_turn", by_table_in_turn, 9, 8 + 8 + 100 + 8 + 1000, 128},
     {"of_c", of_c, 9, 8 + 8 + 64, 32}, /* with what a function of C is allowed */
     {"repeated", repeated, 4, 5 * (8 + 40), 5 * 24},
 };

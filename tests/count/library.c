@@ -7,6 +7,9 @@
  *     library TIMES isolated INSTRUCTION COUNT  asks whether that list is isolated, with mode register A set so; without INSTRUCTION the list is 4,096 instructions of sum lists
  *     library TIMES reach INSTRUCTION COUNT     asks what that list reaches, in the same way
  *     library TIMES show INSTRUCTION COUNT      has that list shown
+ *     library TIMES make INSTRUCTION COUNT      has a list made of the text of that list
+ *     library TIMES make-sums                   has a list made of a text of 20 sums of 32 bits, of fields by name
+ *     library TIMES make-searches               has a list made of a text of 20 searches of 32 bits, of fields by name
  * tests/count-library runs it. */
 #include "staran.h"
 
@@ -28,6 +31,8 @@ static staran_registers record;
 static uint8_t item[32], passed[32];
 static size_t many_length = LONGEST; /* of what stands in `many` */
 static uint8_t reached[STARAN_REACH_BYTES(LONGEST)], text[STARAN_TEXT_BYTES(LONGEST)];
+static size_t text_length; /* of what stands in `text`, for a list to be made of it */
+static uint8_t made[LONGEST], made_items[LONGEST];
 static uint32_t answer[STARAN_RUN_NUMBERS]; /* the longest of all */
 
 static void equal_list(void) { staran_equal_list(0, WIDTH, NUMBER, equal, sizeof equal, searched, sizeof searched, answer); }
@@ -37,6 +42,7 @@ static void isolated(void) { staran_isolated(many, many_length, registers, sizeo
 static void isolated_sum(void) { staran_isolated(list, sizeof list, registers, sizeof registers, answer); }
 static void reach(void) { staran_reach(registers, sizeof registers, many, many_length, reached, sizeof reached, answer); }
 static void show(void) { staran_show(many, many_length, text, sizeof text, answer); }
+static void make(void) { staran_make(text, text_length, made, sizeof made, made_items, sizeof made_items, answer); }
 static void closing_list(void)
 {
     staran_closing_list(0, 32, WIDTH, marks, sizeof marks, closing, sizeof closing, closing_items, sizeof closing_items, answer);
@@ -89,6 +95,24 @@ static size_t prepare_list(const char *digits, size_t count)
     return STARAN_INSTRUCTION_BYTES * count;
 }
 
+/* The text of what stands in `many`; or eight fields of 32 bits with names of a crew's kind, and 20 lines over them, sums or searches. */
+static void prepare_text(const char *name)
+{
+    static const char *const fields[] = {"height", "shift", "new", "old", "east", "north", "easting2", "north2"};
+    char *at = (char *)text;
+    if (strcmp(name, "make") == 0) {
+        show();
+        text_length = answer[1];
+        return;
+    }
+    for (int f = 0; f < 8; f++)
+        at += sprintf(at, "field %s %d %d\n", fields[f], WIDTH * f, WIDTH);
+    for (int k = 0; k < 20; k++)
+        at += strcmp(name, "make-sums") == 0 ? sprintf(at, "sum %s %s into %s\n", fields[k % 8], fields[(k + 1) % 8], fields[(k + 3) % 8])
+                                             : sprintf(at, "less %s %u\n", fields[k % 8], 20000u + 1000003u * (unsigned)k);
+    text_length = (size_t)(at - (char *)text);
+}
+
 static void run(const uint8_t *instructions, size_t length)
 {
     staran_run_4(memory, sizeof memory, registers, sizeof registers, instructions, length, item, 0, out, sizeof out, answer);
@@ -115,6 +139,7 @@ static void (*later_named(const char *name))(void)
                  {"greatest-list", greatest_list},   {"run-greatest", run_greatest}, {"closing-list", closing_list}, {"run-closing", run_closing},
                  {"spreading-list", spreading_list}, {"run-spreading", run_spreading},
                  {"isolated", isolated}, {"isolated-sum", isolated_sum}, {"reach", reach}, {"show", show},
+                 {"make", make}, {"make-sums", make}, {"make-searches", make},
                  {"read-with-modes", read_with_modes}, {"write-with-modes", write_with_modes}, {"to-new", to_new}, {"to-old", to_old}};
     for (size_t i = 0; i < sizeof later / sizeof *later; i++)
         if (strcmp(name, later[i].name) == 0)
@@ -197,6 +222,8 @@ int main(int count, char **words)
     }
     if (strcmp(words[2], "isolated") == 0 || strcmp(words[2], "reach") == 0)
         registers[96] = 1;
+    if (strncmp(words[2], "make", 4) == 0)
+        prepare_text(words[2]);
     int times = atoi(words[1]);
     void (*later)(void) = later_named(words[2]);
     if (later != NULL) {

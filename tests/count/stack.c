@@ -166,6 +166,69 @@ static void reach(size_t k)
 }
 static void show(size_t k) { CALL(staran_show, ASKED_LIST(k), text, k % ROOMS == 0 ? sizeof text : 7, answer); }
 
+/* ---- lists made of texts: of every form, done and refused with every number, with room and with too little; and of the longest, which are filled in */
+
+#define FIELDS "field a 0 64\nfield b 64 64\nfield s 128 64\nfield w 192 8\n"
+enum { MADE_LIST = 32768, LONG_TEXTS = 6 };
+static uint8_t long_texts[LONG_TEXTS][STARAN_LONGEST_TEXT + 1], made[MADE_LIST], made_items[MADE_LIST];
+static size_t long_lengths[LONG_TEXTS];
+static const char *const texts[] = {
+    "", "\n;\n \t\r\n", "logic x-if-y+y loadnot mode 128 address 255 flip 255 shift 128 mod 256", "logic x 15 outside", "setm mode a address 9 flip 1 shift 1 mod 2",
+    "deliver word 9", "store slice 3 from x flip 9", "mstore mode b address 3 from outside", "resolve", "set a 255\nset b 0",
+    "bytes FF fe 00 aA 01 10 99 7f ; a comment", FIELDS "sum a b into s", FIELDS "difference a b into b", FIELDS "equal a 18446744073709551615",
+    FIELDS "less w 00000000000000000255", FIELDS "greatest a",
+    FIELDS "sum a b into s\nless s 20000\ngreatest s\nreach at most 1 word\nset b 255\nstore mode b address 9 from outside\nbytes 02 00 00 FF 00 00 00 00\ndeliver y",
+    "no", "toolong99", "logic z", "logic x z", "setm z", "set c", "set a 256", "setm mode z", "setm slice 256", "setm mode a z", "store slice 3 z",
+    "store slice 3 from z", "setm x shift 3", "setm x shift 1 z", "setm x shift 2 mod 2", "resolve resolve", "setm x z", "store slice 3 from x shift", "bytes 0",
+    "bytes 00 00 00 00 00 00 00 00 00", "logic", "bytes 00", "set a", "field", "field toolong99", "field \177", FIELDS "field a", "field a z", "field a 0 z",
+    "field a 0 65", "field a 255 2", "field a 0 8 z", "sum z", FIELDS "sum a z", FIELDS "sum a w", FIELDS "sum a b z", FIELDS "sum a b into z", FIELDS "sum a b into w",
+    FIELDS "field x 1 64\nsum a b into x", FIELDS "sum a b into s z", FIELDS "equal z", FIELDS "equal a z", FIELDS "less a 18446744073709551616", FIELDS "less w 256",
+    FIELDS "less w 5 z", FIELDS "greatest z", FIELDS "greatest a z", "reach z", "reach at z", "reach at most z", "reach at most 1 z", "reach at most 1 word z",
+    "reach at most 1 word\nstore slice 3 from x", "reach at most 1 word\nbytes 03 00 02 00 00 00 00 00", FIELDS "reach at most 255 words\nsum a b into s",
+    FIELDS "deliver outside\nequal a 5", FIELDS "bytes 07 04 00 00 00 00 00 00\nless a 5"};
+static size_t text_lengths[COUNT(texts)];
+enum { MADE_ROOMS = 3, MAKES = MADE_ROOMS * (COUNT(texts) + LONG_TEXTS) };
+
+/* So many lines behind those that stand there. */
+static void add_lines(size_t t, const char *line, size_t times)
+{
+    for (; times > 0 && long_lengths[t] + strlen(line) <= sizeof long_texts[t]; times--) {
+        memcpy(long_texts[t] + long_lengths[t], line, strlen(line));
+        long_lengths[t] += strlen(line);
+    }
+}
+
+static void make_texts(void)
+{
+    char line[32];
+    for (size_t t = 0; t < COUNT(texts); t++)
+        text_lengths[t] = strlen(texts[t]);
+    add_lines(0, " ", STARAN_LONGEST_TEXT + 1); /* too long */
+    add_lines(1, FIELDS, 1);
+    add_lines(1, "sum a b into s\n", 13); /* too many instructions */
+    add_lines(2, FIELDS, 1);
+    add_lines(2, "less a 5\n", 17); /* too many items */
+    add_lines(3, FIELDS, 1);
+    add_lines(3, "less a 12345678901234567890\n", 16); /* as many as there may be, and then as many instructions */
+    add_lines(3, "resolve\n", 4096 - 16 * 194);
+    for (int f = 0; f < 256; f++) {
+        snprintf(line, sizeof line, "field %d %d 1\n", f, f);
+        add_lines(4, line, 1);
+        add_lines(5, line, 1);
+    }
+    add_lines(4, "sum 0 128 into 255\nequal 255 1\ngreatest 128\n", 200);
+    add_lines(5, "field z 0 1\n", 1); /* a name too many */
+}
+
+static void make(size_t k)
+{
+    const size_t t = k / MADE_ROOMS;
+    const int fixed = t < COUNT(texts);
+    const size_t length = fixed ? text_lengths[t] : long_lengths[t - COUNT(texts)];
+    CALL(staran_make, fixed ? (const uint8_t *)texts[t] : long_texts[t - COUNT(texts)], length, made, k % MADE_ROOMS == 1 ? 7 : sizeof made, made_items,
+         k % MADE_ROOMS == 2 ? 31 : sizeof made_items, answer);
+}
+
 /* ---- files: what one of the two readers or writers takes, the other refuses, and so with the conversions. Kinds 1 and 4 are pictures, 2 a list, 3 items. Of kind 4 there is
  * one picture with neither mode register set, one with A set, and one with a flag over 1. OTHER_ and a kind is a block of that kind, of 24 bytes, which are no picture */
 
@@ -268,14 +331,16 @@ static void version(size_t k) { (void)k, CALL(staran_version); }
 
 /* ---- each function with its count of parameters, its calls, and the numbers that it gives */
 
-#define NUMBERS(first, last) ((UINT64_C(2) << (last)) - (UINT64_C(1) << (first)))
+typedef unsigned __int128 numbers; /* bit n is for number n */
+enum { GREATEST_NUMBER = 127 };
+#define NUMBERS(first, last) (((numbers)2 << (last)) - ((numbers)1 << (first)))
 #define DONE NUMBERS(0, 0)
 static const struct {
     const char *name;
     size_t parameters;
     void (*call)(size_t);
     size_t calls;
-    uint64_t gives;
+    numbers gives;
 } functions[] = {
     {"staran_run_4", 11, run, RUNS, DONE | NUMBERS(1, 9) | NUMBERS(11, 18)},
     {"staran_step_5", 10, step, RUNS, DONE | NUMBERS(1, 1) | NUMBERS(3, 9) | NUMBERS(11, 18)},
@@ -291,6 +356,7 @@ static const struct {
     {"staran_isolated", 5, isolated, ASKED, DONE | NUMBERS(2, 3) | NUMBERS(15, 15) | NUMBERS(40, 40)},
     {"staran_reach", 7, reach, TEXTS, DONE | NUMBERS(2, 3) | NUMBERS(15, 15) | NUMBERS(27, 27)},
     {"staran_show", 5, show, TEXTS, DONE | NUMBERS(3, 3) | NUMBERS(27, 27)},
+    {"staran_make", 7, make, MAKES, DONE | NUMBERS(3, 4) | NUMBERS(30, 34) | NUMBERS(50, 50) | NUMBERS(60, 77)},
     {"staran_read_content", 6, read_content, COUNT(reads), DONE | NUMBERS(20, 26)},
     {"staran_write_content", 6, write_content, COUNT(writes), DONE | NUMBERS(22, 22) | NUMBERS(26, 27)},
     {"staran_read_picture", 8, read_picture, COUNT(reads), DONE | NUMBERS(15, 15) | NUMBERS(20, 26)},
@@ -309,10 +375,11 @@ int main(void)
     make_instructions();
     make_marks();
     make_files();
+    make_texts();
     staran_sum_list(0, WIDEST, 2 * WIDEST, WIDEST, sum, sizeof sum, answer);
     for (size_t f = 0; f < COUNT(functions); f++) {
         size_t deepest = 0;
-        uint64_t given = 0;
+        numbers given = 0;
         answer[0] = STARAN_DONE;
         for (size_t k = 0; k < functions[f].calls; k++) {
             size_t here = depth(functions[f].call, k, functions[f].parameters);
@@ -320,7 +387,7 @@ int main(void)
             given |= NUMBERS(answer[0], answer[0]);
         }
         printf("%-24s %6zu\n", functions[f].name, deepest);
-        for (unsigned number = 0; number < 64; number++)
+        for (unsigned number = 0; number <= GREATEST_NUMBER; number++)
             if ((given ^ functions[f].gives) >> number & 1) {
                 fprintf(stderr, "%s: %u is%s given\n", functions[f].name, number, given >> number & 1 ? "" : " not");
                 other = 1;

@@ -101,7 +101,7 @@ static void searches(void)
     hold("the longest searches", STARAN_SEARCH_LIST_BYTES(64) == 1552 && STARAN_SEARCH_ITEMS_BYTES(64) == 2048 && STARAN_GREATEST_LIST_BYTES(64) == 5640);
     hold("the numbers of the answers", STARAN_RUN_NUMBERS == 6 && STARAN_DISK_NUMBERS == 3 && STARAN_LIST_NUMBERS == 2 &&
                                            STARAN_LIST_AND_ITEMS_NUMBERS == 3 && STARAN_ISOLATED_NUMBERS == 2 && STARAN_REACH_NUMBERS == 2 &&
-                                           STARAN_SHOW_NUMBERS == 2 && STARAN_PASS_NUMBERS == 1);
+                                           STARAN_SHOW_NUMBERS == 2 && STARAN_MAKE_NUMBERS == 5 && STARAN_PASS_NUMBERS == 1);
 }
 
 /* The closing and the spreading of one bit, from bit 3 to bit 9 and back, by macros and built; words 2 and 3 are marked, which go to words 0 and 1, by 2 each. */
@@ -390,6 +390,70 @@ static void texts(void)
     memset(registers, 0, sizeof registers);
 }
 
+/* The answer of a text, with room for a list of 100 instructions and 32 items. */
+static void made(const char *what, const char *text, uint32_t number, uint32_t line, uint32_t column)
+{
+    uint8_t list[800], items[1024];
+    uint32_t answer[STARAN_MAKE_NUMBERS];
+    staran_make((const uint8_t *)text, strlen(text), list, sizeof list, items, sizeof items, answer);
+    hold(what, answer[0] == number && answer[1] == line && answer[2] == column && (number == STARAN_DONE || (answer[3] == 0 && answer[4] == 0)));
+}
+
+/* The header's four lines, with the builder's list and a store by a macro; and each number that a text can be refused with. */
+static void making(void)
+{
+    static const char header[] = "field height 0 32\n"
+                                 "less height 20000\n"
+                                 "reach at most 1 word\n"
+                                 "store word 13 from outside\n";
+    const uint8_t store[] = {STARAN_STORE(STARAN_SOURCE_OUTSIDE, STARAN_MODE_WORD, 13, STARAN_NO_FLIP)};
+    uint8_t list[STARAN_SEARCH_LIST_BYTES(32) + sizeof store], items[STARAN_SEARCH_ITEMS_BYTES(32)], less[STARAN_SEARCH_LIST_BYTES(32)], less_items[sizeof items];
+    static uint8_t longer[STARAN_LONGEST_TEXT + 1];
+    uint32_t answer[STARAN_MAKE_NUMBERS];
+    staran_less_list(0, 32, 20000, less, sizeof less, less_items, sizeof less_items, answer);
+    staran_make((const uint8_t *)header, strlen(header), list, sizeof list, items, sizeof items, answer);
+    hold("the header's four lines", answer[0] == STARAN_DONE && answer[1] == 0 && answer[2] == 0 && answer[3] == sizeof list && answer[4] == sizeof items);
+    hold("their list", memcmp(list, less, sizeof less) == 0 && memcmp(list + sizeof less, store, sizeof store) == 0);
+    hold("their items", memcmp(items, less_items, sizeof items) == 0);
+    staran_make((const uint8_t *)header, strlen(header), list, sizeof list - 1, items, sizeof items, answer);
+    hold("no room for a list", answer[0] == STARAN_REFUSED_LIST_TOO_SHORT && answer[1] == 0 && answer[2] == 0 && answer[3] == 0 && answer[4] == 0);
+    hold("the longest text", STARAN_LONGEST_TEXT == 1048576);
+    staran_make(longer, sizeof longer, list, sizeof list, items, sizeof items, answer);
+    hold("a text that is longer", answer[0] == STARAN_REFUSED_TEXT_LENGTH && STARAN_REFUSED_TEXT_LENGTH == 50 && answer[1] == 0 && answer[2] == 0);
+#define HEIGHT "field height 0 32\n"
+    made("no such name", "nothing", STARAN_REFUSED_TEXT_NAME, 1, 1);
+    made("no such choice", "logic z", STARAN_REFUSED_TEXT_CHOICE, 1, 7);
+    made("no such function", "logic x nil", STARAN_REFUSED_TEXT_FUNCTION, 1, 9);
+    made("no such source", "resolve\nsetm z", STARAN_REFUSED_TEXT_SOURCE, 2, 6);
+    made("no number", "set a 256", STARAN_REFUSED_TEXT_NUMBER, 1, 7);
+    made("another word", "setm mode a at", STARAN_REFUSED_TEXT_WORD, 1, 13);
+    made("no such shift", "setm x shift 3", STARAN_REFUSED_TEXT_SHIFT, 1, 14);
+    made("too much", "resolve x", STARAN_REFUSED_TEXT_TOO_MUCH, 1, 9);
+    made("no byte", "bytes 0", STARAN_REFUSED_TEXT_BYTE, 1, 7);
+    made("too early", "set a ; 5", STARAN_REFUSED_TEXT_TOO_EARLY, 1, 7);
+    made("no name of a field", "field heightens 0 32", STARAN_REFUSED_TEXT_FIELD_NAME, 1, 7);
+    made("a field named twice", HEIGHT "field height 32 32", STARAN_REFUSED_TEXT_FIELD_TWICE, 2, 7);
+    made("no such field", HEIGHT "greatest depth", STARAN_REFUSED_TEXT_FIELD_UNKNOWN, 2, 10);
+    made("a field of another width", HEIGHT "field x 32 31\nsum height x into x", STARAN_REFUSED_TEXT_FIELD_WIDTH, 3, 12);
+    made("a store that reaches too far", "reach at most 1 word\n store slice 5 from x", STARAN_REFUSED_TEXT_REACH, 2, 2);
+    made("no value", HEIGHT "equal height low", STARAN_REFUSED_TEXT_VALUE, 2, 14);
+    made("an item above a search", HEIGHT "setm outside\nless height 5", STARAN_REFUSED_TEXT_ITEM_ABOVE, 3, 1);
+    made("no width", "field height 0 65", STARAN_REFUSED_WIDTH, 1, 16);
+    made("a field beyond the word", "field height 255 2", STARAN_REFUSED_FIELD_BEYOND, 1, 18);
+    made("fields that cross", HEIGHT "field x 31 32\nsum height height into x", STARAN_REFUSED_FIELDS_CROSS, 3, 24);
+    made("a value too large", HEIGHT "less height 4294967296", STARAN_REFUSED_NUMBER_TOO_LARGE, 2, 13);
+#undef HEIGHT
+    hold("the numbers of a text's words", STARAN_REFUSED_TEXT_NAME == 60 && STARAN_REFUSED_TEXT_CHOICE == 61 && STARAN_REFUSED_TEXT_FUNCTION == 62 &&
+                                              STARAN_REFUSED_TEXT_SOURCE == 63 && STARAN_REFUSED_TEXT_NUMBER == 64 && STARAN_REFUSED_TEXT_WORD == 65 &&
+                                              STARAN_REFUSED_TEXT_SHIFT == 66 && STARAN_REFUSED_TEXT_TOO_MUCH == 67 && STARAN_REFUSED_TEXT_BYTE == 68 &&
+                                              STARAN_REFUSED_TEXT_TOO_EARLY == 69);
+    hold("the numbers of its statements", STARAN_REFUSED_TEXT_FIELD_NAME == 70 && STARAN_REFUSED_TEXT_FIELD_TWICE == 71 && STARAN_REFUSED_TEXT_FIELDS_TOO_MANY == 72 &&
+                                              STARAN_REFUSED_TEXT_FIELD_UNKNOWN == 73 && STARAN_REFUSED_TEXT_FIELD_WIDTH == 74 && STARAN_REFUSED_TEXT_REACH == 75 &&
+                                              STARAN_REFUSED_TEXT_VALUE == 76 && STARAN_REFUSED_TEXT_ITEM_ABOVE == 77);
+    hold("the builders' numbers that it has", STARAN_REFUSED_WIDTH == 30 && STARAN_REFUSED_FIELD_BEYOND == 31 && STARAN_REFUSED_FIELDS_CROSS == 32 &&
+                                                  STARAN_REFUSED_LIST_TOO_SHORT == 33 && STARAN_REFUSED_LIST_LENGTH == 3 && STARAN_REFUSED_ITEMS_LENGTH == 4);
+}
+
 static void refusals(void)
 {
     const uint8_t kind[] = {STARAN_INSTRUCTION(7, 0, 0, 0, 0, 0, 0, 0)}, source[] = {STARAN_STORE(STARAN_SOURCE_MEMORY, 0, 0, 0)};
@@ -441,10 +505,11 @@ int main(void)
     mode_registers();
     isolation();
     texts();
+    making();
     refusals();
     hold("the contents on disk",
          STARAN_CONTENT_PICTURE == 1 && STARAN_CONTENT_LIST == 2 && STARAN_CONTENT_ITEMS == 3 && STARAN_CONTENT_PICTURE_WITH_MODES == 4);
-    hold("the linked version is the header's", staran_version() == STARAN_VERSION && STARAN_VERSION == 327683);
+    hold("the linked version is the header's", staran_version() == STARAN_VERSION && STARAN_VERSION == 327684);
     hold("a number that is never given", strcmp(staran_meaning(100), "no such number is ever given") == 0);
     hold("a number that is not given any more", strcmp(staran_meaning(10), staran_meaning(100)) == 0);
     for (uint32_t number = 0; number <= 100; number++)

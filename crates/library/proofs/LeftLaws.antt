@@ -29,6 +29,9 @@ use Rattle.reach.proofs.Answers.{reach-few}
 use Rattle.text.specs.declared.Shown.{Shown}
 use Rattle.text.specs.Show.{shownAnswer, shownOut}
 use Rattle.text.proofs.RoundTrip.{shown-few}
+use Rattle.assembly.specs.declared.Assembled.{Assembled}
+use Rattle.assembly.specs.Assembly.{assembledAnswer, assembledList, assembledItems}
+use Rattle.assembly.proofs.Bounds.{Bounded as Bounded5, assembled-bounds}
 use Rattle.isolation.proofs.Answers.{place-few}
 use Rattle.contents.specs.declared.Moved.{Moved}
 use Rattle.contents.specs.File.{contentOf}
@@ -36,7 +39,7 @@ use Rattle.contents.specs.Content.{ContentLeft, contentRead, contentWritten}
 use Rattle.contents.proofs.Bounds.{Bounded as Bounded3, answered-bounds, read-bounds, size-small, read-content-bounds, write-content-bounds}
 use Rattle.pictures.specs.Picture.{contentModes, pictureFits, pictureReadRows, pictureWriteRows, PictureLeft, pictureRead, pictureWritten}
 use Rattle.pictures.specs.Conversion.{toNewRows, toOldRows, toNew, toOld}
-use Rattle.library.specs.Left.{six, three, runLeft, stepLeft, PassLeft, passLeft, BufferLeft, builtLeft, sumLeft, differenceLeft, greatestLeft, TwoLeft, builtTwoLeft, equalLeft, lessLeft, closingLeft, spreadingLeft, isolatedLeft, reachLeft, showLeft, movedLeft, readLeft, writeLeft, writePictureLeft, toNewLeft, toOldLeft, TargetsLeft, readPictureLeft}
+use Rattle.library.specs.Left.{six, five, three, runLeft, stepLeft, PassLeft, passLeft, BufferLeft, builtLeft, sumLeft, differenceLeft, greatestLeft, TwoLeft, builtTwoLeft, equalLeft, lessLeft, closingLeft, spreadingLeft, isolatedLeft, reachLeft, showLeft, makeLeft, movedLeft, readLeft, writeLeft, writePictureLeft, toNewLeft, toOldLeft, TargetsLeft, readPictureLeft}
 
 -- ---- the array
 
@@ -144,6 +147,21 @@ module _ (a : Shown) (list : List ℕ) where
       → _≡_ {A = BufferLeft} (record { buffer = text′; answer = w }) (showLeft list text)
   unfolding showLeft
   show-left text text′ w e o d = ap₂ (λ (x y : List ℕ). record { buffer = x; answer = y }) o (d ∙ ap (λ (x : Shown). x .number ∷ x .count ∷ []) e)
+
+-- ---- the list of a text, with its items
+
+module _ (a : Assembled) (text : List ℕ) where
+  pub make-small : (room roomItems : ℕ) → a ≡ assembledAnswer text room roomItems
+      → (a .line ≤ 1048577) × (a .column ≤ 1048577) × (a .list ≤ 32768) × (a .items ≤ 32768)
+  make-small room roomItems e =
+      let s = subst Bounded5 (sym e) (assembled-bounds text room roomItems) in
+      (s .line, s .column, s .list, s .items)
+
+  pub make-left : (list items list′ items′ w : List ℕ) → a ≡ assembledAnswer text (length list) (length items)
+      → list′ ≡ assembledList text list items → items′ ≡ assembledItems text list items → w ≡ five a
+      → _≡_ {A = TwoLeft} (record { list = list′; items = items′; answer = w }) (makeLeft text list items)
+  unfolding makeLeft
+  make-left list items list′ items′ w e l i d = λ t. record { list = l t; items = i t; answer = (d ∙ ap five e) t }
 
 -- ---- lists with their items
 

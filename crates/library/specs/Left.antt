@@ -13,6 +13,8 @@ use Rattle.builders.specs.Building.{BuiltLeft as Built, BuiltTwoLeft as BuiltTw
 use Rattle.isolation.specs.Isolation.{isolationOf}
 use Rattle.reach.specs.Reach.{reachAnswer, reachOut}
 use Rattle.text.specs.Show.{shownAnswer, shownOut}
+use Rattle.assembly.specs.declared.Assembled.{Assembled}
+use Rattle.assembly.specs.Assembly.{assembledAnswer, assembledList, assembledItems}
 use Rattle.contents.specs.declared.Moved.{Moved}
 use Rattle.contents.specs.Content.{ContentLeft, contentRead, contentWritten}
 use Rattle.pictures.specs.Picture.{pictureRead, pictureWritten}
@@ -23,6 +25,10 @@ use Rattle.pictures.specs.Conversion.{toNew, toOld}
 -- "A run gives number, place, steps, items taken and items given"; document 02, Six: the offending byte after the place.
 abbrev pub six : Verdict → List ℕ
 six a = a .number ∷ a .place ∷ a .byte ∷ a .steps ∷ a .taken ∷ a .given ∷ []
+
+-- "`make` gives a number with line and column"; "done has .. the counts of the list's bytes and of the items'" (docs/TEXT.md, Refusals).
+abbrev pub five : Assembled → List ℕ
+five a = a .number ∷ a .line ∷ a .column ∷ a .list ∷ a .items ∷ []
 
 -- "Success gives 0, place 0 and the number of bytes put out; a refusal gives 0 bytes."
 abbrev pub three : Moved → List ℕ
@@ -126,6 +132,16 @@ unfoldable pub showLeft : List ℕ → List ℕ → BufferLeft
 showLeft list text =
     let a = shownAnswer list (length text) in
     record { buffer = shownOut list text; answer = a .number ∷ a .count ∷ [] }
+
+-- ---- the list of a text, with its items: two buffers are written
+
+unfoldable pub makeLeft : List ℕ → List ℕ → List ℕ → TwoLeft
+makeLeft text list items =
+    record {
+      list = assembledList text list items;
+      items = assembledItems text list items;
+      answer = five (assembledAnswer text (length list) (length items));
+    }
 
 -- ---- a picture that is read: two buffers are written
 

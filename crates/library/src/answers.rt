@@ -1,4 +1,5 @@
 // Answers as 32-bit numbers: the entries' own, each small enough.
+use assembly::Assembled;
 use builders::Built;
 use builders::BuiltTwo;
 use contents::Moved;
@@ -6,7 +7,7 @@ use isolation::Isolation;
 ghost use mathlib.Core.Path.{_≡_};
 ghost use mathlib.Core.List.{[], _∷_};
 ghost use Prim.Native.Nat.{_≤_};
-ghost use Rattle.library.specs.Left.{six, three};
+ghost use Rattle.library.specs.Left.{six, five, three};
 
 // Number, place, byte, steps, taken, given.
 pub fn six(a: judge::Answer) -> [u32; 6]
@@ -29,6 +30,20 @@ pub fn put_six(a: judge::Answer, answer: &mut [u32; 6])
     ensures { λ _. ⌜ now (answer .exit) ≡ six a ⌝ }
 {
     *answer = six(a);
+}
+
+// Number, line, column, bytes of the list, bytes of the items.
+pub fn five(a: Assembled) -> [u32; 5]
+    requires { ⌜ (a .line ≤ 1048577) × (a .column ≤ 1048577) × (a .list ≤ 32768) × (a .items ≤ 32768) ⌝ }
+    ensures { λ r. ⌜ r ≡ five a ⌝ }
+{
+    [
+        a.number as u32,
+        a.line as u32,
+        a.column as u32,
+        a.list as u32,
+        a.items as u32,
+    ]
 }
 
 // Number, place, bytes put out.

@@ -5,7 +5,7 @@ mod answers;
 
 use registers::Registers;
 ghost use mathlib.Core.Path.{_≡_};
-ghost use Rattle.library.specs.Left.{runLeft, stepLeft, passLeft, sumLeft, differenceLeft, equalLeft, lessLeft, greatestLeft, closingLeft, spreadingLeft, isolatedLeft, reachLeft, showLeft, readLeft, writeLeft, readPictureLeft, writePictureLeft, toNewLeft, toOldLeft, version};
+ghost use Rattle.library.specs.Left.{runLeft, stepLeft, passLeft, sumLeft, differenceLeft, equalLeft, lessLeft, greatestLeft, closingLeft, spreadingLeft, isolatedLeft, reachLeft, showLeft, makeLeft, readLeft, writeLeft, readPictureLeft, writePictureLeft, toNewLeft, toOldLeft, version};
 
 // A run of an instruction list. The 4 is the version since which the answer has six numbers: a program compiled for five does not link.
 #[no_mangle]
@@ -219,6 +219,16 @@ pub extern "C" fn staran_show(list: &[u8], text: &mut [u8], answer: &mut [u32; 2
     *answer = answers::number_and_count(r.number, r.count);
 }
 
+// The list of a text, with its items.
+#[no_mangle]
+pub extern "C" fn staran_make(text: &[u8], list: &mut [u8], items: &mut [u8], answer: &mut [u32; 5])
+    ensures { λ _. ⌜ record { list = now (list .exit); items = now (items .exit); answer = now (answer .exit) }
+        ≡ makeLeft (now (text .entry)) (now (list .entry)) (now (items .entry)) ⌝ }
+{
+    let r = assembly::assemble(text, list, items);
+    *answer = answers::five(r);
+}
+
 // Reads the blocks of a list or of items.
 #[no_mangle]
 pub extern "C" fn staran_read_content(
@@ -304,7 +314,7 @@ pub extern "C" fn staran_picture_to_old(bytes: &[u8], out: &mut [u8], answer: &m
 // The version of the library that is linked, to be held to the header's.
 #[no_mangle]
 pub extern "C" fn staran_version() -> u32
-    ensures { λ r. ⌜ r ≡ version 5 3 ⌝ }
+    ensures { λ r. ⌜ r ≡ version 5 4 ⌝ }
 {
-    327683
+    327684
 }

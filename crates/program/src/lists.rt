@@ -1,10 +1,11 @@
-// Lists as text, both ways: the text of a list's file printed, and a list's file made of that of a text. docs/TEXT.md.
+// Lists as text, both ways: the text of a list's file printed, and the files of a list and of its items made of that of a text. docs/TEXT.md.
 //
-// What is printed is `text::showing::show`, what is made `text::making::make`, in the blocks of `contents`, and all three are proved; here are the system's calls alone.
+// What is printed is `text::showing::show`, what is made `assembly::assemble`, in the blocks of `contents`, and all three are proved; here are the system's calls alone.
 use super::files::answer;
 use super::files::bytes_of;
 use super::files::front;
 use super::files::made;
+use contents::ITEMS;
 use contents::LIST;
 use contents::read_content;
 use contents::write_content;
@@ -49,7 +50,7 @@ fn show_file(bytes: &[u8]) {
 }
 
 // The list's file that is named.
-pub(crate) fn show(name: &[u8]) {
+fn show(name: &[u8]) {
     let mut buffer = [0u8; 34305];
     let found = bytes_of(name, &mut buffer);
     match found {
@@ -59,32 +60,61 @@ pub(crate) fn show(name: &[u8]) {
     }
 }
 
-// The file of a list: whether it stands.
-fn made_of(list: &[u8], to: &[u8]) -> bool {
+// The file of a list or of items: whether it stands.
+fn made_of(kind: usize, content: &[u8], to: &[u8]) -> bool {
     let mut out = [0u8; 34304];
-    let r = write_content(LIST, list, &mut out);
+    let r = write_content(kind, content, &mut out);
     made(to, front(&out, r.bytes))
 }
 
-// A list's file made of a text: its line, m, number, line, column and the list's bytes, is printed once the file stands, or where the text is refused.
-fn make_list(lines: &[u8], to: &[u8]) {
+// Both files, or none; a list that brings no items has none of them.
+fn both_made(list: &[u8], items: &[u8], to: &[u8], beside: &[u8]) -> bool {
+    if !made_of(LIST, list, to) {
+        return false;
+    }
+    if items.len() == 0 {
+        return true;
+    }
+    if made_of(ITEMS, items, beside) {
+        return true;
+    }
+    os::unlink(to);
+    false
+}
+
+// A list and its items made of a text: the line, m, number, line, column and the bytes of each, is printed once the files stand, or where the text is refused.
+fn make_list(lines: &[u8], to: &[u8], beside: &[u8]) {
     let mut list = [0u8; 32768];
-    let r = text::making::make(lines, &mut list);
+    let mut items = [0u8; 32768];
+    let r = assembly::assemble(lines, &mut list, &mut items);
     if r.number == 0 {
-        if !made_of(front(&list, r.count), to) {
+        if !both_made(front(&list, r.list), front(&items, r.items), to, beside) {
             return;
         }
     }
-    answer(b"m", &[r.number as usize, r.line, r.column, r.count], b"");
+    answer(
+        b"m",
+        &[r.number as usize, r.line, r.column, r.list, r.items],
+        b"",
+    );
 }
 
-// The text's file that is named, and the list's that is to be made.
-pub(crate) fn make(from: &[u8], to: &[u8]) {
+// The text's file that is named, and those of the list and of its items that are to be made.
+fn make(from: &[u8], to: &[u8], beside: &[u8]) {
     let mut buffer = text_room();
     let found = bytes_of(from, &mut buffer);
     match found {
         Found::Absent => {}
         Found::Failed => {}
-        Found::Bytes(n) => make_list(front(&buffer, n), to),
+        Found::Bytes(n) => make_list(front(&buffer, n), to, beside),
+    }
+}
+
+// Either way. Both are called through here, from two places, so that the compiler does not join the rooms for a text to `main`, whose stack every run in a folder would then have: tests/program_cases.sh holds it to less.
+pub(crate) fn turn(shown: bool, from: &[u8], to: &[u8], beside: &[u8]) {
+    if shown {
+        show(from);
+    } else {
+        make(from, to, beside);
     }
 }

@@ -1,4 +1,4 @@
-// The program: a run in the folder that it is started in; or, with words behind its name, a picture's file converted, a list shown as text, or a list made of a text.
+// The program: a run in the folder that it is started in; or, with words behind its name, a picture's file converted, a list shown as text, or a list and its items made of a text.
 mod convert;
 mod files;
 mod folder;

@@ -1,7 +1,6 @@
 // The words behind the program's name: what is asked for, and of which files.
 use super::convert::convert;
-use super::lists::make;
-use super::lists::show;
+use super::lists::turn;
 use libc::STDERR_FILENO;
 
 // Is the word this one?
@@ -22,7 +21,7 @@ fn is(word: &[u8], name: &[u8]) -> bool {
 // Does what a word asks for of one file: whether there is such a word.
 fn of_one(word: &[u8], file: &[u8]) -> bool {
     if is(word, b"show") {
-        show(file);
+        turn(true, file, b"", b"");
         return true;
     }
     false
@@ -38,20 +37,28 @@ fn of_two(word: &[u8], from: &[u8], to: &[u8]) -> bool {
         convert(false, from, to);
         return true;
     }
+    false
+}
+
+// The same of a file and two that are to be made.
+fn of_three(word: &[u8], from: &[u8], to: &[u8], beside: &[u8]) -> bool {
     if is(word, b"make") {
-        make(from, to);
+        turn(false, from, to, beside);
         return true;
     }
     false
 }
 
 // The same by how many words there are, the program's name among them.
-fn of_so_many(count: usize, word: &[u8], from: &[u8], to: &[u8]) -> bool {
+fn of_so_many(count: usize, word: &[u8], from: &[u8], to: &[u8], beside: &[u8]) -> bool {
     if count == 3 {
         return of_one(word, from);
     }
     if count == 4 {
         return of_two(word, from, to);
+    }
+    if count == 5 {
+        return of_three(word, from, to, beside);
     }
     false
 }
@@ -61,14 +68,22 @@ pub(crate) fn asked() {
     let mut word = [0u8; 5];
     let mut from = [0u8; 4096];
     let mut to = [0u8; 4096];
+    let mut beside = [0u8; 4096];
     let w = os::arg(1, &mut word);
     let f = os::arg(2, &mut from);
     let t = os::arg(3, &mut to);
-    if of_so_many(os::arg_count(), &word[..w], &from[..f], &to[..t]) {
+    let b = os::arg(4, &mut beside);
+    if of_so_many(
+        os::arg_count(),
+        &word[..w],
+        &from[..f],
+        &to[..t],
+        &beside[..b],
+    ) {
         return;
     }
     io::write_all(
         STDERR_FILENO,
-        b"new or old, a file and the file to be made; show and a list; make, a text and the list to be made; or no word at all\n",
+        b"new or old, a file and the file to be made; show and a list; make, a text, and the files of list and items to be made; or no word at all\n",
     );
 }

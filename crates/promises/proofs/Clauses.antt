@@ -28,13 +28,14 @@ use Rattle.isolation.proofs.isolated as isolated
 use Rattle.reach.proofs.reach as reach
 use Rattle.text.proofs.showing.show as show
 use Rattle.text.proofs.making.make as make
+use Rattle.assembly.proofs.assemble as assemble
 use Rattle.contents.proofs.read_content as read_content
 use Rattle.contents.proofs.write_content as write_content
 use Rattle.pictures.proofs.read_picture as read_picture
 use Rattle.pictures.proofs.write_picture as write_picture
 use Rattle.pictures.proofs.convert.to_new as to_new
 use Rattle.pictures.proofs.convert.to_old as to_old
-use Rattle.library.specs.Left.{sumLeft, differenceLeft, equalLeft, lessLeft, greatestLeft, closingLeft, spreadingLeft, reachLeft, showLeft, readLeft, writeLeft, writePictureLeft, toNewLeft, toOldLeft}
+use Rattle.library.specs.Left.{sumLeft, differenceLeft, equalLeft, lessLeft, greatestLeft, closingLeft, spreadingLeft, reachLeft, showLeft, makeLeft, readLeft, writeLeft, writePictureLeft, toNewLeft, toOldLeft}
 use Rattle.library.proofs.staran_run_4 as library_run
 use Rattle.library.proofs.staran_step_5 as library_step
 use Rattle.library.proofs.staran_pass as staran_pass
@@ -49,6 +50,7 @@ use Rattle.library.proofs.staran_spreading_list as staran_spreading_list
 use Rattle.library.proofs.staran_isolated as staran_isolated
 use Rattle.library.proofs.staran_reach as staran_reach
 use Rattle.library.proofs.staran_show as staran_show
+use Rattle.library.proofs.staran_make as staran_make
 use Rattle.library.proofs.staran_read_content as staran_read_content
 use Rattle.library.proofs.staran_write_content as staran_write_content
 use Rattle.library.proofs.staran_read_picture as staran_read_picture
@@ -56,7 +58,7 @@ use Rattle.library.proofs.staran_write_picture as staran_write_picture
 use Rattle.library.proofs.staran_picture_to_new as staran_picture_to_new
 use Rattle.library.proofs.staran_picture_to_old as staran_picture_to_old
 use Rattle.library.proofs.staran_version as staran_version
-use Rattle.promises.specs.Clauses.{Run, Step, Pass, SumList, DifferenceList, EqualList, LessList, GreatestList, ClosingList, SpreadingList, Isolated, ReachAnswer, ReachBytes, ShowAnswer, ShowText, MakeAnswer, MakeBytes, ReadContent, WriteContent, ReadPicture, WritePicture, ToNew, ToOld, LibraryRun, LibraryStep, LibraryPass, LibraryBuffer, LibraryTwo, LibraryIsolated, LibraryReadPicture, LibraryVersion}
+use Rattle.promises.specs.Clauses.{Run, Step, Pass, SumList, DifferenceList, EqualList, LessList, GreatestList, ClosingList, SpreadingList, Isolated, ReachAnswer, ReachBytes, ShowAnswer, ShowText, MakeAnswer, MakeBytes, AssembleAnswer, AssembleList, AssembleItems, ReadContent, WriteContent, ReadPicture, WritePicture, ToNew, ToOld, LibraryRun, LibraryStep, LibraryPass, LibraryBuffer, LibraryTwo, LibraryIsolated, LibraryReadPicture, LibraryVersion}
 
 module _ {M : Type 1} (𝓤 : URA M) (H : Heap 𝓤) (A : Atoms 𝓤) (memory : Memory → SProp 𝓤) (runs : Routine → Fun 𝓤) where
   open Connectives (connectives 𝓤) using (⌜_⌝, ⊤ₛ, _∗_)
@@ -121,7 +123,7 @@ module _ {M : Type 1} (𝓤 : URA M) (H : Heap 𝓤) (A : Atoms 𝓤) (memory : 
       ⌜ Isolated (now (a .0)) (now (a .1 .0)) r ⌝)
   isolated-clauses κs a g r e = (refl, refl)
 
-  -- of each of two clauses its own
+  -- of each of several clauses its own
   pub reach-clauses : Says reach.ended (reach.clauses 𝓤 H A memory runs) (λ κs a r e.
       ⌜ ReachAnswer (now (a .0)) (now (a .1 .0)) (now (a .1 .1 .0)) r ⌝ ∗ ⌜ ReachBytes (now (a .0)) (now (a .1 .0)) (now (a .1 .1 .0)) (now (e .1 .1 .0)) ⌝)
   reach-clauses κs a g r e = (refl, refl)
@@ -133,6 +135,12 @@ module _ {M : Type 1} (𝓤 : URA M) (H : Heap 𝓤) (A : Atoms 𝓤) (memory : 
   pub make-clauses : Says make.ended (make.clauses 𝓤 H A memory runs) (λ κs a r e.
       ⌜ MakeAnswer (now (a .0)) (now (a .1 .0)) r ⌝ ∗ ⌜ MakeBytes (now (a .0)) (now (a .1 .0)) (now (e .1 .0)) ⌝)
   make-clauses κs a g r e = (refl, refl)
+
+  pub assemble-clauses : Says assemble.ended (assemble.clauses 𝓤 H A memory runs) (λ κs a r e.
+      ⌜ AssembleAnswer (now (a .0)) (now (a .1 .0)) (now (a .1 .1 .0)) r ⌝
+      ∗ (⌜ AssembleList (now (a .0)) (now (a .1 .0)) (now (a .1 .1 .0)) (now (e .1 .0)) ⌝
+      ∗ ⌜ AssembleItems (now (a .0)) (now (a .1 .0)) (now (a .1 .1 .0)) (now (e .1 .1 .0)) ⌝))
+  assemble-clauses κs a g r e = (refl, refl)
 
   pub read-content-clauses : Says read_content.ended (read_content.clauses 𝓤 H A memory runs) (λ κs a r e.
       ⌜ ReadContent (a .0) (now (a .1 .0)) (now (a .1 .1 .0)) (now (e .1 .1 .0)) r ⌝)
@@ -217,6 +225,10 @@ module _ {M : Type 1} (𝓤 : URA M) (H : Heap 𝓤) (A : Atoms 𝓤) (memory : 
   pub library-show-clauses : Says staran_show.ended (staran_show.clauses 𝓤 H A memory runs) (λ κs a r e.
       ⌜ LibraryBuffer (showLeft (now (a .0)) (now (a .1 .0))) (now (e .1 .0)) (now (e .1 .1 .0)) ⌝)
   library-show-clauses κs a g r e = (refl, refl)
+
+  pub library-make-clauses : Says staran_make.ended (staran_make.clauses 𝓤 H A memory runs) (λ κs a r e.
+      ⌜ LibraryTwo (makeLeft (now (a .0)) (now (a .1 .0)) (now (a .1 .1 .0))) (now (e .1 .0)) (now (e .1 .1 .0)) (now (e .1 .1 .1 .0)) ⌝)
+  library-make-clauses κs a g r e = (refl, refl)
 
   pub library-read-content-clauses : Says staran_read_content.ended (staran_read_content.clauses 𝓤 H A memory runs) (λ κs a r e.
       ⌜ LibraryBuffer (readLeft (a .0) (now (a .1 .0)) (now (a .1 .1 .0))) (now (e .1 .1 .0)) (now (e .1 .1 .1 .0)) ⌝)

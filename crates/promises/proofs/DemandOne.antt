@@ -1,13 +1,13 @@
 -- Demand 1 of specs/DemandOne.antt: its tables from the crates' laws, and its fields from the promises. Assumes nothing.
 use mathlib.Core.Path.{_≡_, refl, sym, ap, subst, subst₂, _∙_}
-use mathlib.Core.Bool.{Bool, true, false, cond, not}
+use mathlib.Core.Bool.{Bool, true, false, cond, not, _||_, true≢false}
 use mathlib.Core.List.{List, [], _∷_}
 use mathlib.Core.Logic.{_↔_, _≢_}
 use Prim.Native.Nat.{ℕ, _*_, _<_, _≤_}
 use native.Mathlib.Omega.{arith}
 use lib.Dec.{eqb, ltb}
 use lib.ListN.{length, drop}
-use borrow.Author.Tests.{eqb-true, eqb-false, ne-eqb}
+use borrow.Author.Tests.{eqb-true, eqb-false, ne-eqb, ltb-false}
 use Rattle.bits.specs.Rows.{Row, row, numberOf, NoRow, FirstRow}
 use Rattle.bits.proofs.Rows.{numbered, among, none-number, number-none, first-number, number-first}
 use Rattle.network.specs.declared.Passed.{Passed}
@@ -49,6 +49,9 @@ use Rattle.text.specs.declared.Made.{Made}
 use Rattle.text.specs.Show.{shownText, shownAs, shownAnswer, shownOut}
 use Rattle.text.specs.Make.{lastOf, madeBytes, lineAt, columnAt, answer as madeAs, refusedAt, madeAnswer, madeOut}
 use Rattle.text.proofs.LineNumbers.{line-numbers}
+use Rattle.assembly.specs.declared.Assembled.{Assembled}
+use Rattle.assembly.specs.Assembly.{outcomeOf, madeList, madeItems, answer as assembledAs, assembledAnswer, assembledList, assembledItems}
+use Rattle.assembly.proofs.Bounds.{outcome-numbers}
 use Rattle.contents.specs.declared.Moved.{Moved}
 use Rattle.contents.specs.File.{contentOf, blockCount, blocksOf}
 use Rattle.contents.specs.Content.{answered, readAnswer, changed, over, targetFits, contentFits, readRows, writeRows, ContentLeft, contentRead, contentWritten}
@@ -57,9 +60,9 @@ use Rattle.contents.proofs.Numbers as blocks
 use Rattle.pictures.specs.Picture.{pictureOf, scrambled, contentModes, pictureFits, pictureReadRows, pictureRead, pictureWriteRows, pictureWritten}
 use Rattle.pictures.specs.Conversion.{newContent, oldContent, toNewRows, toOldRows, toNew, toOld}
 use Rattle.pictures.proofs.PictureLaws.{both-parts}
-use Rattle.library.specs.Left.{six, three, runLeft, stepLeft, PassLeft, passLeft, BufferLeft, sumLeft, differenceLeft, movedLeft, TwoLeft, builtTwoLeft, equalLeft, lessLeft, greatestLeft, closingLeft, spreadingLeft, isolatedLeft, reachLeft, showLeft, readLeft, writeLeft, writePictureLeft, toNewLeft, toOldLeft, TargetsLeft, readPictureLeft}
-use Rattle.promises.specs.Clauses.{Run, Step, SumList, DifferenceList, GreatestList, ClosingList, SpreadingList, Isolated, Reach, Show, Make, ReadContent, WriteContent, ReadPicture, WritePicture, ToNew, ToOld, LibraryRun, LibraryStep, LibraryPass, LibraryBuffer, LibraryTwo, LibraryIsolated, LibraryReadPicture}
-use Rattle.promises.specs.DemandOne.{AnswerTable, RunTable, StepTable, PassTable, ListTable, TwoTable, FieldsTable, SearchTable, GreatestTable, MovingTable, ClosingTable, SpreadingTable, IsolatedTable, CountTable, ReachTable, ShowTable, lineNumber, MakeTable, ReadTable, WriteTable, ReadContentTable, WriteContentTable, ReadPictureTable, WritePictureTable, ToNewTable, ToOldTable, Kept, AllKept, DemandOne}
+use Rattle.library.specs.Left.{six, five, three, runLeft, stepLeft, PassLeft, passLeft, BufferLeft, sumLeft, differenceLeft, movedLeft, TwoLeft, builtTwoLeft, equalLeft, lessLeft, greatestLeft, closingLeft, spreadingLeft, isolatedLeft, reachLeft, showLeft, makeLeft, readLeft, writeLeft, writePictureLeft, toNewLeft, toOldLeft, TargetsLeft, readPictureLeft}
+use Rattle.promises.specs.Clauses.{Run, Step, SumList, DifferenceList, GreatestList, ClosingList, SpreadingList, Isolated, Reach, Show, Make, Assemble, ReadContent, WriteContent, ReadPicture, WritePicture, ToNew, ToOld, LibraryRun, LibraryStep, LibraryPass, LibraryBuffer, LibraryTwo, LibraryIsolated, LibraryReadPicture}
+use Rattle.promises.specs.DemandOne.{AnswerTable, RunTable, StepTable, PassTable, ListTable, TwoTable, FieldsTable, SearchTable, GreatestTable, MovingTable, ClosingTable, SpreadingTable, IsolatedTable, CountTable, ReachTable, ShowTable, lineNumber, MakeTable, ofLines, AssembleTable, ReadTable, WriteTable, ReadContentTable, WriteContentTable, ReadPictureTable, WritePictureTable, ToNewTable, ToOldTable, Kept, AllKept, DemandOne}
 
 -- ---- the tables, from the laws
 
@@ -202,6 +205,85 @@ make-table text room =
     let t = made-table text (lineNumber text) ((lastOf text) .start) size ofLine
     (ltb 1048576 (length text)) (eqb (lineNumber text) 0) (ltb mostBytes size) (ltb room size) refl in
     record { counted = t .0; ofLine = ofLine; placed = t .1 .placed; unplaced = t .1 .unplaced }
+
+-- that of a text with statements: `number` is its lines', with their row and column, `size` and `itemsSize` are the counts of the bytes that it makes; `long`, `sound`, `many`, `manyItems` and `short` are the tests, of a text whose lines have no number `sound`
+module _ (number at column size itemsSize : ℕ) where
+  abbrev rows-of : Bool → Bool → Bool → Bool → Bool → List Row
+  rows-of long sound many manyItems short = row 50 long ∷ row number (not sound) ∷ row 3 many ∷ row 4 manyItems ∷ row 33 short ∷ []
+
+  abbrev assembled-by : Bool → Bool → Bool → Bool → Bool → Assembled
+  assembled-by long sound many manyItems short =
+      cond long (assembledAs 50 0 0 0 0)
+      (cond sound
+      (cond many (assembledAs 3 0 0 0 0) (cond manyItems (assembledAs 4 0 0 0 0) (cond short (assembledAs 33 0 0 0 0) (assembledAs 0 0 0 size itemsSize))))
+      (assembledAs number at column 0 0))
+
+  -- where the number is 0 no row holds, since the lines' row holds only where their number is not 0
+  none-of : (long sound many manyItems short : Bool) → eqb number 0 ≡ sound
+      → numberOf (rows-of long sound many manyItems short) ≡ 0 → NoRow (rows-of long sound many manyItems short)
+  none-of true sound many manyItems short e z = absurd (omega (arith, z))
+  none-of false true true manyItems short e z = absurd (omega (arith, z))
+  none-of false true false true short e z = absurd (omega (arith, z))
+  none-of false true false false true e z = absurd (omega (arith, z))
+  none-of false true false false false e z = (refl, (refl, (refl, (refl, (refl, tt)))))
+  none-of false false many manyItems short e z = absurd (eqb-false number 0 e z)
+
+  -- both counts, and the place
+  record Stated (rows : List Row) (r : Assembled) : Type 0 where
+    counted : CountTable rows size (r .number) (r .list)
+    countedItems : CountTable rows itemsSize (r .number) (r .items)
+    placed : ofLines (r .number) ≡ true → (r .line ≡ at) × (r .column ≡ column)
+    unplaced : ofLines (r .number) ≡ false → (r .line ≡ 0) × (r .column ≡ 0)
+
+  module _ (rows : List Row) (none : numberOf rows ≡ 0 → NoRow rows) where
+    -- a number that is none of a line's
+    bare : (n : ℕ) → n ≡ numberOf rows → n ≢ 0 → ofLines n ≡ false → Stated rows (assembledAs n 0 0 0 0)
+    bare n e u f = record {
+      counted = count-table rows size n 0 none e (λ z. absurd (u z)) (λ v. refl);
+      countedItems = count-table rows itemsSize n 0 none e (λ z. absurd (u z)) (λ v. refl);
+      placed = λ t. absurd (true≢false (sym t ∙ f));
+      unplaced = λ t. (refl, refl);
+    }
+
+    -- the lines'
+    lined : number ≡ numberOf rows → number ≢ 0 → ofLines number ≡ true → Stated rows (assembledAs number at column 0 0)
+    lined e u f = record {
+      counted = count-table rows size number 0 none e (λ z. absurd (u z)) (λ v. refl);
+      countedItems = count-table rows itemsSize number 0 none e (λ z. absurd (u z)) (λ v. refl);
+      placed = λ t. (refl, refl);
+      unplaced = λ t. absurd (true≢false (sym f ∙ t));
+    }
+
+    -- none
+    whole : 0 ≡ numberOf rows → Stated rows (assembledAs 0 0 0 size itemsSize)
+    whole e = record {
+      counted = count-table rows size 0 size none e (λ z. refl) (λ v. absurd (v refl));
+      countedItems = count-table rows itemsSize 0 itemsSize none e (λ z. refl) (λ v. absurd (v refl));
+      placed = λ t. absurd (true≢false (sym t));
+      unplaced = λ t. (refl, refl);
+    }
+
+  stated : (long sound many manyItems short : Bool) → eqb number 0 ≡ sound → (long ≡ false → number ≢ 0 → ofLines number ≡ true)
+      → Stated (rows-of long sound many manyItems short) (assembled-by long sound many manyItems short)
+  stated true sound many manyItems short e f = bare _ (none-of true sound many manyItems short e) 50 refl (λ z. omega (arith, z)) refl
+  stated false true true manyItems short e f = bare _ (none-of false true true manyItems short e) 3 refl (λ z. omega (arith, z)) refl
+  stated false true false true short e f = bare _ (none-of false true false true short e) 4 refl (λ z. omega (arith, z)) refl
+  stated false true false false true e f = bare _ (none-of false true false false true e) 33 refl (λ z. omega (arith, z)) refl
+  stated false true false false false e f = whole _ (none-of false true false false false e) refl
+  stated false false many manyItems short e f =
+      let u = eqb-false number 0 e in
+      lined _ (none-of false false many manyItems short e) refl u (f refl u)
+
+assemble-table : (text : List ℕ) (room roomItems : ℕ) → AssembleTable text room roomItems (assembledAnswer text room roomItems)
+unfolding assembledAnswer
+assemble-table text room roomItems =
+    let o = outcomeOf text in
+    let size = length (madeList text) in
+    let itemsSize = length (madeItems text) in
+    let t = stated (o .number) (o .line) (o .column) size itemsSize
+    (ltb 1048576 (length text)) (eqb (o .number) 0) (ltb mostBytes size) (ltb mostBytes itemsSize) (ltb room size || ltb roomItems itemsSize)
+    refl (λ e. outcome-numbers text (ltb-false 1048576 (length text) e)) in
+    record { counted = t .counted; countedItems = t .countedItems; ofLine = outcome-numbers text; placed = t .placed; unplaced = t .unplaced }
 
 read-table : (kind : ℕ) (bytes : List ℕ) (rows : List Row) (put : ℕ) → numbered rows ≡ true → ReadTable kind bytes rows put (readAnswer kind bytes rows put)
 read-table kind bytes rows put t =
@@ -517,6 +599,17 @@ make-meets text out out′ r (e, h) = (
   λ u. h ∙ untouched (madeAnswer text (length out) .number) _ out (λ z. u (ap (λ (x : Made). x .number) e ∙ z)),
 )
 
+assemble-meets : (text list items list′ items′ : List ℕ) (r : Assembled) → Assemble text list items list′ items′ r
+    → AssembleTable text (length list) (length items) r × Kept (r .number) list list′ × Kept (r .number) items items′
+unfolding assembledList assembledItems
+assemble-meets text list items list′ items′ r (e, l, i) =
+    let a = assembledAnswer text (length list) (length items) in
+    let n = ap (λ (x : Assembled). x .number) e in (
+      subst (AssembleTable text (length list) (length items)) (sym e) (assemble-table text (length list) (length items)),
+      λ u. l ∙ untouched (a .number) _ list (λ z. u (n ∙ z)),
+      λ u. i ∙ untouched (a .number) _ items (λ z. u (n ∙ z)),
+    )
+
 library-reach : (registers list out out′ answer′ : List ℕ) → LibraryBuffer (reachLeft registers list out) out′ answer′
     → (r : Reached) × (answer′ ≡ r .number ∷ r .count ∷ []) × ReachTable registers list (length out) r × Kept (r .number) out out′
 unfolding reachLeft
@@ -532,6 +625,15 @@ library-show list text text′ answer′ h =
     let r = shownAnswer list (length text) in
     let m = show-meets list text text′ r (refl, ap (λ (l : BufferLeft). l .buffer) h) in
     (r, ap (λ (l : BufferLeft). l .answer) h, m .0, m .1)
+
+library-make : (text list items list′ items′ answer′ : List ℕ) → LibraryTwo (makeLeft text list items) list′ items′ answer′
+    → (r : Assembled) × (answer′ ≡ five r) × AssembleTable text (length list) (length items) r
+    × Kept (r .number) list list′ × Kept (r .number) items items′
+unfolding makeLeft
+library-make text list items list′ items′ answer′ h =
+    let r = assembledAnswer text (length list) (length items) in
+    let m = assemble-meets text list items list′ items′ r (refl, ap (λ (l : TwoLeft). l .list) h, ap (λ (l : TwoLeft). l .items) h) in
+    (r, ap (λ (l : TwoLeft). l .answer) h, m .0, m .1, m .2)
 
 -- of a buffer and three numbers, by what the entry behind them meets
 library-moved : (Table : Moved → Type 0) (l : ContentLeft) (before buffer′ answer′ : List ℕ) → LibraryBuffer (movedLeft l) buffer′ answer′
@@ -602,6 +704,7 @@ demand-one =
       reach = reach-meets;
       show = show-meets;
       make = make-meets;
+      assemble = assemble-meets;
       readContent = read-meets;
       writeContent = write-meets;
       readPicture = read-picture-meets;
@@ -621,6 +724,7 @@ demand-one =
       libraryIsolated = library-isolated;
       libraryReach = library-reach;
       libraryShow = library-show;
+      libraryMake = library-make;
       libraryReadContent = library-read;
       libraryWriteContent = library-write;
       libraryReadPicture = library-read-picture;

@@ -67,6 +67,10 @@ followed f e h = λ i. (e i, (h ∙ ap f e) i)
 both : {A B : Type 0} {r x : A} {t y : B} → r ≡ x → t ≡ y → _≡_ {A = A × B} (r, t) (x, y)
 both e h = λ i. (e i, h i)
 
+-- an answer and two buffers
+all-three : {A B C : Type 0} {r x : A} {t y : B} {u z : C} → r ≡ x → t ≡ y → u ≡ z → _≡_ {A = A × B × C} (r, t, u) (x, y, z)
+all-three e h k = λ i. (e i, h i, k i)
+
 -- where bytes end that are put into a buffer, and the buffer
 put-told : (k : ℕ) (ys xs : List ℕ) {e : ℕ} {xs′ : List ℕ} → Put k ys xs e xs′ → _≡_ {A = ℕ × List ℕ} (e, xs′) (k + length ys, putAt k ys xs)
 put-told k ys xs p = both (p .behind) (p .left)
@@ -97,6 +101,7 @@ module _ {M : Type 1} (𝓤 : URA M) (H : Heap 𝓤) (A : Atoms 𝓤) (memory : 
         reach = record { told = _; tells = λ κs a g r e. two 𝓤 _ _ _ both };
         show = record { told = _; tells = λ κs a g r e. two 𝓤 _ _ _ both };
         make = record { told = _; tells = λ κs a g r e. two 𝓤 _ _ _ both };
+        assemble = record { told = _; tells = λ κs a g r e. three 𝓤 _ _ _ _ all-three };
         readContent = equation 𝓤 _ (λ κs a g r e. refl);
         writeContent = equation 𝓤 _ (λ κs a g r e. refl);
         readPicture = equation 𝓤 _ (λ κs a g r e. refl);
@@ -122,6 +127,7 @@ module _ {M : Type 1} (𝓤 : URA M) (H : Heap 𝓤) (A : Atoms 𝓤) (memory : 
         isolated = equation 𝓤 _ (λ κs a g r e. refl);
         reach = equation 𝓤 _ (λ κs a g r e. refl);
         show = equation 𝓤 _ (λ κs a g r e. refl);
+        make = equation 𝓤 _ (λ κs a g r e. refl);
         readContent = equation 𝓤 _ (λ κs a g r e. refl);
         writeContent = equation 𝓤 _ (λ κs a g r e. refl);
         readPicture = equation 𝓤 _ (λ κs a g r e. refl);

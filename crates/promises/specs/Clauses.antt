@@ -22,6 +22,8 @@ use Rattle.text.specs.declared.Shown.{Shown}
 use Rattle.text.specs.declared.Made.{Made}
 use Rattle.text.specs.Show.{shownAnswer, shownOut}
 use Rattle.text.specs.Make.{madeAnswer, madeOut}
+use Rattle.assembly.specs.declared.Assembled.{Assembled}
+use Rattle.assembly.specs.Assembly.{assembledAnswer, assembledList, assembledItems}
 use Rattle.contents.specs.declared.Moved.{Moved}
 use Rattle.contents.specs.Content.{ContentLeft, contentRead, contentWritten}
 use Rattle.pictures.specs.Picture.{PictureLeft, pictureRead, pictureWritten}
@@ -82,7 +84,7 @@ SpreadingList a s n marks list items list′ items′ r =
 abbrev pub Isolated : (list registers : List ℕ) → Isolation → Type 0
 Isolated list registers r = r ≡ isolationOf list registers
 
--- ---- what a list reaches, and its text: a contract here has two clauses, of the answer and of the buffer
+-- ---- what a list reaches, and its text: a contract here has a clause of the answer and one of each buffer
 
 -- `reach::reach`
 abbrev pub ReachAnswer : (registers list out : List ℕ) → Reached → Type 0
@@ -113,6 +115,19 @@ MakeBytes text out out′ = out′ ≡ madeOut text out
 
 abbrev pub Make : (text out out′ : List ℕ) → Made → Type 0
 Make text out out′ r = MakeAnswer text out r × MakeBytes text out out′
+
+-- `assembly::assemble`
+abbrev pub AssembleAnswer : (text list items : List ℕ) → Assembled → Type 0
+AssembleAnswer text list items r = r ≡ assembledAnswer text (length list) (length items)
+
+abbrev pub AssembleList : (text list items list′ : List ℕ) → Type 0
+AssembleList text list items list′ = list′ ≡ assembledList text list items
+
+abbrev pub AssembleItems : (text list items items′ : List ℕ) → Type 0
+AssembleItems text list items items′ = items′ ≡ assembledItems text list items
+
+abbrev pub Assemble : (text list items list′ items′ : List ℕ) → Assembled → Type 0
+Assemble text list items list′ items′ r = AssembleAnswer text list items r × AssembleList text list items list′ × AssembleItems text list items items′
 
 -- ---- the disk
 
@@ -162,7 +177,7 @@ LibraryPass item flip code passed′ answer′ = _≡_ {A = PassLeft} (record { 
 abbrev pub LibraryBuffer : BufferLeft → (buffer′ answer′ : List ℕ) → Type 0
 LibraryBuffer l buffer′ answer′ = _≡_ {A = BufferLeft} (record { buffer = buffer′; answer = answer′ }) l
 
--- `staran_equal_list`, `staran_less_list`, `staran_closing_list` and `staran_spreading_list`, which write a list and its items
+-- `staran_equal_list`, `staran_less_list`, `staran_closing_list`, `staran_spreading_list` and `staran_make`, which write a list and its items
 abbrev pub LibraryTwo : TwoLeft → (list′ items′ answer′ : List ℕ) → Type 0
 LibraryTwo l list′ items′ answer′ = _≡_ {A = TwoLeft} (record { list = list′; items = items′; answer = answer′ }) l
 
@@ -175,6 +190,6 @@ abbrev pub LibraryReadPicture : (kind : ℕ) (bytes memory registers memory′ r
 LibraryReadPicture kind bytes memory registers memory′ registers′ answer′ =
     _≡_ {A = TargetsLeft} (record { memory = memory′; registers = registers′; answer = answer′ }) (readPictureLeft kind bytes memory registers)
 
--- `staran_version`: 5.3
+-- `staran_version`: 5.4
 abbrev pub LibraryVersion : ℕ → Type 0
-LibraryVersion r = r ≡ version 5 3
+LibraryVersion r = r ≡ version 5 4

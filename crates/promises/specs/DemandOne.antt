@@ -1,12 +1,12 @@
--- Demand 1, on a page: "Every public entry takes arbitrary bytes and lengths, and ends. A list is judged whole before its first instruction acts. A refusal gives the number and place that document 01 fixes, exactly when it says, and no lent byte has changed." Document 02, Six: "Demand 1 reads with the finer table", and a run's or step's refusal gives the offending byte; Seven adds 14 and 15, Eight 28 and 15 in pictures, Fourteen 40; docs/TEXT.md has the numbers of reach, show and make.
+-- Demand 1, on a page: "Every public entry takes arbitrary bytes and lengths, and ends. A list is judged whole before its first instruction acts. A refusal gives the number and place that document 01 fixes, exactly when it says, and no lent byte has changed." Document 02, Six: "Demand 1 reads with the finer table", and a run's or step's refusal gives the offending byte; Seven adds 14 and 15, Eight 28 and 15 in pictures, Fourteen 40; docs/TEXT.md has the numbers of reach, of show, and of making a text, with statements (`assemble`) and of instructions alone (`make`).
 -- A record states each table of document 01; `DemandOne`, below them, has a field for each public entry and for each function of the library. A table is a list of rows with their numbers, in the order in which they are judged; `FirstRow rows n` says that row n is the first that holds, and `FirstByteRow rows n b` also that its condition about byte b is the first of its conditions that does. The names are those of specs/. It is proved in proofs/DemandOne.antt, and assumes nothing.
 -- What is lent is any list of bytes, and a kind, a start or a width any number: no contract of an entry has a `requires`, so no field has a condition on them. That an entry ends is part of every check. A name with ′ is what a buffer lent for writing holds afterwards; one lent for reading cannot change. What stands before a field's last arrow is the entry's promise, its contract's clauses as specs/Clauses.antt has them.
 use mathlib.Core.Path.{_≡_}
-use mathlib.Core.Bool.{true, false, not}
+use mathlib.Core.Bool.{Bool, true, false, not, _&&_, _||_}
 use mathlib.Core.List.{List, [], _∷_}
 use mathlib.Core.Logic.{_↔_, _≢_}
 use Prim.Native.Nat.{ℕ, _*_, _/_, _^_, _<_, _≤_}
-use lib.Dec.{eqb, ltb}
+use lib.Dec.{eqb, ltb, leb}
 use lib.ListN.{length, replicate}
 use Rattle.bits.specs.Rows.{Row, row, NoRow, FirstRow}
 use Rattle.network.specs.declared.Passed.{Passed}
@@ -40,6 +40,8 @@ use Rattle.text.specs.declared.Shown.{Shown}
 use Rattle.text.specs.declared.Made.{Made}
 use Rattle.text.specs.Show.{shownText}
 use Rattle.text.specs.Make.{numberOf, lastOf, madeBytes, lineAt, columnAt}
+use Rattle.assembly.specs.declared.Assembled.{Assembled}
+use Rattle.assembly.specs.Assembly.{outcomeOf, madeList, madeItems}
 use Rattle.blocks.specs.Block.{blockBytes}
 use Rattle.contents.specs.declared.Moved.{Moved}
 use Rattle.contents.specs.File.{pictureKind, modesPictureKind, contentOf, sizeFits, blockCount}
@@ -47,8 +49,8 @@ use Rattle.contents.specs.Content.{targetFits, contentFits, readRows, writeRows
 use Rattle.contents.specs.Numbers.{Answers, Sound, ReadRefused}
 use Rattle.pictures.specs.Picture.{pictureFile, contentModes, pictureFits, pictureReadRows, pictureWriteRows}
 use Rattle.pictures.specs.Conversion.{toNewRows, toOldRows}
-use Rattle.library.specs.Left.{six, three, sumLeft, differenceLeft, equalLeft, lessLeft, greatestLeft, closingLeft, spreadingLeft, reachLeft, showLeft, readLeft, writeLeft, writePictureLeft, toNewLeft, toOldLeft}
-use Rattle.promises.specs.Clauses.{Run, Step, Pass, SumList, DifferenceList, EqualList, LessList, GreatestList, ClosingList, SpreadingList, Isolated, Reach, Show, Make, ReadContent, WriteContent, ReadPicture, WritePicture, ToNew, ToOld, LibraryRun, LibraryStep, LibraryPass, LibraryBuffer, LibraryTwo, LibraryIsolated, LibraryReadPicture, LibraryVersion}
+use Rattle.library.specs.Left.{six, five, three, sumLeft, differenceLeft, equalLeft, lessLeft, greatestLeft, closingLeft, spreadingLeft, reachLeft, showLeft, makeLeft, readLeft, writeLeft, writePictureLeft, toNewLeft, toOldLeft}
+use Rattle.promises.specs.Clauses.{Run, Step, Pass, SumList, DifferenceList, EqualList, LessList, GreatestList, ClosingList, SpreadingList, Isolated, Reach, Show, Make, Assemble, ReadContent, WriteContent, ReadPicture, WritePicture, ToNew, ToOld, LibraryRun, LibraryStep, LibraryPass, LibraryBuffer, LibraryTwo, LibraryIsolated, LibraryReadPicture, LibraryVersion}
 
 -- ---- Network: "a zero item where byte 6 is none of the 37, and otherwise 0 and the passed item"; document 02, Six: "16, group over 256 lines; 17, m not below p in a byte 6 that is not 0", in this order
 pub record PassTable (lines : List ℕ) (flip code : ℕ) (r : Passed) : Type 0 where
@@ -171,6 +173,31 @@ pub record MakeTable (text : List ℕ) (room : ℕ) (r : Made) : Type 0 where
   -- of 50, 3 and 33, and where the list is made, "line and column are 0"
   pub unplaced : r .number < 60 → (r .line ≡ 0) × (r .column ≡ 0)
 
+-- The numbers of a line that is an instruction or a statement: 60 to 77, and of the builders' 30 to 32 and 34.
+abbrev pub ofLines : ℕ → Bool
+ofLines n = (leb 60 n && leb n 77) || ((leb 30 n && leb n 32) || eqb n 34)
+
+-- Of a text whose lines are instructions or statements: `outcomeOf` is what its lines come to, the first that is refused or what they make. "They are judged in this order: 50; the lines in turn ..; 3; 4; 33." 33 is for either buffer, `room` and `roomItems` are their lengths.
+abbrev pub assembleRows : (text : List ℕ) (room roomItems : ℕ) → List Row
+assembleRows text room roomItems =
+    row 50 (ltb 1048576 (length text))
+    ∷ row (outcomeOf text .number) (not (eqb (outcomeOf text .number) 0))
+    ∷ row 3 (ltb mostBytes (length (madeList text)))
+    ∷ row 4 (ltb mostBytes (length (madeItems text)))
+    ∷ row 33 (ltb room (length (madeList text)) || ltb roomItems (length (madeItems text)))
+    ∷ []
+
+pub record AssembleTable (text : List ℕ) (room roomItems : ℕ) (r : Assembled) : Type 0 where
+  -- the number, with the count of the bytes of the list and with that of the items
+  pub counted : CountTable (assembleRows text room roomItems) (length (madeList text)) (r .number) (r .list)
+  pub countedItems : CountTable (assembleRows text room roomItems) (length (madeItems text)) (r .number) (r .items)
+  -- of a text that 50 does not refuse, so that 50, 3, 4 and 33 are none of them
+  pub ofLine : length text ≤ 1048576 → outcomeOf text .number ≢ 0 → ofLines (outcomeOf text .number) ≡ true
+  -- "`make` gives a number with line and column .. of the first line that is refused"
+  pub placed : ofLines (r .number) ≡ true → (r .line ≡ outcomeOf text .line) × (r .column ≡ outcomeOf text .column)
+  -- of 50, 3, 4 and 33, and where the list is made, "line and column are 0"
+  pub unplaced : ofLines (r .number) ≡ false → (r .line ≡ 0) × (r .column ≡ 0)
+
 -- ---- Blocks on disk: "Place is the block for 21 to 24, else 0"
 
 -- Reading, and converting: `ReadRefused` has the tables and their order, the rows of a block are `blockRows`; `rows` are what is asked of a file that stands, and `put` the bytes that are put out.
@@ -269,6 +296,9 @@ pub record DemandOne : Type 0 where
   pub show : (list text text′ : List ℕ) (r : Shown) → Show list text text′ r → ShowTable list (length text) r × Kept (r .number) text text′
   -- `make`
   pub make : (text out out′ : List ℕ) (r : Made) → Make text out out′ r → MakeTable text (length out) r × Kept (r .number) out out′
+  -- `assemble`
+  pub assemble : (text list items list′ items′ : List ℕ) (r : Assembled) → Assemble text list items list′ items′ r
+      → AssembleTable text (length list) (length items) r × Kept (r .number) list list′ × Kept (r .number) items items′
   -- `read_content`, of a list or items
   pub readContent : (kind : ℕ) (bytes target target′ : List ℕ) (r : Moved)
       → ReadContent kind bytes target target′ r
@@ -330,6 +360,10 @@ pub record DemandOne : Type 0 where
   -- `staran_show`
   pub libraryShow : (list text text′ answer′ : List ℕ) → LibraryBuffer (showLeft list text) text′ answer′
       → (r : Shown) × (answer′ ≡ r .number ∷ r .count ∷ []) × ShowTable list (length text) r × Kept (r .number) text text′
+  -- `staran_make`
+  pub libraryMake : (text list items list′ items′ answer′ : List ℕ) → LibraryTwo (makeLeft text list items) list′ items′ answer′
+      → (r : Assembled) × (answer′ ≡ five r) × AssembleTable text (length list) (length items) r
+      × Kept (r .number) list list′ × Kept (r .number) items items′
   -- `staran_read_content`
   pub libraryReadContent : (kind : ℕ) (bytes target target′ answer′ : List ℕ) → LibraryBuffer (readLeft kind bytes target) target′ answer′
       → (r : Moved) × (answer′ ≡ three r) × ReadContentTable kind bytes target r × Kept (r .number) target target′
@@ -350,5 +384,5 @@ pub record DemandOne : Type 0 where
       → (r : Moved) × (answer′ ≡ three r) × ToNewTable bytes out r × Kept (r .number) out out′
   pub libraryToOld : (bytes out out′ answer′ : List ℕ) → LibraryBuffer (toOldLeft bytes out) out′ answer′
       → (r : Moved) × (answer′ ≡ three r) × ToOldTable bytes out r × Kept (r .number) out out′
-  -- `staran_version` has no number of the tables: 5.3, and nothing else
-  pub libraryVersion : (r : ℕ) → LibraryVersion r → r ≡ 327683
+  -- `staran_version` has no number of the tables: 5.4, and nothing else
+  pub libraryVersion : (r : ℕ) → LibraryVersion r → r ≡ 327684

@@ -108,6 +108,8 @@ use Rattle.text.specs.declared.Shown.{Shown}
 use Rattle.text.specs.declared.Made.{Made}
 use Rattle.text.proofs.showing.show as show
 use Rattle.text.proofs.making.make as make
+use Rattle.assembly.specs.declared.Assembled.{Assembled}
+use Rattle.assembly.proofs.assemble as assemble
 use Rattle.blocks.proofs.two_at as two_at
 use Rattle.blocks.proofs.fault as block_fault
 use Rattle.blocks.proofs.seal as seal
@@ -143,6 +145,7 @@ use Rattle.library.proofs.staran_spreading_list as staran_spreading_list
 use Rattle.library.proofs.staran_isolated as staran_isolated
 use Rattle.library.proofs.staran_reach as staran_reach
 use Rattle.library.proofs.staran_show as staran_show
+use Rattle.library.proofs.staran_make as staran_make
 use Rattle.library.proofs.staran_read_content as staran_read_content
 use Rattle.library.proofs.staran_write_content as staran_write_content
 use Rattle.library.proofs.staran_read_picture as staran_read_picture
@@ -206,6 +209,8 @@ module _ {M : Type 1} (𝓤 : URA M) (H : Heap 𝓤) (A : Atoms 𝓤) (memory : 
     pub show : OneOutcome 𝓤 show.ended (show.clauses 𝓤 H A memory runs) {O = Shown × List ℕ} (λ κs r e. (r, now (e .1 .0)))
     -- `text::making::make`
     pub make : OneOutcome 𝓤 make.ended (make.clauses 𝓤 H A memory runs) {O = Made × List ℕ} (λ κs r e. (r, now (e .1 .0)))
+    -- `assembly::assemble`
+    pub assemble : OneOutcome 𝓤 assemble.ended (assemble.clauses 𝓤 H A memory runs) {O = Assembled × List ℕ × List ℕ} (λ κs r e. (r, now (e .1 .0), now (e .1 .1 .0)))
     -- `contents::read_content`
     pub readContent : OneOutcome 𝓤 read_content.ended (read_content.clauses 𝓤 H A memory runs) {O = ContentLeft} (λ κs r e. record { answer = r; buffer = now (e .1 .1 .0) })
     -- `contents::write_content`
@@ -235,6 +240,7 @@ module _ {M : Type 1} (𝓤 : URA M) (H : Heap 𝓤) (A : Atoms 𝓤) (memory : 
     pub isolated : OneOutcome 𝓤 staran_isolated.ended (staran_isolated.clauses 𝓤 H A memory runs) (λ κs r e. now (e .1 .1 .0))
     pub reach : OneOutcome 𝓤 staran_reach.ended (staran_reach.clauses 𝓤 H A memory runs) {O = BufferLeft} (λ κs r e. record { buffer = now (e .1 .1 .0); answer = now (e .1 .1 .1 .0) })
     pub show : OneOutcome 𝓤 staran_show.ended (staran_show.clauses 𝓤 H A memory runs) {O = BufferLeft} (λ κs r e. record { buffer = now (e .1 .0); answer = now (e .1 .1 .0) })
+    pub make : OneOutcome 𝓤 staran_make.ended (staran_make.clauses 𝓤 H A memory runs) {O = TwoLeft} (λ κs r e. record { list = now (e .1 .0); items = now (e .1 .1 .0); answer = now (e .1 .1 .1 .0) })
     pub readContent : OneOutcome 𝓤 staran_read_content.ended (staran_read_content.clauses 𝓤 H A memory runs) {O = BufferLeft} (λ κs r e. record { buffer = now (e .1 .1 .0); answer = now (e .1 .1 .1 .0) })
     pub writeContent : OneOutcome 𝓤 staran_write_content.ended (staran_write_content.clauses 𝓤 H A memory runs) {O = BufferLeft} (λ κs r e. record { buffer = now (e .1 .1 .0); answer = now (e .1 .1 .1 .0) })
     pub readPicture : OneOutcome 𝓤 staran_read_picture.ended (staran_read_picture.clauses 𝓤 H A memory runs) {O = TargetsLeft} (λ κs r e. record { memory = now (e .1 .1 .0); registers = now (e .1 .1 .1 .0); answer = now (e .1 .1 .1 .1 .0) })

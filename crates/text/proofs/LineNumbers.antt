@@ -1,10 +1,11 @@
--- The number of a line that is refused is one of 60 to 69, whatever its text. Assumes nothing.
-use mathlib.Core.Path.{_≡_, refl}
+-- The number of a line is one of 60 to 69 where it is refused, else 0, whatever its text. Assumes nothing.
+use mathlib.Core.Path.{_≡_, refl, sym, ap, ap₂, _∙_}
 use mathlib.Core.Bool.{Bool, true, false, cond, not, _&&_, _||_, true≢false}
 use mathlib.Core.List.{List, [], _∷_, _++_}
-use Prim.Native.Nat.{ℕ, _+_, _≤_}
+use Prim.Native.Nat.{ℕ, _+_, _<_, _≤_}
+use native.Mathlib.Omega.{arith}
 use lib.Dec.{eqb, ltb, leb}
-use borrow.Author.Tests.{ne-eqb, leb-true}
+use borrow.Author.Tests.{ne-eqb, le-ltb, leb-true}
 use Rattle.bits.specs.Search.{indexOf}
 use Rattle.bits.proofs.Rows.{taken, and-left, and-right}
 use Rattle.spelling.specs.Tables.{heads, choices, functions, sources, modeRegisters, places, powers, addressWord, fromWord, flipWord, shiftWord, modWord}
@@ -14,15 +15,15 @@ use Rattle.lines.specs.declared.Line.{Line}
 use Rattle.lines.specs.declared.Phase.{Phase}
 use Rattle.lines.specs.declared.Phase.the-variants.{Head, Choice, Function, Source, Place, Mode, AddressWord, Address, From, Register, Moves, Flip, AfterFlip, Amount, Modulo, Group, SetWhich, SetTo, End, Byte, Whole, Comment, Refused}
 use Rattle.lines.specs.Alone.{stores}
-use Rattle.lines.specs.Worded.{line, registerTag, afterHead, afterPlace, afterByte, headWord, choiceWord, functionWord, placeWord, sourceWord, registerWord, whichWord, modeNumber, setNumber, addressNumber, flipNumber, only, amountWord, groupWord, shiftHead, movesWord, byteWord, wordedAt, worded}
-use Rattle.text.specs.Make.{begin, ends, numberOf, lastOf}
+use Rattle.lines.specs.Worded.{line, registerTag, afterHead, afterPlace, afterByte, headWord, choiceWord, functionWord, placeWord, sourceWord, registerWord, whichWord, modeNumber, setNumber, addressNumber, flipNumber, only, amountWord, groupWord, shiftHead, movesWord, byteWord, wordedAt, worded, sortOf}
+use Rattle.text.specs.Make.{reading, begin, ends, numberOf, lastOf}
 use Rattle.text.proofs.Carried.{Carries, ends-carried}
 
 -- as a test, so that a phase that is written out passes it by `refl`: the line is not refused, or with 60 to 69
 abbrev test : Phase → Bool
-test p = eqb (numberOf p) 0 || (leb 60 (numberOf p) && leb (numberOf p) 69)
+test p = (eqb (numberOf p) 0 && ltb (sortOf p) 4) || (leb 60 (numberOf p) && leb (numberOf p) 69)
 
-record Numbered (l : Line) : Type 0 where
+pub record Numbered (l : Line) : Type 0 where
   passes : test (l .phase) ≡ true
 
 numbered : {p : Phase} {i : Instruction} → test p ≡ true → Numbered (line p i)
@@ -154,12 +155,22 @@ word-numbered l w h = go (l .phase) (l .got) (h .passes)
 carries : Carries Numbered
 carries = record { word = word-numbered; head = λ l h. numbered refl; comment = λ l h. numbered refl; early = λ l h. numbered refl }
 
+-- after any characters from a line's beginning
+pub ends-numbered : (g : Instruction) (start at : ℕ) (r : Bool) (cs : List ℕ) → Numbered ((ends (reading (line Head g) 0 start r) at cs) .line)
+ends-numbered g start at r cs = ends-carried Numbered carries (reading (line Head g) 0 start r) at cs (numbered refl)
+
+-- a refusal's number is not 0
+pub refused-some : (l : Line) → Numbered l → 3 < sortOf (l .phase) → numberOf (l .phase) ≡ 0 → ⊥
+refused-some l h s z =
+    true≢false (sym (h .passes) ∙ ap₂ (λ (n : ℕ) (b : Bool). (eqb n 0 && b) || (leb 60 n && leb n 69)) z (le-ltb (sortOf (l .phase)) 4 (omega arith)))
+
 pub line-numbers : (text : List ℕ) → let n = numberOf ((lastOf text) .line .phase) in (n ≡ 0 → ⊥) → (60 ≤ n) × (n ≤ 69)
 unfolding lastOf
 line-numbers text u =
-    let n = numberOf (ends begin 0 (text ++ (10 ∷ [])) .line .phase) in
+    let p = ends begin 0 (text ++ (10 ∷ [])) .line .phase in
+    let n = numberOf p in
     let h = ends-carried Numbered carries begin 0 (text ++ (10 ∷ [])) (numbered refl) .passes in
-    let both = or-none-left (eqb n 0) (leb 60 n && leb n 69) (ne-eqb n 0 u) h in
+    let both = or-none-left (eqb n 0 && ltb (sortOf p) 4) (leb 60 n && leb n 69) (ap (λ (b : Bool). b && ltb (sortOf p) 4) (ne-eqb n 0 u)) h in
     (leb-true 60 n (and-left (leb 60 n) (leb n 69) both), leb-true n 69 (and-right (leb 60 n) (leb n 69) both))
   where
     -- the other of two

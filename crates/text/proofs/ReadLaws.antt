@@ -245,7 +245,7 @@ list-reads list (suc n) k h g =
     (line-reads (line Head g) refl (words-lead (modesAfter list noneSet k) g (instructionAt list k) (instruction-bytes list k h)) (list-reads list n (suc k) h))
 
 -- eight bytes of a list are an instruction's
-eight : (list : List ℕ) (k : ℕ) → 8 * k + 8 ≤ length list → drop (8 * k) list ≡ bytesOf (instructionAt list k) ++ drop (8 * suc k) list
+pub eight : (list : List ℕ) (k : ℕ) → 8 * k + 8 ≤ length list → drop (8 * k) list ≡ bytesOf (instructionAt list k) ++ drop (8 * suc k) list
 unfolding instructionAt
 eight list k h =
     let at : (j : ℕ) → j < 8 → drop (8 * k + j) list ≡ getD list (8 * k + j) 0 ∷ drop (8 * k + (j + 1)) list = λ j q. more (8 * k + j) (8 * k + (j + 1)) (omega arith) (omega arith) in

@@ -130,6 +130,17 @@ pub(crate) fn of_made(r: text::Made) -> Numbers {
     fixed(5, w)
 }
 
+// The answer of making with statements, which counts the items too.
+pub(crate) fn of_assembled(r: assembly::Assembled) -> Numbers {
+    let mut w = [0u32; 16];
+    w[0] = r.number as u32;
+    w[1] = narrow(r.line);
+    w[2] = narrow(r.column);
+    w[3] = narrow(r.list);
+    w[4] = narrow(r.items);
+    fixed(5, w)
+}
+
 // The answer of an entry of the disk.
 pub(crate) fn of_disk(r: contents::Moved) -> Numbers {
     three(r.number as u32, narrow(r.place), narrow(r.bytes))

@@ -1,11 +1,13 @@
-// The text of a list, a text made a list, and what a list reaches, called on a case's buffers.
+// The text of a list, a text of instructions made a list, what a list reaches, and a text with statements made a list with its items, called on a case's buffers.
 use super::answers::Numbers;
+use super::answers::of_assembled;
 use super::answers::of_made;
 use super::answers::of_reached;
 use super::answers::of_shown;
 use super::rooms::front;
 use super::rooms::give;
 use super::rooms::take;
+use assembly::assemble;
 use text::making::make;
 use text::showing::show;
 
@@ -63,7 +65,28 @@ fn call_reach(record: &[u8], room: &mut [u8]) -> Numbers {
     r
 }
 
-// Kinds 22 to 24.
+// The list and the items of just the text's bytes.
+fn assemble_front(record: &[u8], text: &[u8], list: &mut [u8], items: &mut [u8]) -> Numbers {
+    let n = front(record, 5, text.len());
+    let m = front(record, 2, list.len());
+    let k = front(record, 3, items.len());
+    of_assembled(assemble(&text[0..n], &mut list[0..m], &mut items[0..k]))
+}
+
+fn call_assemble(record: &[u8], room: &mut [u8]) -> Numbers {
+    let mut text = [0u8; 35000];
+    let mut list = [0u8; 33000];
+    let mut items = [0u8; 33000];
+    take(record, 5, room, &mut text);
+    take(record, 2, room, &mut list);
+    take(record, 3, room, &mut items);
+    let r = assemble_front(record, &text, &mut list, &mut items);
+    give(record, 2, room, &list);
+    give(record, 3, room, &items);
+    r
+}
+
+// Kinds 22 to 25.
 pub(crate) fn call_text(record: &[u8], room: &mut [u8], kind: u8) -> Numbers {
     if kind == 22 {
         return call_show(record, room);
@@ -71,5 +94,8 @@ pub(crate) fn call_text(record: &[u8], room: &mut [u8], kind: u8) -> Numbers {
     if kind == 23 {
         return call_make(record, room);
     }
-    call_reach(record, room)
+    if kind == 24 {
+        return call_reach(record, room);
+    }
+    call_assemble(record, room)
 }

@@ -358,10 +358,80 @@ def reached(reg,lst,out):
     if len(counts)>len(out): return [27,0]
     out[:len(counts)]=counts
     return [0,len(counts)]
+FORMS={b'field':'name start width',b'sum':'A B into S',b'difference':'A B into S',b'equal':'A value',b'less':'A value',b'greatest':'A',b'reach':'at most count word'}
+def statement(at,w,said,fields):
+    """The page's table of statements: the number of the refusal of the word w at this place, or 0, and then what it says."""
+    n=lambda most:int(w) if re.fullmatch(rb'[0-9]{1,%d}'%most,w) else None
+    if at=='name':
+        if not re.fullmatch(rb'[!-~]{1,8}',w): return 70
+        if w in fields: return 71
+        if len(fields)==256: return 72
+    elif at in('into','at','most','word'):
+        if w!=at.encode() and not(at=='word' and w==b'words'): return 65
+    elif at in('A','B','S'):
+        if w not in fields: return 73
+        start,width=fields[w]
+        if at!='A' and width!=said['A'][1]: return 74
+        if at=='S' and any(start!=other and range(max(start,other),min(start,other)+width) for other in(said['A'][0],said['B'][0])): return 32
+        said[at]=fields[w];return 0
+    else:
+        v=n(20 if at=='value' else 3)
+        if at=='value' and (v is None or v>>64): return 76
+        if at=='value' and v>>said['A'][1]: return 34
+        if at=='start' and (v is None or v>255) or at=='count' and (v is None or not 1<=v<=256): return 64
+        if at=='width' and (v is None or not 1<=v<=64): return 30
+        if at=='width' and said['start']+v>256: return 31
+        w=v
+    said[at]=w
+    return 0
+def listed(name,said):
+    """The bytes of docs/LISTS.md."""
+    x=lambda logic,flip=0:bytes([0,2,0,0,0,flip,0,logic])
+    read=lambda slice,logic:bytes([0,0,1,0,slice,0,0,logic])
+    a,n=said['A']
+    if name==b'greatest':
+        return x(0)+b''.join(read(a+k,0x3a)+b''.join(x(0x0e,1<<f) for f in range(8))+read(a+k,4)+x(0x24) for k in reversed(range(n)))
+    if name in(b'equal',b'less'):
+        less=name==b'less'
+        return x(0 if less else 0x0f)+b''.join(bytes([0,4,0,0,0,0,0,0x1a])+read(a+k,0x16)+(read(a+k,0x35) if less else x(0x30)) for k in range(n))+x(0x1a)
+    minus=name==b'difference';b,s=said['B'][0],said['S'][0]
+    return x(0x20)+minus*x(0x1f)+b''.join(read(a+k,0x46)+read(b+k,0x49 if minus else 0x46)+bytes([2,3,1,0,s+k,0,0,0])+x(0x33)+x(0x26) for k in range(n))
+def assembled(text,out,brought):
+    """Assemble: number, line, column and the two counts."""
+    fields,limit,held,takes,lst,items={},None,{},False,bytearray(),bytearray()
+    for n,line in enumerate(bytes(text).split(b'\n'),1):
+        code=line.split(b';')[0];ws=[(found.start()+1,found.group()) for found in re.finditer(rb'[^ \t\r]+',code)]
+        if not ws: continue
+        first,name=ws[0]
+        if name not in FORMS:
+            b=bytearray(8);wrong=made(line,b)
+            if wrong[0]: return [wrong[0],n,wrong[2],0,0]
+            mode=held.get(b[2]) if b[2] in(2,3) else b[3]
+            if limit and b[0] in(2,3) and (mode is None or words_of(mode)>limit): return [75,n,first,0,0]
+            if b[0]==6 and b[2] in(2,3): held[b[2]]=b[3]
+            takes|=b[1]==4;lst+=b
+            continue
+        said,places={},FORMS[name].split()
+        for k,at in enumerate(places,1):
+            if k==len(ws): return [69,n,len(code)+1,0,0]
+            no=statement(at,ws[k][1],said,fields)
+            if no: return [no,n,ws[k][0],0,0]
+        if len(ws)>len(places)+1: return [67,n,ws[len(places)+1][0],0,0]
+        if name==b'field': fields[said['name']]=said['start'],said['width'];continue
+        if name==b'reach': limit=said['count'];continue
+        if limit and limit<256 and 'S' in said: return [75,n,first,0,0]
+        if takes and 'value' in said: return [77,n,first,0,0]
+        lst+=listed(name,said)
+        if 'value' in said: items+=b''.join(bytes([255*(said['value']>>k&1)]*32) for k in range(said['A'][1]))
+    if len(lst)>32768: return [3,0,0,0,0]
+    if len(items)>32768: return [4,0,0,0,0]
+    if len(lst)>len(out) or len(items)>len(brought): return [33,0,0,0,0]
+    out[:len(lst)]=lst;brought[:len(items)]=items
+    return [0,0,0,len(lst),len(items)]
 def as_text(kind,p,B):
-    """Kinds 22 to 24 from the page's part on lists as text: all words of the answer."""
-    assert not any(p) and not any(len(B[k]) for k in((0,3,5) if kind==24 else (0,1,3,4)))
-    said=shown(B[2],B[5]) if kind==22 else made(B[5],B[2]) if kind==23 else reached(B[1],B[2],B[4])
+    """Kinds 22 to 25 from the page's part on lists as text: all words of the answer."""
+    assert not any(p) and not any(len(B[k]) for k in((0,3,5) if kind==24 else (0,1,4) if kind==25 else (0,1,3,4)))
+    said=shown(B[2],B[5]) if kind==22 else made(B[5],B[2]) if kind==23 else reached(B[1],B[2],B[4]) if kind==24 else assembled(B[5],B[2],B[3])
     return said+(5-len(said))*[0]+[digest(b) for b in B]
 kept={0:[2,3,5],1:[2,3,5],2:[0,1,2,3,5],3:[0,1,2,3,5],4:[0,1,3,4,5],5:[0,1,3,4,5],10:[3,5],11:[3,5]}
 lines=open(sys.argv[1]).read().split('\n');ans=open(sys.argv[2]).read().split('\n')

@@ -96,7 +96,7 @@ fn smaller(case: &Case) -> Vec<Case> {
     if case.kind == ISOLATED {
         all.extend(without_gaps(case));
     }
-    if case.kind == MAKE {
+    if [MAKE, ASSEMBLE].contains(&case.kind) {
         all.extend(less_text(case));
     }
     if case.way().is_some() {

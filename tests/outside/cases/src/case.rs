@@ -62,8 +62,9 @@ pub const ISOLATED: u8 = 21;
 pub const SHOW: u8 = 22;
 pub const MAKE: u8 = 23;
 pub const REACH: u8 = 24;
+pub const ASSEMBLE: u8 = 25;
 
-pub const KINDS: [&str; 25] = [
+pub const KINDS: [&str; 26] = [
     "run",
     "step",
     "pass",
@@ -89,6 +90,7 @@ pub const KINDS: [&str; 25] = [
     "show",
     "make",
     "reach",
+    "assemble",
 ];
 
 pub const BUFFERS: [&str; COUNT] = ["memory", "registers", "list or output", "items", "out", "file, marks or text"];
@@ -269,6 +271,9 @@ impl Case {
         }
         if [SHOW, MAKE].contains(&self.kind) {
             assert!([MEMORY, REGISTERS, ITEMS, OUT].iter().all(|&k| self.lengths[k] == 0) && self.p == [0; 4]);
+        }
+        if self.kind == ASSEMBLE {
+            assert!([MEMORY, REGISTERS, OUT].iter().all(|&k| self.lengths[k] == 0) && self.p == [0; 4]);
         }
         if self.kind == REACH {
             assert!([MEMORY, ITEMS, FILE].iter().all(|&k| self.lengths[k] == 0) && self.p == [0; 4]);
@@ -573,6 +578,10 @@ impl Case {
                 [made.number, made.line, made.column, made.count, 0]
             }
             REACH => written(emulator::reach(registers, list, out)),
+            ASSEMBLE => {
+                let made = emulator::assemble(file, list, items);
+                [made.number, made.line, made.column, made.list, made.items]
+            }
             _ => panic!("no such case"),
         }
     }
@@ -776,7 +785,7 @@ mod tests {
         let mut checked = 0;
         let asked: Vec<&str> = lines.iter().copied().filter(|l| l.len() >= 2 * (HEADER + BUFFER * COUNT) && l.bytes().all(|c| c.is_ascii_hexdigit())).collect();
         let answered: Vec<&str> = lines.iter().copied().filter(|l| Reply::from_line(l).is_some()).collect();
-        assert_eq!((asked.len(), answered.len()), (58, 58));
+        assert_eq!((asked.len(), answered.len()), (69, 69));
         for (line, reply) in asked.iter().zip(&answered) {
             let case = Case::from_line(line).unwrap();
             case.check();
@@ -784,7 +793,7 @@ mod tests {
             assert_eq!(case.answer().line(), *reply);
             checked += 1;
         }
-        assert_eq!(checked, 58);
+        assert_eq!(checked, 69);
         let mut case = Case::new(RUN, 1);
         case.lengths[LIST] = 8;
         assert_eq!(case.make()[LIST], [0x21, 0x01, 0xc5, 0x4f, 0xd1, 0xd0, 0x1a, 0xb2]);

@@ -4,6 +4,7 @@
 mod case;
 mod plan;
 mod against;
+mod assemblies;
 mod bytes;
 mod closings;
 mod isolations;

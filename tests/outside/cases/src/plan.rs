@@ -61,6 +61,8 @@ pub struct Plan {
     pub m: Random,
     /// Draws the random cases of lists as text, and which cases they are, for the same reason.
     t: Random,
+    /// Draws those of texts with statements, and which cases they are, for the same reason.
+    s: Random,
     pub cases: Vec<Case>,
     /// Whether a few of the mode registers so drawn are bad ones (15).
     pub some_bad_modes: bool,
@@ -70,7 +72,7 @@ pub struct Plan {
 
 impl Plan {
     pub fn new(seed: u64) -> Plan {
-        Plan { r: Random::new(seed), m: Random::new(!seed), t: Random::new(seed.rotate_left(32) ^ 0x7E87), cases: vec![], some_bad_modes: false, open_points: false }
+        Plan { r: Random::new(seed), m: Random::new(!seed), t: Random::new(seed.rotate_left(32) ^ 0x7E87), s: Random::new(seed.rotate_left(16) ^ 0x57A7), cases: vec![], some_bad_modes: false, open_points: false }
     }
 
     pub fn add(&mut self, mut case: Case) {
@@ -630,12 +632,18 @@ impl Plan {
         self.write_plain(asked, content, output)
     }
 
-    /// One random case of any family; one in eight is a list shown, a text made or a reach asked, of the others one in ten
-    /// asks whether a list is isolated, and of those that remain one in ten is a picture of kind 1 or 4, read, written,
-    /// made new or made old. Of the rest one in eight is a search, one in eight a closing or
-    /// spreading, one in eight a run or step with one instruction at fault, one in eight a list by the mode registers, one
-    /// in sixteen a list of masked stores, one in sixteen a list of resolves.
+    /// One random case of any family; one in sixteen is a text with statements, of the others one in eight is a list shown,
+    /// a text made or a reach asked, of the others one in ten asks whether a list is isolated, and of those that remain one
+    /// in ten is a picture of kind 1 or 4, read, written, made new or made old. Of the rest one in eight is a search, one in
+    /// eight a closing or spreading, one in eight a run or step with one instruction at fault, one in eight a list by the
+    /// mode registers, one in sixteen a list of masked stores, one in sixteen a list of resolves.
     fn random_case(&mut self) -> Case {
+        if self.s.one_in(16) {
+            std::mem::swap(&mut self.r, &mut self.s);
+            let case = self.random_assembly();
+            std::mem::swap(&mut self.r, &mut self.s);
+            return case;
+        }
         if self.t.one_in(8) {
             std::mem::swap(&mut self.r, &mut self.t);
             let case = self.random_text();
@@ -698,7 +706,7 @@ impl Plan {
     pub fn random_others(&mut self, count: usize) {
         while self.cases.len() < count {
             self.random_cases(1);
-            self.cases.retain(|case| ![SHOW, MAKE, REACH].contains(&case.kind));
+            self.cases.retain(|case| ![SHOW, MAKE, REACH, ASSEMBLE].contains(&case.kind));
         }
     }
 
@@ -721,7 +729,7 @@ impl Plan {
 
     /// The stored cases: those of document 01, planned and this many random ones, then the searches, then the
     /// masked stores, then the resolves, then closing and spreading, then the offending byte, then the mode registers,
-    /// then the pictures of kind 4, then isolation, then lists as text.
+    /// then the pictures of kind 4, then isolation, then lists as text, then texts with statements.
     /// What a later document adds stands behind, so that the cases before it stay.
     pub fn stored(&mut self, random: usize) {
         self.planned();
@@ -738,6 +746,7 @@ impl Plan {
         self.all_pictures();
         self.all_isolations();
         self.all_texts();
+        self.all_assemblies();
     }
 
     fn planned(&mut self) {

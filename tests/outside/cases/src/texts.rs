@@ -261,7 +261,7 @@ const GOOD: [&[u8]; 36] = [
     b"store mode\ra\raddress\r255\rfrom\routside\rflip\r1\r\nlogic\tx-if-y\tornot\tm;shift",
 ];
 
-fn text_of(list: &[u8]) -> Vec<u8> {
+pub fn text_of(list: &[u8]) -> Vec<u8> {
     // no line has more than 71 characters
     let mut text = vec![0; 71 * (list.len() / 8)];
     let answer = emulator::show(list, &mut text);
@@ -366,7 +366,7 @@ impl Plan {
     }
 
     /// A text that is written out, and so many bytes for its list.
-    fn making(&mut self, text: &[u8], room: usize) -> Case {
+    pub fn making(&mut self, text: &[u8], room: usize) -> Case {
         assert!(text.len() <= LETTERS);
         let mut case = self.case(MAKE);
         (case.lengths[LIST], case.lengths[TEXT]) = (room as u16, text.len() as u16);
@@ -412,7 +412,7 @@ impl Plan {
     // ---- random cases
 
     /// Eight bytes: most stand, some by a mode register, some are wrong in a byte or two, some are any bytes.
-    fn some_line(&mut self) -> Instruction {
+    pub fn some_line(&mut self) -> Instruction {
         let r: Instruction = std::array::from_fn(|_| self.r.byte());
         let mut b = shaped(&r, 3);
         match self.r.below(16) {
@@ -442,7 +442,7 @@ impl Plan {
     }
 
     /// As much room as is wanted, one byte less, more, or any.
-    fn some_room(&mut self, wanted: usize, most: usize) -> usize {
+    pub fn some_room(&mut self, wanted: usize, most: usize) -> usize {
         let room = match self.r.below(8) {
             0 => wanted.saturating_sub(1),
             1 => self.r.below(wanted + 1),
@@ -514,14 +514,14 @@ impl Plan {
         case
     }
 
-    fn some_blanks(&mut self, none: bool) -> Vec<u8> {
+    pub fn some_blanks(&mut self, none: bool) -> Vec<u8> {
         let count = if none && self.r.one_in(2) { 0 } else { 1 + self.r.below(3) * self.r.below(2) };
         (0..count).map(|_| self.r.of(b"      \t\t\r")).collect()
     }
 
     /// The words of an instruction in one of its forms: numbers with zeros in front, functions by number, slices and words
     /// by their modes, a flip of 0, hex in small letters, any instruction as bytes.
-    fn some_words(&mut self, b: Instruction) -> Vec<String> {
+    pub fn some_words(&mut self, b: Instruction) -> Vec<String> {
         if self.r.one_in(8) {
             let digits = |byte: &u8| if self.r.one_in(2) { format!("{:02X}", byte) } else { format!("{:02x}", byte) };
             return std::iter::once("bytes".to_string()).chain(b.iter().map(digits).collect::<Vec<_>>()).collect();
@@ -589,7 +589,7 @@ impl Plan {
     }
 
     /// One small damage: a character altered, left out, put in or doubled; or a word of an instruction.
-    fn damage_text(&mut self, text: &mut Vec<u8>) {
+    pub fn damage_text(&mut self, text: &mut Vec<u8>) {
         const LETTERS: &[u8] = b" \t\r\n\n;;0123456789abcdefmxyABFMX-+,./:@`_\x00\x0b\x0c\x1f\x7f\x80\x8a\xa0\xb1\xff";
         const WORDS: [&str; 62] = [
             "logic", "setm", "store", "mstore", "deliver", "resolve", "set", "bytes", "slice", "word", "mode", "address", "from", "m", "x", "y",
@@ -1111,7 +1111,7 @@ impl Plan {
 }
 
 #[cfg(test)]
-mod tests {
+pub mod tests {
     use super::*;
     use std::collections::{BTreeMap, BTreeSet};
 
@@ -1166,9 +1166,9 @@ mod tests {
     /// The rules with one of them wrong, by the name of the mistake; all are right if it is empty. A text is read
     /// character by character here, and each word moves from one place of the instruction to another.
     #[derive(Clone, Copy)]
-    struct Rules(&'static str);
+    pub struct Rules(&'static str);
 
-    const RIGHT: Rules = Rules("");
+    pub const RIGHT: Rules = Rules("");
 
     /// What has to stand next.
     #[derive(Clone, Copy, PartialEq, Eq, Debug)]
@@ -1477,7 +1477,7 @@ mod tests {
         }
 
         /// Number, line, column and count; and what then stands in the list buffer.
-        fn make(&self, text: &[u8], list: &mut [u8]) -> [u32; 4] {
+        pub fn make(&self, text: &[u8], list: &mut [u8]) -> [u32; 4] {
             let blanks: &[u8] = match self.0 {
                 "tab is no blank" => b" \r",
                 "carriage return is no blank" => b" \t",
@@ -1673,7 +1673,7 @@ mod tests {
         // ---- what a run refuses, and the mode registers
 
         /// Number and byte, by the table of the offending byte.
-        fn fault(&self, b: &[u8], set: [bool; 2]) -> Option<(u32, u32)> {
+        pub fn fault(&self, b: &[u8], set: [bool; 2]) -> Option<(u32, u32)> {
             let (k, store) = (b[0], b[0] == 2 || b[0] == 3);
             let touched = store || (k < 2 || k == 4) && b[1] == 0;
             let (p, m) = (b[6] / 16, b[6] % 16);

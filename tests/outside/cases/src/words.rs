@@ -72,7 +72,7 @@ pub fn describe(case: &Case) -> String {
         WRITE_PLAIN | WRITE_ASKED => writeln!(t, "kind asked {}", p[0]).unwrap(),
         EQUAL_RUN | LESS_RUN | GREATEST_RUN => describe_search(&mut t, case),
         CLOSE_RUN | SPREAD_RUN => describe_closing(&mut t, case),
-        MAKE => t.push_str(&lines_of(&case.make()[TEXT])),
+        MAKE | ASSEMBLE => t.push_str(&lines_of(&case.make()[TEXT])),
         _ => {}
     }
     for k in 0..COUNT {
@@ -127,7 +127,7 @@ pub fn describe(case: &Case) -> String {
             k if k as usize == MARKS && case.way().is_some() => {
                 writeln!(t, "patch: marks byte {}: {}", at, hex(&patch.bytes)).unwrap()
             }
-            k if k as usize == TEXT && case.kind == MAKE => {
+            k if k as usize == TEXT && [MAKE, ASSEMBLE].contains(&case.kind) => {
                 writeln!(t, "patch: text from character {} on, {} characters", at, patch.bytes.len()).unwrap()
             }
             k if k as usize == FILE => {
@@ -288,16 +288,28 @@ fn meaning(number: u32) -> &'static str {
         27 => "output too short",
         28 => "a mode register set, which an old picture has not",
         40 => "not isolated",
-        60 => "no instruction has this name",
+        30 => "no width 1 to 64",
+        31 => "start and width are over 256 together",
+        32 => "S overlaps A or B without having its start",
+        34 => "a value of 2 to the width or more",
+        60 => "no instruction has this name, and no statement where there are any",
         61 => "no such choice",
         62 => "no such function",
         63 => "no such source, place or mode register",
-        64 => "no number 0 to 255, or behind mode none, a or b",
-        65 => "address, from or mod has to stand here",
+        64 => "no number 0 to 255, behind mode none, a or b, or no count 1 to 256",
+        65 => "address, from, mod, into, at, most or word has to stand here",
         66 => "no such shift",
-        67 => "more than the instruction takes",
+        67 => "more than the line takes",
         68 => "no byte of two hex digits",
         69 => "the line ends too early",
+        70 => "a name of over eight characters, or with one outside 33 to 126",
+        71 => "a field above has this name",
+        72 => "256 fields have names already",
+        73 => "no field above has this name",
+        74 => "not as wide as A",
+        75 => "a store reaches over the limit, or is by a mode register that nothing above sets",
+        76 => "no number below 2^64 in one to twenty digits",
+        77 => "an instruction above takes from outside",
         _ => "the builder's",
     }
 }
@@ -308,7 +320,7 @@ pub fn answered(case: &Case, reply: &Reply) -> String {
     if case.kind == ISOLATED {
         return answered_of_isolation(case, reply);
     }
-    if [SHOW, MAKE, REACH].contains(&case.kind) {
+    if [SHOW, MAKE, REACH, ASSEMBLE].contains(&case.kind) {
         return answered_of_text(case, reply);
     }
     let Some(at) = case.run_numbers() else { return answered_by_blocks(case, reply) };
@@ -370,17 +382,26 @@ fn answered_of_text(case: &Case, reply: &Reply) -> String {
             }
             t
         }
-        (MAKE, 0) => {
+        (MAKE | ASSEMBLE, 0) => {
             let list = &buffers[LIST][..numbers[3] as usize];
             let mut t = format!("made: {} instructions\n", list.len() / 8);
             for (k, b) in list.chunks(8).enumerate().take(SHOWN) {
                 writeln!(t, "  {:>4}: {}   {}", k, hex(b), instruction(b)).unwrap();
             }
+            if case.kind == ASSEMBLE {
+                let items = &buffers[ITEMS][..numbers[4] as usize];
+                writeln!(t, "and {} items", items.len() / 32).unwrap();
+                for (k, item) in items.chunks(32).enumerate().take(SHOWN) {
+                    writeln!(t, "  {:>4}: {} on every line", k, item[0] % 2).unwrap();
+                }
+            }
             t
         }
-        (MAKE, 3) => "refused with 3: over 4,096 instructions\n".to_string(),
+        (ASSEMBLE, 4) => "refused with 4: over 1,024 items\n".to_string(),
+        (ASSEMBLE, 33) => "refused with 33: the list buffer is shorter than the list, or the items buffer than the items\n".to_string(),
+        (MAKE | ASSEMBLE, 3) => "refused with 3: over 4,096 instructions\n".to_string(),
         (MAKE, 33) => "refused with 33: the list buffer is shorter than the list\n".to_string(),
-        (MAKE, number) => {
+        (MAKE | ASSEMBLE, number) => {
             let line = buffers[TEXT].split(|&byte| byte == b'\n').nth(numbers[1] as usize - 1).unwrap_or(&[]);
             let behind = &line[line.len().min(numbers[2] as usize - 1)..];
             let cut = &behind[..behind.len().min(LINE)];
@@ -403,7 +424,7 @@ pub fn differences(one: &str, x: Option<&str>, other: &str, y: Option<&str>) -> 
             return t;
         }
     };
-    const OTHER_NAMES: [&str; NUMBERS] = ["number", "place, line, or count of show or reach", "count, bytes or column", "count of make", "word 4"];
+    const OTHER_NAMES: [&str; NUMBERS] = ["number", "place, line, or count of show or reach", "count, bytes or column", "count of the list made", "count of the items"];
     const RUN_NAMES: [&str; OF_RUN] = ["number", "place", "byte", "steps", "taken", "given"];
     const BUILDER_NAMES: [&str; OF_BUILDER] = ["builder's number", "bytes of the list", "bytes of the items"];
     let numbers = a.len() - COUNT;

@@ -4,8 +4,9 @@
 //! unpacked at the start of a call and packed again at its end, and only if the call is done.
 //!
 //! Points that the documents leave open follow the readings A to K and Q; the comments name them. Lists as text are no
-//! document's; they are written from docs/TEXT.md alone.
+//! document's; they are written from docs/TEXT.md alone, and the lists of its statements from docs/LISTS.md, "Bytes".
 
+pub mod assembly;
 pub mod bits;
 pub mod blocks;
 pub mod closing;
@@ -18,6 +19,7 @@ pub mod program;
 pub mod searches;
 pub mod text;
 
+pub use assembly::{assemble, Assembled};
 pub use blocks::{new_to_old, old_to_new, read_picture, read_plain, write_picture, write_plain, Put};
 pub use closing::{Fields, Way};
 pub use isolation::{isolated, Isolation};

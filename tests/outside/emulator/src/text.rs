@@ -36,7 +36,7 @@ const POWER: [&str; 9] = ["1", "2", "4", "8", "16", "32", "64", "128", "256"];
 
 /// A kind 6 gives the register that its tag names the mode in byte 3, for what stands behind it, whatever its other bytes
 /// are and whether or not a run refuses it.
-fn follow(modes: &mut Modes, b: &[u8]) {
+pub(crate) fn follow(modes: &mut Modes, b: &[u8]) {
     if b[0] == 6 {
         if let Some(which) = register_of(b[2]) {
             modes[which] = Some(b[3] as usize);
@@ -44,7 +44,7 @@ fn follow(modes: &mut Modes, b: &[u8]) {
     }
 }
 
-fn stores(b: &[u8]) -> bool {
+pub(crate) fn stores(b: &[u8]) -> bool {
     b[0] == 2 || b[0] == 3
 }
 
@@ -55,7 +55,7 @@ fn reached(mode: usize) -> u32 {
 }
 
 /// What a store reaches where the mode registers are these; none if its register is unset.
-fn reach_of(b: &[u8], modes: &Modes) -> Option<u32> {
+pub(crate) fn reach_of(b: &[u8], modes: &Modes) -> Option<u32> {
     let mode = match register_of(b[2]) {
         Some(which) => modes[which],
         None => Some(b[3] as usize),
@@ -155,7 +155,7 @@ pub fn show(list: &[u8], buffer: &mut [u8]) -> Written {
 // ---- the list of a text
 
 /// What a line is refused with: the number and the column.
-type Refusal = (u32, usize);
+pub(crate) type Refusal = (u32, usize);
 
 /// The words of a line that have not been taken yet, with their columns, and the column of the line's end.
 struct Words<'a> {
@@ -330,7 +330,7 @@ fn take_store(words: &mut Words, b: &mut [u8; 8]) -> Result<(), Refusal> {
 }
 
 /// The instruction of a line; none if it has no words.
-fn instruction(line: &[u8]) -> Result<Option<[u8; 8]>, Refusal> {
+pub(crate) fn instruction(line: &[u8]) -> Result<Option<[u8; 8]>, Refusal> {
     let mut words = Words::of(line);
     let Some((column, first)) = words.left.next() else { return Ok(None) };
     let mut b = [0u8; 8];

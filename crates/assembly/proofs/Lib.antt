@@ -1,0 +1,20 @@
+-- The laws of this crate, which others may cite.
+pub mod WordLaws
+pub mod FieldLaws
+pub mod ActLaws
+pub mod LineLaws
+pub mod BuildLaws
+pub mod LinesLaws
+pub mod FoldLaws
+pub mod SoundLaws
+pub mod WalkLaws
+pub mod AnswerLaws
+pub mod FirstWord
+pub mod OneLine
+pub mod Anew
+pub mod Extends
+pub mod RoundTrip
+pub mod ReachLaws
+pub mod Limits
+pub mod Items
+pub mod Bounds
