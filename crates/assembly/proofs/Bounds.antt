@@ -26,7 +26,7 @@ use Rattle.assembly.specs.Words.{blanks, letters, part, wordFrom, valueO
 use Rattle.assembly.specs.Fields.{Named, spanOf}
 use Rattle.assembly.specs.Acts.{numberOf, columnOf, overBy, limited, searches, ordered}
 use Rattle.assembly.specs.Statements.{eight, statements, difference, intoWord, atWord, mostWord, nameRows, startRows, widthRows, knownRows, secondRows, targetRows, onlyRows, valueRows, countRows, restRows, nameFault, startFault, widthFault, knownFault, secondFault, targetFault, onlyFault, valueFault, countFault, restFault, refusedOr, fieldLine, sumLine, searchLine, greatestLine, reachLine, instructionLine, lineBy, lineAct}
-use Rattle.assembly.specs.Assembly.{ontoFirst, linesOf, State, begin, applied, actOf, Outcome, folded, outcomeOf, madeList, madeItems, answer, assembledAnswer}
+use Rattle.assembly.specs.Assembly.{ontoFirst, linesOf, State, begin, applied, actOf, Outcome, folded, outcomeOf, madeList, madeItems, answer, tooShort, assembledAnswer}
 use Rattle.assembly.proofs.FirstWord.{NoFeed}
 use Rattle.assembly.proofs.OneLine.{NoFeeds, lines-fed, instruction-is}
 
@@ -317,7 +317,7 @@ assembled-bounds text room roomItems =
     (λ h. chosen Bounded _ (answer (outcomeOf text .number) (outcomeOf text .line) (outcomeOf text .column) 0 0) (eqb (outcomeOf text .number) 0)
     (λ e. chosen Bounded (answer 3 0 0 0 0) _ (ltb mostBytes list) (λ e. bare 3)
     (λ f. chosen Bounded (answer 4 0 0 0 0) _ (ltb mostBytes items) (λ e. bare 4)
-    (λ g. chosen Bounded (answer 33 0 0 0 0) (answer 0 0 0 list items) (ltb room list || ltb roomItems items) (λ e. bare 33)
+    (λ g. chosen Bounded (answer 33 0 0 0 0) (answer 0 0 0 list items) (tooShort list room items roomItems) (λ e. bare 33)
     (λ e. record { line = omega arith; column = omega arith; list = ltb-false mostBytes list f; items = ltb-false mostBytes items g }))))
     (λ e.
     let size = ltb-false 1048576 (length text) h in

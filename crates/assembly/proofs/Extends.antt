@@ -1,6 +1,6 @@
 -- The promise: every text that making makes a list of, assembling makes the same list of, and no items. Assumes nothing.
 use mathlib.Core.Path.{_≡_, refl, sym, ap, ap₂, subst, _∙_}
-use mathlib.Core.Bool.{Bool, true, false, cond, _||_}
+use mathlib.Core.Bool.{Bool, true, false, cond}
 use mathlib.Core.List.{List, [], _∷_, _++_, append-assoc, append-nil}
 use Prim.Native.Nat.{ℕ, _+_, _%_, _≤_}
 use native.Mathlib.Decide.{decLe, ℕ-discrete}
@@ -191,7 +191,7 @@ extends text out items d =
     let none : length (madeItems text) ≡ 0 = ap length (c .items) in
     let a =
     done text out items (s .short) (c .number) (omega (arith, size, s .few)) (omega (arith, none))
-    (ap₂ _||_ (le-ltb (length out) (length (madeList text)) (omega (arith, size, s .room))) (le-ltb (length items) (length (madeItems text)) (omega (arith, none)))) in (
+    (simp (le-ltb (length out) (length (madeList text)) (omega (arith, size, s .room)), le-ltb (length items) (length (madeItems text)) (omega (arith, none)))) in (
       a .0 ∙ ap₂ (λ (x y : ℕ). answer 0 0 0 x y) (size ∙ sym (ap (λ (x : Made). x .count) (m .0))) none,
       a .1 ∙ ap (λ (x : List ℕ). x ++ drop (length x) out) (c .list) ∙ sym (m .1),
       a .2 ∙ ap (λ (x : List ℕ). x ++ drop (length x) items) (c .items),
