@@ -1,0 +1,45 @@
+-- `flips::flip_quarters`: flips by the digits of `f`, one after the other, are the flip by `f`.
+use mathlib.Core.Path.{ap, ◌∙◌}
+use native.Mathlib.Omega.{arith}
+use Rattle.bits.specs.Quarters.{flipped_quarters}
+use Rattle.bits.proofs.FlipLaws.{flips-1, flips-2, flips-4, flips-8, flips-16, flips-32, flipped-more, by_digits_lem}
+use Rattle.bits.proofs.flips.flip_quarters.Goals as goal
+
+pub returns : goal.returns
+returns c =
+    let halves = c in
+    let sixteens = halves in
+    let eights = sixteens in
+    let fours = eights in
+    let twos = fours in
+    let ones = twos in
+    let s = ones in
+    let more = flipped-more s.args.q in
+    c.order.ensures
+    ∙ more _ _ _ (omega arith)
+    (halves.exchange_if-halves.ensures
+    ∙ more _ _ _ (omega arith)
+    (sixteens.exchange_if-sixteens.ensures
+    ∙ more _ _ _ (omega arith)
+    (eights.exchange_if-eights.ensures
+    ∙ more _ _ _ (omega arith)
+    (fours.exchange_if-fours.ensures ∙ more _ _ _ (omega arith) (twos.exchange_if-twos.ensures ∙ more _ _ _ (omega arith) ones.exchange_if-ones.ensures)))))
+    ∙ ap (flipped_quarters s.args.q) (by_digits_lem s.args.f (omega arith))
+
+pub exchange_if-ones-requires : goal.exchange_if-ones-requires
+exchange_if-ones-requires c = (omega arith, omega arith, flips-1)
+
+pub exchange_if-twos-requires : goal.exchange_if-twos-requires
+exchange_if-twos-requires c = (omega arith, omega arith, flips-2)
+
+pub exchange_if-fours-requires : goal.exchange_if-fours-requires
+exchange_if-fours-requires c = (omega arith, omega arith, flips-4)
+
+pub exchange_if-eights-requires : goal.exchange_if-eights-requires
+exchange_if-eights-requires c = (omega arith, omega arith, flips-8)
+
+pub exchange_if-sixteens-requires : goal.exchange_if-sixteens-requires
+exchange_if-sixteens-requires c = (omega arith, omega arith, flips-16)
+
+pub exchange_if-halves-requires : goal.exchange_if-halves-requires
+exchange_if-halves-requires c = (omega arith, omega arith, flips-32)
