@@ -1,0 +1,9 @@
+-- `network::tables::code_table` meets its contract: the table is what the definition computes. Assumes nothing.
+use mathlib.Core.Path.{refl}
+use Rattle.bits.specs.Bits.{listed}
+use Rattle.network.specs.Shifts.{codes, codes_to}
+use Rattle.network.proofs.tables.code_table.Goals as goal
+
+pub returns : goal.returns
+unfolding codes codes_to listed
+returns c = refl
