@@ -17,7 +17,7 @@ use crate::statements::line_act;
 use registers::{ModeRegister, Modes};
 
 // What stands behind the lines so far: how many fields, the limit (0: none), the mode registers, whether an instruction takes an item from outside, and the bytes of the list and of the items.
-#[derive(Drop)]
+#[derive(Clone, Copy)]
 pub struct Standing {
     pub count: usize,
     pub limit: usize,
@@ -28,7 +28,7 @@ pub struct Standing {
 }
 
 // The first walk's outcome: the first refusal, or 0; and the bytes of the list and of the items up to there.
-#[derive(Drop)]
+#[derive(Clone, Copy)]
 pub struct Measured {
     pub number: u8,
     pub line: usize,

@@ -14,7 +14,7 @@ use assembling::{measure, write};
 use judge::{Instruction, MOST_BYTES};
 
 // A word of a line: where it begins, where it ends, and its characters as a number; no word, 0, begins and ends where the words of the line do.
-#[derive(Drop)]
+#[derive(Clone, Copy)]
 pub struct Word {
     pub start: usize,
     pub next: usize,
@@ -22,21 +22,21 @@ pub struct Word {
 }
 
 // A number in decimal, if there is one.
-#[derive(Drop)]
+#[derive(Clone, Copy)]
 pub struct Value {
     pub stands: bool,
     pub value: u64,
 }
 
 // A field: its first bit, and how many it has.
-#[derive(Drop)]
+#[derive(Clone, Copy)]
 pub struct Span {
     pub start: u8,
     pub width: u8,
 }
 
 // What a line makes.
-#[derive(Drop)]
+#[derive(Clone, Copy)]
 pub enum Act {
     // an empty line
     Nothing,
@@ -57,7 +57,7 @@ pub enum Act {
 }
 
 // What assembling gives back: 0 and the bytes of the list and of the items; or a number, with the line and the column of what is refused, counted from 1.
-#[derive(Drop)]
+#[derive(Clone, Copy)]
 pub struct Assembled {
     pub number: u8,
     pub line: usize,

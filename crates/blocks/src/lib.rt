@@ -16,7 +16,7 @@ pub const BLOCK_BYTES: usize = 512;
 
 pub const PAYLOAD_BYTES: usize = 496;
 
-#[derive(Drop)]
+#[derive(Clone, Copy)]
 struct TwoSums {
     s1: usize,
     s2: usize,

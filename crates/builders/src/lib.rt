@@ -9,14 +9,14 @@ pub mod sums;
 pub mod writing;
 
 // What a builder gives back: 0 and the count of the bytes written, or the number of a refusal and 0.
-#[derive(Drop)]
+#[derive(Clone, Copy)]
 pub struct Built {
     pub number: u8,
     pub count: usize,
 }
 
 // What a builder of a list with its items gives back: 0 and the counts of the bytes written to each, or the number of a refusal and zeros.
-#[derive(Drop)]
+#[derive(Clone, Copy)]
 pub struct BuiltTwo {
     pub number: u8,
     pub list: usize,

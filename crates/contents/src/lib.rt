@@ -32,7 +32,7 @@ const MOST_CONTENT: usize = 32768;
 const MOST_FILE: usize = 34304;
 
 // A refusal has its number, its place and 0 bytes; success has 0, 0 and the number of bytes put out.
-#[derive(Drop)]
+#[derive(Clone, Copy)]
 pub struct Moved {
     pub number: u8,
     pub place: usize,

@@ -14,7 +14,7 @@ use registers::mode_bytes::{modes_of, wrong_modes};
 use registers::{ModeRegister, Modes};
 
 // What is answered: 0, 2, 3 or 15, or 40 with the instruction's place.
-#[derive(Drop)]
+#[derive(Clone, Copy)]
 pub struct Isolation {
     pub number: u8,
     pub place: usize,

@@ -25,7 +25,7 @@ pub const REGISTER_BYTES: usize = 100;
 pub const MOST_BYTES: usize = 32768;
 
 // An instruction, its eight bytes in order.
-#[derive(Drop)]
+#[derive(Clone, Copy)]
 pub struct Instruction {
     pub kind: u8,
     pub source: u8,
@@ -38,7 +38,7 @@ pub struct Instruction {
 }
 
 // The lengths of what a run is lent beside its list.
-#[derive(Drop)]
+#[derive(Clone, Copy)]
 pub struct Lengths {
     pub memory: usize,
     pub registers: usize,
@@ -47,14 +47,14 @@ pub struct Lengths {
 }
 
 // What is wrong with an instruction: a number, 0 for nothing, and the first byte that is wrong by it.
-#[derive(Drop)]
+#[derive(Clone, Copy)]
 pub struct Fault {
     pub number: u8,
     pub byte: u8,
 }
 
 // What a run gives back.
-#[derive(Drop)]
+#[derive(Clone, Copy)]
 pub struct Answer {
     pub number: u8,
     pub place: usize,
@@ -65,7 +65,7 @@ pub struct Answer {
 }
 
 // The first instruction that has a number, how many before it take an item and give one, and the mode registers before it.
-#[derive(Drop)]
+#[derive(Clone, Copy)]
 pub struct Tally {
     pub place: usize,
     pub taken: usize,

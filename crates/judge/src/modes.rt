@@ -8,7 +8,7 @@ use crate::kinds::{SET_MODE, TAG_A, TAG_B, TAG_GIVEN};
 use registers::{ModeRegister, Modes};
 
 // What the mode registers mean to an instruction: the mode under which it accesses memory, and the mode registers after it.
-#[derive(Drop)]
+#[derive(Clone, Copy)]
 pub struct Settled {
     pub mode: u8,
     pub modes: Modes,

@@ -11,7 +11,7 @@ use judge::{Fault, Instruction};
 use registers::{ModeRegister, Modes};
 
 // What a line may go on with.
-#[derive(Drop)]
+#[derive(Clone, Copy)]
 pub enum Phase {
     // the name of an instruction
     Head,
@@ -53,7 +53,7 @@ pub enum Phase {
 }
 
 // An instruction so far, and what its line may go on with.
-#[derive(Drop)]
+#[derive(Clone, Copy)]
 pub struct Line {
     pub phase: Phase,
     pub got: Instruction,

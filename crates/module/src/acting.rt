@@ -18,7 +18,7 @@ use judge::kinds::{DELIVER, LOGIC, M, MASKED_STORE, MEMORY, RESOLVE, SET_M, STOR
 use registers::Registers;
 
 // What an act leaves beside the buffers: the registers, and how many items were taken and given.
-#[derive(Drop)]
+#[derive(Clone, Copy)]
 pub struct Acted {
     pub regs: Registers,
     pub taken: usize,

@@ -12,7 +12,7 @@ use judge::{Answer, Lengths, REGISTER_BYTES};
 use registers::Registers;
 
 // What a step leaves beside the buffers.
-#[derive(Drop)]
+#[derive(Clone, Copy)]
 pub struct Stepped {
     pub regs: Registers,
     pub answer: Answer,

@@ -15,7 +15,7 @@ use bits::flips::flip_quarters;
 use bits::quarters::{lines_of, quarters_of};
 
 // What a pass answers: 0 and the passed item, or 16 or 17 and a zero item.
-#[derive(Drop)]
+#[derive(Clone, Copy)]
 pub struct Passed {
     pub number: u8,
     pub item: [u8; 32],

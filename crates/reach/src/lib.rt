@@ -16,7 +16,7 @@ use registers::Modes;
 use registers::mode_bytes::{modes_of, wrong_modes};
 
 // What is answered: 0 and how many bytes were written, or 2, 3, 15 or 27 and 0.
-#[derive(Drop)]
+#[derive(Clone, Copy)]
 pub struct Reached {
     pub number: u8,
     pub count: usize,

@@ -12,7 +12,7 @@ ghost use Rattle.registers.specs.Rows.{with_m, with_modes};
 
 // An access mode register: a flag, 1 where somebody set it, and the mode.
 #[repr(C)]
-#[derive(Drop)]
+#[derive(Clone, Copy)]
 pub struct ModeRegister {
     pub set: u8,
     pub mode: u8,
@@ -20,7 +20,7 @@ pub struct ModeRegister {
 
 // The two of them.
 #[repr(C)]
-#[derive(Drop)]
+#[derive(Clone, Copy)]
 pub struct Modes {
     pub a: ModeRegister,
     pub b: ModeRegister,
@@ -28,7 +28,7 @@ pub struct Modes {
 
 // The register set: one record of three rows of bytes, and the mode registers. Its layout is C's, 100 bytes one after the other, so that a console in C can lend it.
 #[repr(C)]
-#[derive(Drop)]
+#[derive(Clone, Copy)]
 pub struct Registers {
     pub m: [u8; 32],
     pub x: [u8; 32],

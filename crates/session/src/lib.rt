@@ -19,7 +19,7 @@ use registers::mode_bytes::{any_set, modes_of};
 
 // What was found of a file: nothing of its name; one that could not be opened or read; or so many bytes, at the start of the
 // buffer that was lent for it.
-#[derive(Drop)]
+#[derive(Clone, Copy)]
 pub enum Found {
     Absent,
     Failed,
@@ -27,7 +27,7 @@ pub enum Found {
 }
 
 // How many characters are to be printed, and how many bytes of a picture are to be written: 0 for none.
-#[derive(Drop)]
+#[derive(Clone, Copy)]
 pub struct Counts {
     pub text: usize,
     pub after: usize,

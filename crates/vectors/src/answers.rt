@@ -2,7 +2,7 @@
 use bits::choices::one_if;
 
 // How many bytes at the front of the registers, of the list and of the items no document fixes: they are not digested.
-#[derive(Drop)]
+#[derive(Clone, Copy)]
 pub struct Unfixed {
     pub registers: usize,
     pub list: usize,
@@ -10,7 +10,7 @@ pub struct Unfixed {
 }
 
 // The first `count` numbers of `w`, and what is not digested.
-#[derive(Drop)]
+#[derive(Clone, Copy)]
 pub struct Numbers {
     pub count: usize,
     pub unfixed: Unfixed,

@@ -25,7 +25,7 @@ returns-then-not-kind_right c =
 
 pub returns-then-not-length_right : goal.returns-then-not-length_right
 returns-then-not-length_right c =
-    let kind_ok : kind_right c.args.kind ≡ true = sym c.kind_right.ensures ∙ c.if-not-kind_right.false in 
+    let kind_ok : kind_right c.args.kind ≡ true = sym c.kind_right.ensures ∙ c.if-not-kind_right.false in
     let a = c.args in
     c.refused-then-not-length_right.ensures ∙ file-20 a.kind a.bytes.now kind_ok (sym c.length_right.ensures ∙ c.if-not-length_right.true)
 
@@ -53,7 +53,7 @@ slice_bounds-fault-end c = omega arith
 
 pub fault-found-requires : goal.fault-found-requires
 fault-found-requires c =
-    let inside : 512 * c.loop-i.i + 512 ≤ length c.args.bytes.now = omega arith in 
+    let inside : 512 * c.loop-i.i + 512 ≤ length c.args.bytes.now = omega arith in
     let b = c.args.bytes.now in
     (ap length (block-part b c.loop-i.i) ∙ block-len b c.loop-i.i inside, omega arith)
 
@@ -64,7 +64,7 @@ returns-then-found-ne0 c =
     let found-is : (let a = c.args in
     fault (block_at a.bytes.now c.loop-i.i) a.kind c.loop-i.i (length a.bytes.now / 512) ≡ c.fault-found.result) = let a = c.args in
     let i = c.loop-i.i in
-    sym (c.fault-found.ensures ∙ ap (λ (b : List ℕ). fault b a.kind i (length a.bytes.now / 512)) (block-part a.bytes.now i)) in 
+    sym (c.fault-found.ensures ∙ ap (λ (b : List ℕ). fault b a.kind i (length a.bytes.now / 512)) (block-part a.bytes.now i)) in
     let a = c.args in
     c.refused-then-found-ne0.ensures ∙ file-bad a.kind a.bytes.now kind_ok len-ok c.loop-i.i _ (omega arith) c.loop-i.invariant.1 found-is c.if-found-ne0.true
 
@@ -88,7 +88,7 @@ slice_bounds-two_at-end c = omega arith
 
 pub two_at-size-requires : goal.two_at-size-requires
 two_at-size-requires c =
-    let inside : 512 * c.loop-i.i + 512 ≤ length c.args.bytes.now = omega arith in 
+    let inside : 512 * c.loop-i.i + 512 ≤ length c.args.bytes.now = omega arith in
     let b = c.args.bytes.now in
     omega (arith, ap length (block-part b c.loop-i.i), block-len b c.loop-i.i inside)
 
@@ -117,7 +117,7 @@ loop-i-preserved c =
     let inside : 512 * c.loop-i.i + 512 ≤ length c.args.bytes.now = omega arith in
     let used-ok : two_at (block_at c.args.bytes.now c.loop-i.i) 6 ≤ 496 = let a = c.args in
     let i = c.loop-i.i in
-    used_le i (length a.bytes.now / 512) _ (fault-good (block_at a.bytes.now i) a.kind i (length a.bytes.now / 512) (found-is ∙ c.if-found-ne0.false)).used in 
+    used_le i (length a.bytes.now / 512) _ (fault-good (block_at a.bytes.now i) a.kind i (length a.bytes.now / 512) (found-is ∙ c.if-found-ne0.false)).used in
     let a = c.args in
     let l = c.loop-i in
     let b = a.bytes.now in
@@ -138,7 +138,7 @@ returns-then-size_fits c =
     let b = a.bytes.now in
     let l = c.loop-i in
     let e : l.i ≡ length b / 512 = omega arith in
-    file-good a.kind b kind_ok len-ok l.size (sym (ap (blocks_judged a.kind b (length b / 512)) e) ∙ l.invariant.1) (l.invariant.2 ∙ ap (λ (k : ℕ). length (gathered b k)) e) in 
+    file-good a.kind b kind_ok len-ok l.size (sym (ap (blocks_judged a.kind b (length b / 512)) e) ∙ l.invariant.1) (l.invariant.2 ∙ ap (λ (k : ℕ). length (gathered b k)) e) in
     let s = c.loop-i.size in
     c.done.ensures ∙ sym (settled ∙ ap (λ (t : Bool). cond t (done s) (refused 25 0)) (sym c.size_fits.ensures ∙ c.if-size_fits.true))
 
@@ -150,6 +150,6 @@ returns c =
     let b = a.bytes.now in
     let l = c.loop-i in
     let e : l.i ≡ length b / 512 = omega arith in
-    file-good a.kind b kind_ok len-ok l.size (sym (ap (blocks_judged a.kind b (length b / 512)) e) ∙ l.invariant.1) (l.invariant.2 ∙ ap (λ (k : ℕ). length (gathered b k)) e) in 
+    file-good a.kind b kind_ok len-ok l.size (sym (ap (blocks_judged a.kind b (length b / 512)) e) ∙ l.invariant.1) (l.invariant.2 ∙ ap (λ (k : ℕ). length (gathered b k)) e) in
     let s = c.loop-i.size in
     c.refused-2.ensures ∙ sym (settled ∙ ap (λ (t : Bool). cond t (done s) (refused 25 0)) (sym c.size_fits.ensures ∙ c.if-size_fits.false))

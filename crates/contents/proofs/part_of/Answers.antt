@@ -55,7 +55,7 @@ overflow_add-i c =
 
 pub loop-k-smaller : goal.loop-k-smaller
 loop-k-smaller c =
-    let here : (let a = c.args in let l = c.loop-k in Here (a.at + l.k) l.i l.room) = c.loop-k.invariant.3 c.loop-k-test.true in 
+    let here : (let a = c.args in let l = c.loop-k in Here (a.at + l.k) l.i l.room) = c.loop-k.invariant.3 c.loop-k-test.true in
     let p = c in
     let a = p.args in
     let l = p.loop-k in
@@ -66,7 +66,7 @@ loop-k-preserved c =
     let here : (let a = c.args in let l = c.loop-k in Here (a.at + l.k) l.i l.room) = c.loop-k.invariant.3 c.loop-k-test.true in
     let inside : (let a = c.args in let l = c.loop-k in 512 * l.i + (508 - l.room) + c.lesser-piece.result ≤ length a.bytes.now) = let s = c in
     let l = c.loop-k in
-    le_trans (piece_inside s.args.at l.k (length s.args.part.now) l.i l.room c.lesser-piece.result here c.lesser-piece.ensures c.loop-k-test.true) s.requires in 
+    le_trans (piece_inside s.args.at l.k (length s.args.part.now) l.i l.room c.lesser-piece.result here c.lesser-piece.ensures c.loop-k-test.true) s.requires in
     let p = c in
     let a = p.args in
     let l = p.loop-k in

@@ -55,7 +55,7 @@ returns-then-target-size c =
 pub part_of-requires : goal.part_of-requires
 part_of-requires c =
     let stands : (let a = c.args in Stands a.kind a.bytes.now) = let a = c.args in
-    file-stands a.kind a.bytes.now (sym (ap (λ x. x.number) c.judge_file-found.ensures) ∙ c.if-number-ne0.false) in 
+    file-stands a.kind a.bytes.now (sym (ap (λ x. x.number) c.judge_file-found.ensures) ∙ c.if-number-ne0.false) in
     let a = c.args in
     let j = c.judge_file-found in
     let t = a.target.now in
@@ -67,7 +67,7 @@ pub returns : goal.returns
 unfolding content_read
 returns c =
     let stands : (let a = c.args in Stands a.kind a.bytes.now) = let a = c.args in
-    file-stands a.kind a.bytes.now (sym (ap (λ x. x.number) c.judge_file-found.ensures) ∙ c.if-number-ne0.false) in 
+    file-stands a.kind a.bytes.now (sym (ap (λ x. x.number) c.judge_file-found.ensures) ∙ c.if-number-ne0.false) in
     let e = c in
     let a = e.args in
     let j = e.judge_file-found in

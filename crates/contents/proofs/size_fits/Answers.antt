@@ -24,9 +24,9 @@ returns-then-kind-eq-LIST c =
 pub returns-then-size-eq0-2 : goal.returns-then-size-eq0-2
 unfolding size_fits
 returns-then-size-eq0-2 c =
-    simp (ne_eqb _ _ c.if-kind-eq-PICTURE.false, ne_eqb _ _ c.if-kind-eq-MODES_PICTURE.false, ne_eqb _ _ c.if-kind-eq-LIST.false, eq-eqb _ _ c.if5.true)
+    simp (ne_eqb _ _ c.if-kind-eq-PICTURE.false, ne_eqb _ _ c.if-kind-eq-MODES_PICTURE.false, ne_eqb _ _ c.if-kind-eq-LIST.false, eq-eqb _ _ c.if-size-eq0-2.true)
 
 pub returns : goal.returns
 unfolding size_fits
 returns c =
-    simp (ne_eqb _ _ c.if-kind-eq-PICTURE.false, ne_eqb _ _ c.if-kind-eq-MODES_PICTURE.false, ne_eqb _ _ c.if-kind-eq-LIST.false, ne_eqb _ _ c.if5.false)
+    simp (ne_eqb _ _ c.if-kind-eq-PICTURE.false, ne_eqb _ _ c.if-kind-eq-MODES_PICTURE.false, ne_eqb _ _ c.if-kind-eq-LIST.false, ne_eqb _ _ c.if-size-eq0-2.false)

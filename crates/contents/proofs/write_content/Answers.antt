@@ -26,7 +26,7 @@ returns-then-not-kind_right c =
 pub returns-then-is_picture : goal.returns-then-is_picture
 unfolding content_written
 returns-then-is_picture c =
-    let kind_ok : kind_right c.args.kind ≡ true = sym c.kind_right.ensures ∙ c.if-not-kind_right.false in 
+    let kind_ok : kind_right c.args.kind ≡ true = sym c.kind_right.ensures ∙ c.if-not-kind_right.false in
     let a = c.args in
     let r = c.refused-then-is_picture in
     let f : content_fits a.kind a.content.now ≡ false =
@@ -37,7 +37,7 @@ returns-then-is_picture c =
 pub returns-then-not-size_fits : goal.returns-then-not-size_fits
 unfolding content_written
 returns-then-not-size_fits c =
-    let kind_ok : kind_right c.args.kind ≡ true = sym c.kind_right.ensures ∙ c.if-not-kind_right.false in 
+    let kind_ok : kind_right c.args.kind ≡ true = sym c.kind_right.ensures ∙ c.if-not-kind_right.false in
     let a = c.args in
     let r = c.refused-then-not-size_fits in
     let f : content_fits a.kind a.content.now ≡ false =
@@ -55,7 +55,7 @@ unfolding content_written
 returns-then-out-count c =
     let kind_ok : kind_right c.args.kind ≡ true = sym c.kind_right.ensures ∙ c.if-not-kind_right.false in
     let fit-ok : size_fits c.args.kind (length c.args.content.now) ≡ true = sym c.size_fits.ensures ∙ c.if-not-size_fits.false in
-    let both : content_fits c.args.kind c.args.content.now ≡ true = ap₂ (λ (x y : Bool). not x && y) (sym c.is_picture.ensures ∙ c.if-is_picture.false) fit-ok in 
+    let both : content_fits c.args.kind c.args.content.now ≡ true = ap₂ (λ (x y : Bool). not x && y) (sym c.is_picture.ensures ∙ c.if-is_picture.false) fit-ok in
     let a = c.args in
     let r = c.refused-then-out-count in
     let h : length a.out.now < 512 * block_count (length a.content.now) = omega (arith, c.block_count-count.ensures, c.if-out-count.true) in
@@ -71,7 +71,7 @@ put_part-requires c = omega (arith, c.block_count-count.ensures, c.if-out-count.
 pub seal_all-requires : goal.seal_all-requires
 seal_all-requires c =
     let kind_ok : kind_right c.args.kind ≡ true = sym c.kind_right.ensures ∙ c.if-not-kind_right.false in
-    let fit-ok : size_fits c.args.kind (length c.args.content.now) ≡ true = sym c.size_fits.ensures ∙ c.if-not-size_fits.false in 
+    let fit-ok : size_fits c.args.kind (length c.args.content.now) ≡ true = sym c.size_fits.ensures ∙ c.if-not-size_fits.false in
     let e = c in
     let a = e.args in
     let k = kind-le a.kind kind_ok in
@@ -84,7 +84,7 @@ unfolding content_written
 returns c =
     let kind_ok : kind_right c.args.kind ≡ true = sym c.kind_right.ensures ∙ c.if-not-kind_right.false in
     let fit-ok : size_fits c.args.kind (length c.args.content.now) ≡ true = sym c.size_fits.ensures ∙ c.if-not-size_fits.false in
-    let both : content_fits c.args.kind c.args.content.now ≡ true = ap₂ (λ (x y : Bool). not x && y) (sym c.is_picture.ensures ∙ c.if-is_picture.false) fit-ok in 
+    let both : content_fits c.args.kind c.args.content.now ≡ true = ap₂ (λ (x y : Bool). not x && y) (sym c.is_picture.ensures ∙ c.if-is_picture.false) fit-ok in
     let d = c in
     let a = d.args in
     let r = c.done in

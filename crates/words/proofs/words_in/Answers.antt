@@ -1,5 +1,6 @@
 -- `words_in`: the words turned are what the chips are to hold.
 use mathlib.Core.Path.{◌∙◌}
+use borrow.Author.Rules.{rules}
 use native.Mathlib.Omega.{arith}
 use Rattle.words.proofs.PlainLaws.{eight-in}
 use Rattle.words.proofs.words_in.Goals as goal
@@ -10,4 +11,4 @@ returns c =
     let s = k in
     let t = c.turned-bytes in
     c.put_all.ensures
-    ∙ eight-in s.args.mem.now s.args.words.now s.args.v s.requires.0 (λ i. (k.slice-known.given i).fits) (omega arith) s.requires.2 t.result t.ensures
+    ∙ eight-in s.args.mem.now s.args.words.now s.args.v s.requires.0 (λ i. search rules) (omega arith) s.requires.2 t.result t.ensures

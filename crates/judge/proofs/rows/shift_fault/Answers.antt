@@ -1,0 +1,17 @@
+-- `rows::shift_fault`: a byte 6 that is found has neither number; of one that is not, `unlisted` says which. Assumes nothing.
+use mathlib.Core.Path.{sym, ◌∙◌}
+use Rattle.judge.proofs.FormLaws.{code-found, code-lost}
+use Rattle.judge.proofs.rows.shift_fault.Goals as goal
+
+pub returns-then-is_code : goal.returns-then-is_code
+returns-then-is_code c =
+    let a = c.args in
+    code-found a.code a.behind (sym c.is_code.ensures ∙ c.if-is_code.true)
+
+pub unlisted-requires : goal.unlisted-requires
+unlisted-requires c = sym c.is_code.ensures ∙ c.if-is_code.false
+
+pub returns : goal.returns
+returns c =
+    let a = c.args in
+    code-lost a.code a.behind _ (sym c.is_code.ensures ∙ c.if-is_code.false) c.unlisted.ensures

@@ -1,0 +1,5 @@
+-- `put_decimal`: the tenth is smaller.
+use Rattle.report.proofs.+put_decimal.Given as goal
+
+abbrev pub decreases-put_decimal : goal.decreases-put_decimal
+decreases-put_decimal l = l.n
