@@ -1,7 +1,7 @@
 -- `seal_all`: the first i blocks stand at the start of the output, and behind them what was there.
 use mathlib.Core.List.{◌++◌}
 use mathlib.Core.Path.{◌≡◌}
-use Prim.Native.Nat.{◌≤◌, ◌-◌, ◌+◌, ◌*◌}
+use Prim.Native.Nat.{◌≤◌, ◌-◌, ◌*◌}
 use lib.ListN.{length, drop}
 use Rattle.contents.specs.File.{first_blocks}
 use Rattle.contents.specs.Payloads.{payloads}

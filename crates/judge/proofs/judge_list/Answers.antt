@@ -27,7 +27,7 @@ returns-then-bad-n c =
 pub overflow_mul-tally : goal.overflow_mul-tally
 overflow_mul-tally c =
     let whole : let a = c.args in let list = a.list.now in let t = c.tally-tally.result in
-    (length list / 8 ≤ first (faulty a.m list) 0 (length list / 8)) × (t.taken ≡ (done list).taken) × (t.given ≡ (done list).given) = tally-whole _ _ c.tally-tally.result c.tally-tally.ensures c.if-bad-n.false in 
+    (length list / 8 ≤ first (faulty a.m list) 0 (length list / 8)) × (t.taken ≡ (done list).taken) × (t.given ≡ (done list).given) = tally-whole _ _ c.tally-tally.result c.tally-tally.ensures c.if-bad-n.false in
     let list = c.args.list.now in
     let w = whole in
     omega (arith, count-le (λ k. takes (instruction_at list k)) (length list / 8))
@@ -35,7 +35,7 @@ overflow_mul-tally c =
 pub returns-then-l-tally : goal.returns-then-l-tally
 returns-then-l-tally c =
     let whole : let a = c.args in let list = a.list.now in let t = c.tally-tally.result in
-    (length list / 8 ≤ first (faulty a.m list) 0 (length list / 8)) × (t.taken ≡ (done list).taken) × (t.given ≡ (done list).given) = tally-whole _ _ c.tally-tally.result c.tally-tally.ensures c.if-bad-n.false in 
+    (length list / 8 ≤ first (faulty a.m list) 0 (length list / 8)) × (t.taken ≡ (done list).taken) × (t.given ≡ (done list).given) = tally-whole _ _ c.tally-tally.result c.tally-tally.ensures c.if-bad-n.false in
     let e = c in
     let a = e.args in
     let list = a.list.now in
@@ -46,7 +46,7 @@ returns-then-l-tally c =
 pub overflow_mul-tally-2 : goal.overflow_mul-tally-2
 overflow_mul-tally-2 c =
     let whole : let a = c.args in let list = a.list.now in let t = c.tally-tally.result in
-    (length list / 8 ≤ first (faulty a.m list) 0 (length list / 8)) × (t.taken ≡ (done list).taken) × (t.given ≡ (done list).given) = tally-whole _ _ c.tally-tally.result c.tally-tally.ensures c.if-bad-n.false in 
+    (length list / 8 ≤ first (faulty a.m list) 0 (length list / 8)) × (t.taken ≡ (done list).taken) × (t.given ≡ (done list).given) = tally-whole _ _ c.tally-tally.result c.tally-tally.ensures c.if-bad-n.false in
     let list = c.args.list.now in
     let w = whole in
     omega (arith, count-le (λ k. gives (instruction_at list k)) (length list / 8))
@@ -54,7 +54,7 @@ overflow_mul-tally-2 c =
 pub returns-then-l-tally-2 : goal.returns-then-l-tally-2
 returns-then-l-tally-2 c =
     let whole : let a = c.args in let list = a.list.now in let t = c.tally-tally.result in
-    (length list / 8 ≤ first (faulty a.m list) 0 (length list / 8)) × (t.taken ≡ (done list).taken) × (t.given ≡ (done list).given) = tally-whole _ _ c.tally-tally.result c.tally-tally.ensures c.if-bad-n.false in 
+    (length list / 8 ≤ first (faulty a.m list) 0 (length list / 8)) × (t.taken ≡ (done list).taken) × (t.given ≡ (done list).given) = tally-whole _ _ c.tally-tally.result c.tally-tally.ensures c.if-bad-n.false in
     let e = c in
     let a = e.args in
     let list = a.list.now in
@@ -66,7 +66,7 @@ returns-then-l-tally-2 c =
 pub returns : goal.returns
 returns c =
     let whole : let a = c.args in let list = a.list.now in let t = c.tally-tally.result in
-    (length list / 8 ≤ first (faulty a.m list) 0 (length list / 8)) × (t.taken ≡ (done list).taken) × (t.given ≡ (done list).given) = tally-whole _ _ c.tally-tally.result c.tally-tally.ensures c.if-bad-n.false in 
+    (length list / 8 ≤ first (faulty a.m list) 0 (length list / 8)) × (t.taken ≡ (done list).taken) × (t.given ≡ (done list).given) = tally-whole _ _ c.tally-tally.result c.tally-tally.ensures c.if-bad-n.false in
     let e = c in
     let a = e.args in
     let list = a.list.now in

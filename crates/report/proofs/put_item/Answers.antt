@@ -1,7 +1,7 @@
 -- `put_item`: each turn is one byte more; then the line feed.
 use mathlib.Core.Path.{refl, ap, ◌∙◌}
 use mathlib.Core.List.{List, [], ◌∷◌, ◌++◌}
-use Prim.Native.Nat.{ℕ, ◌+◌, ◌-◌}
+use Prim.Native.Nat.{ℕ}
 use lib.Seq.{take_all}
 use Rattle.report.specs.Report.{hexed}
 use Rattle.bits.proofs.Puts.{none-put, then-put}

@@ -1,6 +1,6 @@
 -- `put_items`: each turn is one item more.
 use mathlib.Core.Path.{◌≡◌, refl, subst, ◌∙◌}
-use Prim.Native.Nat.{ℕ, ◌-◌}
+use Prim.Native.Nat.{ℕ}
 use Rattle.report.specs.Report.{item_lines}
 use Rattle.bits.specs.Steps.{Put}
 use Rattle.bits.proofs.Puts.{none-put, then-put}

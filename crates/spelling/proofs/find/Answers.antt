@@ -1,5 +1,4 @@
 -- `find`: what is left to search finds the rest of the way.
-use Prim.Native.Nat.{◌-◌}
 use borrow.Author.Rules.{rules}
 use native.Mathlib.Omega.{arith}
 use Rattle.bits.proofs.Find.{find_none, find-here, find-more, find-end}

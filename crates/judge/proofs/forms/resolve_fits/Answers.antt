@@ -11,4 +11,4 @@ unfolding instruction_at
 returns c m =
     let a = c.args in
     let i = instruction_at a.list.now a.k in
-    ap (λ (b : Bool). eqb i.source 0 && b) c.idle.ensures ∙ resolve-fits m i c.requires.1
+    ap (λ (b : Bool). eqb i.source 0 && b) c.idle.ensures ∙ resolve-fits m i c.requires.k_value

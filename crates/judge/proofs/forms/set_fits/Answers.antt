@@ -7,4 +7,4 @@ pub returns : goal.returns
 unfolding instruction_at
 returns c m =
     let s = c in
-    set-fits m (instruction_at s.args.list.now s.args.k) s.requires.1
+    set-fits m (instruction_at s.args.list.now s.args.k) s.requires.k_value

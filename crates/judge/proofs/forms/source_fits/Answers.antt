@@ -13,7 +13,7 @@ returns-then-source-eq-MEMORY c =
     let s = c in
     let i = instruction_at s.args.list.now s.args.k in
     c.mode_fits.ensures
-    ∙ (simp (eq-eqb i.source 0 c.if-source-eq-MEMORY.true) at (source_fits s.args.m i s.requires.1.1 s.requires.1.0))
+    ∙ (simp (eq-eqb i.source 0 c.if-source-eq-MEMORY.true) at (source_fits s.args.m i s.requires.k_value s.requires.k_bound))
 
 pub returns : goal.returns
 unfolding instruction_at
@@ -21,4 +21,4 @@ returns c =
     let s = c in
     let i = instruction_at s.args.list.now s.args.k in
     ap (λ (b : Bool). not (ltb 4 i.source) && b) c.idle.ensures
-    ∙ (simp (ne_eqb i.source 0 c.if-source-eq-MEMORY.false) at (source_fits s.args.m i s.requires.1.1 s.requires.1.0))
+    ∙ (simp (ne_eqb i.source 0 c.if-source-eq-MEMORY.false) at (source_fits s.args.m i s.requires.k_value s.requires.k_bound))

@@ -11,4 +11,4 @@ unfolding instruction_at
 returns c =
     let s = c in
     let i = instruction_at s.args.list.now s.args.k in
-    ap (λ (b : Bool). not (eqb i.source 0) && not (ltb 4 i.source) && b) c.mode_fits.ensures ∙ store-fits s.args.m i s.requires.1
+    ap (λ (b : Bool). not (eqb i.source 0) && not (ltb 4 i.source) && b) c.mode_fits.ensures ∙ store-fits s.args.m i s.requires.k_value

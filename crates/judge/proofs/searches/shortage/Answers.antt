@@ -1,6 +1,6 @@
 -- `judge::searches::shortage`: none of the instructions passed lacks what it uses, and those that use some were counted. Assumes nothing.
 use mathlib.Core.Path.{refl, sym, ap, ◌∙◌}
-use Prim.Native.Nat.{◌-◌, ◌/◌}
+use Prim.Native.Nat.{◌/◌}
 use lib.ListN.{length}
 use Rattle.bits.specs.Search.{count}
 use Rattle.bits.proofs.Search.{none_more, found, found_none}

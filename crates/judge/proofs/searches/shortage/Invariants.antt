@@ -8,7 +8,7 @@ use Rattle.judge.specs.Judge.{lacks, uses}
 use Rattle.judge.proofs.searches.shortage.Given as goal
 
 abbrev pub invariant-loop-k : goal.invariant-loop-k
-invariant-loop-k l =     (l.k ≤ l.n) × (l.used ≤ l.k) × (l.used ≡ count (λ j. uses l.room (instruction_at l.list j)) l.k) × NoneBelow (lacks (uses l.room) l.list l.have) l.k
+invariant-loop-k l = (l.k ≤ l.n) × (l.used ≤ l.k) × (l.used ≡ count (λ j. uses l.room (instruction_at l.list j)) l.k) × NoneBelow (lacks (uses l.room) l.list l.have) l.k
 
 abbrev pub decreases-loop-k : goal.decreases-loop-k
 decreases-loop-k l = l.n - l.k

@@ -2,8 +2,7 @@
 use mathlib.Core.Path.{◌≡◌, refl, sym, ap, ap₂, ◌∙◌}
 use mathlib.Core.Bool.{Bool, true, false, not}
 use mathlib.Core.List.{List}
-use mathlib.Core.Logic.{⊎_elim}
-use Prim.Native.Nat.{ℕ, ◌+◌, ◌-◌, ◌/◌}
+use Prim.Native.Nat.{ℕ, ◌+◌, ◌/◌}
 use native.Mathlib.Numerals.{add-one}
 use native.Mathlib.Omega.{arith}
 use lib.Dec.{eqb}
@@ -19,6 +18,7 @@ use Rattle.judge.specs.Steps.{tally_of}
 use Rattle.judge.proofs.ModeLaws.{other-kind}
 use Rattle.judge.proofs.Shortage.{counted, tally-is}
 use Rattle.judge.proofs.searches.tally.Goals as goal
+use Rattle.judge.proofs.searches.tally.Goals.{then-list-k-gt-DELIVER+else-not-still_fits, else-list-k-gt-DELIVER+else-not-moving_fits}
 
 pub loop-k-init : goal.loop-k-init
 unfolding count modes_after
@@ -26,14 +26,14 @@ loop-k-init c = (omega arith, omega arith, omega arith, refl, refl, none-start (
 
 pub still_fits-requires : goal.still_fits-requires
 unfolding instruction_at
-still_fits-requires c = (omega arith, c.if-list-k-gt-DELIVER.true)
+still_fits-requires c = record { k_in_bounds = omega arith; bound = c.if-list-k-gt-DELIVER.true }
 
 pub decode-requires : goal.decode-requires
 decode-requires c = omega arith
 
 pub moving_fits-requires : goal.moving_fits-requires
 unfolding instruction_at
-moving_fits-requires c = (omega arith, c.if-list-k-gt-DELIVER.false)
+moving_fits-requires c = record { k_in_bounds = omega arith; k_bound = c.if-list-k-gt-DELIVER.false }
 
 pub decode-i-requires : goal.decode-i-requires
 decode-i-requires c = omega arith
@@ -67,16 +67,16 @@ loop-k-preserved c =
     let k = l.loop-k.k in
     let same = l.loop-k.invariant.6 in
     let next = sym (ap (modes_after list m) (add-one k)) in
-    ⊎_elim
-    (λ w. (
-      tested m l.loop-k.modes list k _ false same w.1.ensures w.2.left,
-      w.5 ∙ w.4.ensures ∙ ap₂ modes_by w.3.ensures same ∙ next,
-    ))
-    (λ w. (
-      tested m l.loop-k.modes list k _ false same w.1.ensures w.2.left,
-      w.3 ∙ same ∙ sym (other-kind (instruction_at list k) (modes_after list m k) (λ e. omega (arith, w.0.left))) ∙ next,
-    ))
-    c.if-list-k-gt-DELIVER.branch in 
+    elim c.if-list-k-gt-DELIVER.branch [
+      | then-list-k-gt-DELIVER+else-not-still_fits w ↦ (
+        tested m l.loop-k.modes list k _ false same w.still_fits.ensures (ap not w.if-not-still_fits.false),
+        w.modes-is ∙ w.modes_by-modes.ensures ∙ ap₂ modes_by w.decode.ensures same ∙ next,
+      )
+      | else-list-k-gt-DELIVER+else-not-moving_fits w ↦ (
+        tested m l.loop-k.modes list k _ false same w.moving_fits.ensures (ap not w.if-not-moving_fits.false),
+        w.modes-is ∙ same ∙ sym (other-kind (instruction_at list k) (modes_after list m k) (λ e. omega (arith, w.if-list-k-gt-DELIVER.false))) ∙ next,
+      )
+    ] in
     let t = c in
     let d = t in
     let q = past in
@@ -118,10 +118,10 @@ returns-then-not-still_fits c =
     (found (faulty a.m list) (length list / 8) l.k (omega arith) l.invariant.5 e)
     l.invariant.3
     l.invariant.4
-    l.invariant.6 in 
+    l.invariant.6 in
     let i = c in
     let l = i.loop-k in
-    stopped (tested _ l.modes _ l.k _ true l.invariant.6 c.still_fits.ensures c.if-not-still_fits.true)
+    stopped (tested _ l.modes _ l.k _ true l.invariant.6 c.still_fits.ensures (ap not c.if-not-still_fits.true))
 
 pub returns-then-not-moving_fits : goal.returns-then-not-moving_fits
 returns-then-not-moving_fits c =
@@ -134,10 +134,10 @@ returns-then-not-moving_fits c =
     (found (faulty a.m list) (length list / 8) l.k (omega arith) l.invariant.5 e)
     l.invariant.3
     l.invariant.4
-    l.invariant.6 in 
+    l.invariant.6 in
     let i = c in
     let l = i.loop-k in
-    stopped (tested _ l.modes _ l.k _ true l.invariant.6 c.moving_fits.ensures c.if-not-moving_fits.true)
+    stopped (tested _ l.modes _ l.k _ true l.invariant.6 c.moving_fits.ensures (ap not c.if-not-moving_fits.true))
 
 pub overflow_mul-k : goal.overflow_mul-k
 overflow_mul-k c = omega arith

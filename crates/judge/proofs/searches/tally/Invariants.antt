@@ -9,7 +9,7 @@ use Rattle.judge.specs.Judge.{faulty}
 use Rattle.judge.proofs.searches.tally.Given as goal
 
 abbrev pub invariant-loop-k : goal.invariant-loop-k
-invariant-loop-k l =     (l.k ≤ l.n) × (l.taken ≤ l.k) × (l.given ≤ l.k) × (l.taken ≡ count (λ j. takes (instruction_at l.list j)) l.k) × (l.given ≡ count (λ j. gives (instruction_at l.list j)) l.k)
+invariant-loop-k l = (l.k ≤ l.n) × (l.taken ≤ l.k) × (l.given ≤ l.k) × (l.taken ≡ count (λ j. takes (instruction_at l.list j)) l.k) × (l.given ≡ count (λ j. gives (instruction_at l.list j)) l.k)
     × NoneBelow (faulty l.initial.modes l.list) l.k × (l.modes ≡ modes_after l.list l.initial.modes l.k)
 
 abbrev pub decreases-loop-k : goal.decreases-loop-k

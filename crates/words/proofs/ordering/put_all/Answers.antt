@@ -1,6 +1,6 @@
 -- `put_all`: each turn is eight writes more.
 use mathlib.Core.Path.{◌≡◌, refl, sym, ap, ap₂, ◌∙◌}
-use Prim.Native.Nat.{ℕ, ◌<◌, ◌-◌, ◌+◌, ◌*◌, ◌/◌, ◌%◌}
+use Prim.Native.Nat.{ℕ, ◌<◌, ◌+◌, ◌*◌, ◌/◌, ◌%◌}
 use lib.Bits.{bit_xor, xor_lt}
 use lib.ListN.{length, get_or}
 use Rattle.bits.specs.Steps.{written}
