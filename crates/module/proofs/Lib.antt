@@ -4,4 +4,3 @@ pub mod ActLaws
 pub mod RunLaws
 pub mod Good
 pub mod StepLaws
-pub mod WalkSteps

@@ -14,7 +14,7 @@ registers_of-r-requires c =
     let lent : Lent (List ℕ) = let a = c.args in
     record { memory = a.mem.now; registers = a.regs.now; list = a.list.now; items = a.items.now; out = a.out.now } in
     let answered : c.judge-verdict.result ≡ judged (run_lengths lent) (modes_of lent.registers) lent.list = c.judge-verdict.ensures ∙ ap (λ (m : Modes). judged (run_lengths lent) m lent.list) c.modes_of-modes.ensures in
-    let done : c.judge-verdict.result.number ≡ 0 = let d = c in steps-done lent d.judge-verdict.result answered c.if-verdict-ne0.true in 
+    let done : c.judge-verdict.result.number ≡ 0 = let d = c in steps-done lent d.judge-verdict.result answered c.if-verdict-ne0.true in
     let t = c in
     let d = t in
     registers-long lent d.judge-verdict.result answered done
@@ -24,7 +24,7 @@ run_list-d-requires c =
     let lent : Lent (List ℕ) = let a = c.args in
     record { memory = a.mem.now; registers = a.regs.now; list = a.list.now; items = a.items.now; out = a.out.now } in
     let answered : c.judge-verdict.result ≡ judged (run_lengths lent) (modes_of lent.registers) lent.list = c.judge-verdict.ensures ∙ ap (λ (m : Modes). judged (run_lengths lent) m lent.list) c.modes_of-modes.ensures in
-    let done : c.judge-verdict.result.number ≡ 0 = let d = c in steps-done lent d.judge-verdict.result answered c.if-verdict-ne0.true in 
+    let done : c.judge-verdict.result.number ≡ 0 = let d = c in steps-done lent d.judge-verdict.result answered c.if-verdict-ne0.true in
     let t = c in
     let d = t in
     list-accepted lent d.judge-verdict.result answered done c.registers_of-r.result c.registers_of-r.ensures
@@ -34,7 +34,7 @@ write_registers-requires c =
     let lent : Lent (List ℕ) = let a = c.args in
     record { memory = a.mem.now; registers = a.regs.now; list = a.list.now; items = a.items.now; out = a.out.now } in
     let answered : c.judge-verdict.result ≡ judged (run_lengths lent) (modes_of lent.registers) lent.list = c.judge-verdict.ensures ∙ ap (λ (m : Modes). judged (run_lengths lent) m lent.list) c.modes_of-modes.ensures in
-    let done : c.judge-verdict.result.number ≡ 0 = let d = c in steps-done lent d.judge-verdict.result answered c.if-verdict-ne0.true in 
+    let done : c.judge-verdict.result.number ≡ 0 = let d = c in steps-done lent d.judge-verdict.result answered c.if-verdict-ne0.true in
     let t = c in
     let d = t in
     registers-long lent d.judge-verdict.result answered done
@@ -44,7 +44,7 @@ returns-then-verdict-ne0 c =
     let lent : Lent (List ℕ) = let a = c.args in
     record { memory = a.mem.now; registers = a.regs.now; list = a.list.now; items = a.items.now; out = a.out.now } in
     let answered : c.judge-verdict.result ≡ judged (run_lengths lent) (modes_of lent.registers) lent.list = c.judge-verdict.ensures ∙ ap (λ (m : Modes). judged (run_lengths lent) m lent.list) c.modes_of-modes.ensures in
-    let done : c.judge-verdict.result.number ≡ 0 = let d = c in steps-done lent d.judge-verdict.result answered c.if-verdict-ne0.true in 
+    let done : c.judge-verdict.result.number ≡ 0 = let d = c in steps-done lent d.judge-verdict.result answered c.if-verdict-ne0.true in
     let l = c.run_list-d in
     let r = c.registers_of-r in
     let t = c in
@@ -56,6 +56,6 @@ pub returns-else-verdict-ne0 : goal.returns-else-verdict-ne0
 returns-else-verdict-ne0 c =
     let lent : Lent (List ℕ) = let a = c.args in
     record { memory = a.mem.now; registers = a.regs.now; list = a.list.now; items = a.items.now; out = a.out.now } in
-    let answered : c.judge-verdict.result ≡ judged (run_lengths lent) (modes_of lent.registers) lent.list = c.judge-verdict.ensures ∙ ap (λ (m : Modes). judged (run_lengths lent) m lent.list) c.modes_of-modes.ensures in 
+    let answered : c.judge-verdict.result ≡ judged (run_lengths lent) (modes_of lent.registers) lent.list = c.judge-verdict.ensures ∙ ap (λ (m : Modes). judged (run_lengths lent) m lent.list) c.modes_of-modes.ensures in
     let d = c in
     ran-still lent d.judge-verdict.result answered c.if-verdict-ne0.false

@@ -1,7 +1,7 @@
 -- `run_list`: the state after k instructions is what `ran_by` says, and the counts are those of the list so far. Assumes nothing.
 use mathlib.Core.Path.{◌≡◌, refl, ap, ◌∙◌}
 use mathlib.Core.List.{List}
-use Prim.Native.Nat.{ℕ, ◌-◌, ◌/◌}
+use Prim.Native.Nat.{ℕ, ◌/◌}
 use lib.ListN.{length}
 use Rattle.bits.specs.Search.{count}
 use Rattle.registers.specs.declared.Registers.{Registers}
@@ -46,7 +46,7 @@ pub loop-k-preserved : goal.loop-k-preserved
 loop-k-preserved c =
     let settled : let t = c in
     ◌≡◌ {A = Settled} (record { mode = t.settle-t.result.mode; modes = c.with_modes-r.result.modes }) (settled_by t.decode-i.result t.loop-k.s.modes) = let t = c in
-    (λ j. record { mode = t.settle-t.result.mode; modes = (c.with_modes-r.ensures j).modes }) ∙ t.settle-t.ensures in 
+    (λ j. record { mode = t.settle-t.result.mode; modes = (c.with_modes-r.ensures j).modes }) ∙ t.settle-t.ensures in
     let d = c in
     let w = d in
     let e = w in

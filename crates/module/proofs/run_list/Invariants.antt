@@ -15,8 +15,8 @@ abbrev lent : List ℕ → Registers → List ℕ → List ℕ → List ℕ → 
 lent mem r list items out = record { memory = mem; registers = r; list = list; items = items; out = out }
 
 abbrev pub invariant-loop-k : goal.invariant-loop-k
-invariant-loop-k l =     (l.k ≤ l.n) × (length l.mem ≡ length l.initial.mem) × (length l.out ≡ length l.initial.out) × (l.taken ≡ used_by takes l.list l.k) × (l.given ≡ used_by gives l.list l.k)
-    × (◌≡◌ {A = State} (record { l.mem = l.mem; l.out = l.out; regs = l.s; l.taken = l.taken; l.given = l.given })
+invariant-loop-k l = (l.k ≤ l.n) × (length l.mem ≡ length l.initial.mem) × (length l.out ≡ length l.initial.out) × (l.taken ≡ used_by takes l.list l.k) × (l.given ≡ used_by gives l.list l.k)
+    × (◌≡◌ {A = State} (record { mem = l.mem; out = l.out; regs = l.s; taken = l.taken; given = l.given })
     (ran_by l.list l.items (begun (lent l.initial.mem l.initial.s l.list l.items l.initial.out) l.initial.s) l.k))
 
 abbrev pub decreases-loop-k : goal.decreases-loop-k

@@ -2,7 +2,7 @@
 use mathlib.Core.Path.{◌≡◌, refl, ap, ◌∙◌}
 use mathlib.Core.Bool.{true}
 use mathlib.Core.Logic.{inl, inr}
-use Prim.Native.Nat.{ℕ, ◌≤◌, ◌-◌, ◌*◌}
+use Prim.Native.Nat.{ℕ, ◌≤◌, ◌*◌}
 use native.Mathlib.Omega.{arith}
 use lib.ListN.{length, take}
 use Rattle.bits.specs.Steps.{written}
@@ -34,19 +34,19 @@ words_out-words-requires c =
 
 pub put_part-requires-2 : goal.put_part-requires-2
 put_part-requires-2 c =
-    let registers-fit : (is_picture c.args.kind ≡ true) × (length c.args.memory.now ≡ 8192) × (length c.args.registers.now ≡ picture_registers c.args.kind) = fits-are c.args.kind (length c.args.memory.now) (length c.args.registers.now) c.requires.0 in 
+    let registers-fit : (is_picture c.args.kind ≡ true) × (length c.args.memory.now ≡ 8192) × (length c.args.registers.now ≡ picture_registers c.args.kind) = fits-are c.args.kind (length c.args.memory.now) (length c.args.registers.now) c.requires.0 in
     let s = c in
     omega (arith, s.requires.1, c.loop-v.invariant.1, registers-fit.2, registers-few s.args.kind)
 
 pub overflow_add-registers : goal.overflow_add-registers
 overflow_add-registers c =
-    let registers-fit : (is_picture c.args.kind ≡ true) × (length c.args.memory.now ≡ 8192) × (length c.args.registers.now ≡ picture_registers c.args.kind) = fits-are c.args.kind (length c.args.memory.now) (length c.args.registers.now) c.requires.0 in 
+    let registers-fit : (is_picture c.args.kind ≡ true) × (length c.args.memory.now ≡ 8192) × (length c.args.registers.now ≡ picture_registers c.args.kind) = fits-are c.args.kind (length c.args.memory.now) (length c.args.registers.now) c.requires.0 in
     let s = c in
     omega (arith, registers-fit.2, registers-few s.args.kind)
 
 pub seal_all-requires : goal.seal_all-requires
 seal_all-requires c =
-    let registers-fit : (is_picture c.args.kind ≡ true) × (length c.args.memory.now ≡ 8192) × (length c.args.registers.now ≡ picture_registers c.args.kind) = fits-are c.args.kind (length c.args.memory.now) (length c.args.registers.now) c.requires.0 in 
+    let registers-fit : (is_picture c.args.kind ≡ true) × (length c.args.memory.now ≡ 8192) × (length c.args.registers.now ≡ picture_registers c.args.kind) = fits-are c.args.kind (length c.args.memory.now) (length c.args.registers.now) c.requires.0 in
     let s = c in
     let l = c.loop-v in
     let p = c.put_part-2 in
@@ -56,7 +56,7 @@ seal_all-requires c =
 
 pub returns : goal.returns
 returns c =
-    let registers-fit : (is_picture c.args.kind ≡ true) × (length c.args.memory.now ≡ 8192) × (length c.args.registers.now ≡ picture_registers c.args.kind) = fits-are c.args.kind (length c.args.memory.now) (length c.args.registers.now) c.requires.0 in 
+    let registers-fit : (is_picture c.args.kind ≡ true) × (length c.args.memory.now ≡ 8192) × (length c.args.registers.now ≡ picture_registers c.args.kind) = fits-are c.args.kind (length c.args.memory.now) (length c.args.registers.now) c.requires.0 in
     let l = c.loop-v in
     let s = c in
     let memory = s.args.memory.now in

@@ -41,7 +41,7 @@ flags_wrong-requires c =
 pub returns-then-flags_wrong : goal.returns-then-flags_wrong
 unfolding picture_read
 returns-then-flags_wrong c =
-    let fits-ok : (let a = c.args in picture_fits a.kind (length a.memory.now) (length a.registers.now) ≡ true) = sym c.picture_fits.ensures ∙ c.if-not-picture_fits.false in 
+    let fits-ok : (let a = c.args in picture_fits a.kind (length a.memory.now) (length a.registers.now) ≡ true) = sym c.picture_fits.ensures ∙ c.if-not-picture_fits.false in
     let e = c in
     let a = e.args in
     let j = e.judge_file-found in
@@ -58,7 +58,7 @@ unload_picture-requires c =
     let fits-ok : (let a = c.args in picture_fits a.kind (length a.memory.now) (length a.registers.now) ≡ true) = sym c.picture_fits.ensures ∙ c.if-not-picture_fits.false in
     let lengths : (let a = c.args in
     (is_picture a.kind ≡ true) × (length a.memory.now ≡ 8192) × (length a.registers.now ≡ picture_registers a.kind)) = let a = c.args in
-    fits-are a.kind (length a.memory.now) (length a.registers.now) fits-ok in 
+    fits-are a.kind (length a.memory.now) (length a.registers.now) fits-ok in
     let e = c in
     let a = e.args in
     let l = lengths in
@@ -68,7 +68,7 @@ pub returns : goal.returns
 unfolding picture_read
 returns c =
     let judged-0 : (let a = c.args in (file_judged a.kind a.bytes.now).number ≡ 0) = sym (ap (λ x. x.number) c.judge_file-found.ensures) ∙ c.if-number-ne0.false in
-    let fits-ok : (let a = c.args in picture_fits a.kind (length a.memory.now) (length a.registers.now) ≡ true) = sym c.picture_fits.ensures ∙ c.if-not-picture_fits.false in 
+    let fits-ok : (let a = c.args in picture_fits a.kind (length a.memory.now) (length a.registers.now) ≡ true) = sym c.picture_fits.ensures ∙ c.if-not-picture_fits.false in
     let g = c in
     let e = g in
     let a = e.args in

@@ -1,18 +1,19 @@
 -- `unload_picture`: each turn puts eight words more of the content into the memory.
 use mathlib.Core.Path.{◌≡◌, ap, ◌∙◌}
-use Prim.Native.Nat.{ℕ, ◌<◌, ◌-◌, ◌*◌}
+use Prim.Native.Nat.{ℕ, ◌<◌, ◌*◌}
 use native.Mathlib.Omega.{arith}
 use lib.ListN.{length, get_or}
 use Rattle.contents.specs.File.{content_of}
 use Rattle.contents.proofs.OneForm.{content-bytes}
 use Rattle.contents.proofs.PayloadLaws.{payloads-content, payloads-room}
 use Rattle.pictures.proofs.PictureLaws.{picture-stands, picture-size, registers-rest, with_words, words-start, words-put, words-done}
+use borrow.Author.Rules.{rules}
 use Rattle.pictures.proofs.unload_picture.Goals as goal
 
 pub loop-v-init : goal.loop-v-init
 loop-v-init c =
     let s = c in
-    (omega arith, s.requires.1, words-start (content_of s.args.bytes.now) s.args.memory.now s.requires.1 (λ i. (c.slice-known.given i).fits))
+    (omega arith, s.requires.1, words-start (content_of s.args.bytes.now) s.args.memory.now s.requires.1 (λ i. search rules))
 
 pub part_of-requires : goal.part_of-requires
 part_of-requires c =
@@ -24,7 +25,7 @@ pub loop-v-preserved : goal.loop-v-preserved
 loop-v-preserved c =
     let small : (i : ℕ) → get_or (content_of c.args.bytes.now) i 0 < 256 = let s = c in
     let b = s.args.bytes.now in
-    content-bytes s.requires.0.0 b (picture-stands _ b _ s.requires.0.1) (λ i. (c.shared-slice-known.given i).fits) in 
+    content-bytes s.requires.0.0 b (picture-stands _ b _ s.requires.0.1) (λ i. search rules) in
     let k = c in
     let s = k in
     let b = s.args.bytes.now in
@@ -49,7 +50,7 @@ pub returns : goal.returns
 returns c =
     let small : (i : ℕ) → get_or (content_of c.args.bytes.now) i 0 < 256 = let s = c in
     let b = s.args.bytes.now in
-    content-bytes s.requires.0.0 b (picture-stands _ b _ s.requires.0.1) (λ i. (c.shared-slice-known.given i).fits) in 
+    content-bytes s.requires.0.0 b (picture-stands _ b _ s.requires.0.1) (λ i. search rules) in
     let l = c.loop-v in
     let k = c in
     let s = k in

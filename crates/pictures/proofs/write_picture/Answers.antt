@@ -22,7 +22,7 @@ returns-then-not-kind_right c =
 pub returns-then-not-picture_fits : goal.returns-then-not-picture_fits
 unfolding picture_written
 returns-then-not-picture_fits c =
-    let kind_ok : kind_right c.args.kind ≡ true = sym c.kind_right.ensures ∙ c.if-not-kind_right.false in 
+    let kind_ok : kind_right c.args.kind ≡ true = sym c.kind_right.ensures ∙ c.if-not-kind_right.false in
     let a = c.args in
     let r = c.refused-then-not-picture_fits in
     let f : picture_fits a.kind (length a.memory.now) (length a.registers.now) ≡ false = sym c.picture_fits.ensures ∙ c.if-not-picture_fits.true in
@@ -34,7 +34,7 @@ unfolding picture_written
 returns-then-wrong_modes c =
     let kind_ok : kind_right c.args.kind ≡ true = sym c.kind_right.ensures ∙ c.if-not-kind_right.false in
     let fits-ok : (let a = c.args in picture_fits a.kind (length a.memory.now) (length a.registers.now) ≡ true) = sym c.picture_fits.ensures ∙ c.if-not-picture_fits.false in
-    let modes-are : c.wrong_modes.result ≡ wrong_modes (modes_of c.args.registers.now) = c.wrong_modes.ensures ∙ ap wrong_modes c.modes_of.ensures in 
+    let modes-are : c.wrong_modes.result ≡ wrong_modes (modes_of c.args.registers.now) = c.wrong_modes.ensures ∙ ap wrong_modes c.modes_of.ensures in
     let e = c in
     let r = c.refused-then-wrong_modes in
     left-unmoved r.result _ _ _
@@ -48,7 +48,7 @@ unfolding picture_written
 returns-then-out-lt-FILE c =
     let kind_ok : kind_right c.args.kind ≡ true = sym c.kind_right.ensures ∙ c.if-not-kind_right.false in
     let fits-ok : (let a = c.args in picture_fits a.kind (length a.memory.now) (length a.registers.now) ≡ true) = sym c.picture_fits.ensures ∙ c.if-not-picture_fits.false in
-    let modes-are : c.wrong_modes.result ≡ wrong_modes (modes_of c.args.registers.now) = c.wrong_modes.ensures ∙ ap wrong_modes c.modes_of.ensures in 
+    let modes-are : c.wrong_modes.result ≡ wrong_modes (modes_of c.args.registers.now) = c.wrong_modes.ensures ∙ ap wrong_modes c.modes_of.ensures in
     let g = c in
     let e = g in
     let r = c.refused-then-out-lt-FILE in
@@ -67,7 +67,7 @@ unfolding picture_written
 returns c =
     let kind_ok : kind_right c.args.kind ≡ true = sym c.kind_right.ensures ∙ c.if-not-kind_right.false in
     let fits-ok : (let a = c.args in picture_fits a.kind (length a.memory.now) (length a.registers.now) ≡ true) = sym c.picture_fits.ensures ∙ c.if-not-picture_fits.false in
-    let modes-are : c.wrong_modes.result ≡ wrong_modes (modes_of c.args.registers.now) = c.wrong_modes.ensures ∙ ap wrong_modes c.modes_of.ensures in 
+    let modes-are : c.wrong_modes.result ≡ wrong_modes (modes_of c.args.registers.now) = c.wrong_modes.ensures ∙ ap wrong_modes c.modes_of.ensures in
     let h = c in
     let g = h in
     let e = g in

@@ -1,6 +1,6 @@
 -- `builders::search_rounds::put_flips`: the buffer has the first e of them, by `rounds-more`. Assumes nothing.
 use mathlib.Core.Path.{◌≡◌, refl, sym, ap, ◌∙◌}
-use Prim.Native.Nat.{ℕ, ◌-◌, ◌+◌, ◌*◌}
+use Prim.Native.Nat.{ℕ, ◌+◌, ◌*◌}
 use native.Mathlib.Omega.{arith}
 use Rattle.bits.specs.Steps.{put_at}
 use Rattle.bits.proofs.Puts.{put-nil}

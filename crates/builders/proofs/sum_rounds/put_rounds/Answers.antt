@@ -1,7 +1,7 @@
 -- `builders::sum_rounds::put_rounds`: the buffer has the first k rounds, by `rounds-more`. Assumes nothing.
 use mathlib.Core.Path.{◌≡◌, refl, sym, ap, ◌∙◌}
 use mathlib.Core.List.{List}
-use Prim.Native.Nat.{ℕ, ◌-◌, ◌+◌, ◌*◌}
+use Prim.Native.Nat.{ℕ, ◌+◌, ◌*◌}
 use native.Mathlib.Omega.{arith}
 use Rattle.bits.specs.Steps.{put_at}
 use Rattle.bits.proofs.Puts.{put-nil}

@@ -37,14 +37,14 @@ returns-then-takes c =
 
 pub held_item-s-requires : goal.held_item-s-requires
 held_item-s-requires c =
-    let untaken : takes c.args.i ≡ false = sym c.takes.ensures ∙ c.if-takes.false in 
+    let untaken : takes c.args.i ≡ false = sym c.takes.ensures ∙ c.if-takes.false in
     let s = c in
     let u = eqb-false s.args.i.source 4 untaken in
     (s.requires.0, omega (arith, s.requires.1))
 
 pub returns-then-i-eq0 : goal.returns-then-i-eq0
 returns-then-i-eq0 c =
-    let untaken : takes c.args.i ≡ false = sym c.takes.ensures ∙ c.if-takes.false in 
+    let untaken : takes c.args.i ≡ false = sym c.takes.ensures ∙ c.if-takes.false in
     let held = c in
     let a = held.args in
     c.copied.ensures
@@ -53,7 +53,7 @@ returns-then-i-eq0 c =
 
 pub returns : goal.returns
 returns c =
-    let untaken : takes c.args.i ≡ false = sym c.takes.ensures ∙ c.if-takes.false in 
+    let untaken : takes c.args.i ≡ false = sym c.takes.ensures ∙ c.if-takes.false in
     let held = c in
     let a = held.args in
     c.pass_item.ensures

@@ -31,7 +31,7 @@ returns-then-out-lt-FILE c =
 
 pub copy-requires : goal.copy-requires
 copy-requires c =
-    let stands : Stands 1 c.args.bytes.now = file-stands 1 c.args.bytes.now (sym (ap (λ x. x.number) c.judge_file-found.ensures) ∙ c.if-number-ne0.false) in 
+    let stands : Stands 1 c.args.bytes.now = file-stands 1 c.args.bytes.now (sym (ap (λ x. x.number) c.judge_file-found.ensures) ∙ c.if-number-ne0.false) in
     let e = c in
     let a = e.args in
     picture-length 1 a.bytes.now refl stands ∙ sym (mid_len 0 8704 a.out.now c.if-out-lt-FILE.false)
@@ -39,7 +39,7 @@ copy-requires c =
 pub returns : goal.returns
 unfolding to_new
 returns c =
-    let stands : Stands 1 c.args.bytes.now = file-stands 1 c.args.bytes.now (sym (ap (λ x. x.number) c.judge_file-found.ensures) ∙ c.if-number-ne0.false) in 
+    let stands : Stands 1 c.args.bytes.now = file-stands 1 c.args.bytes.now (sym (ap (λ x. x.number) c.judge_file-found.ensures) ∙ c.if-number-ne0.false) in
     let p = c in
     let y = p in
     let h = y in

@@ -28,7 +28,7 @@ returns-then-number-ne0 c =
 pub returns-then-wrong_modes : goal.returns-then-wrong_modes
 unfolding to_old
 returns-then-wrong_modes c =
-    let flags : c.wrong_modes.result ≡ wrong_modes (content_modes (content_of c.args.bytes.now)) = c.wrong_modes.ensures ∙ ap wrong_modes c.modes_in-modes.ensures in 
+    let flags : c.wrong_modes.result ≡ wrong_modes (content_modes (content_of c.args.bytes.now)) = c.wrong_modes.ensures ∙ ap wrong_modes c.modes_in-modes.ensures in
     let w = c in
     let e = w in
     let j = e.judge_file-found in
@@ -41,7 +41,7 @@ pub returns-then-any_set : goal.returns-then-any_set
 unfolding to_old
 returns-then-any_set c =
     let flags : c.wrong_modes.result ≡ wrong_modes (content_modes (content_of c.args.bytes.now)) = c.wrong_modes.ensures ∙ ap wrong_modes c.modes_in-modes.ensures in
-    let sets : c.any_set.result ≡ any_set (content_modes (content_of c.args.bytes.now)) = c.any_set.ensures ∙ ap (λ m. any_set m) c.modes_in-modes.ensures in 
+    let sets : c.any_set.result ≡ any_set (content_modes (content_of c.args.bytes.now)) = c.any_set.ensures ∙ ap (λ m. any_set m) c.modes_in-modes.ensures in
     let n = c in
     let w = n in
     let e = w in
@@ -57,7 +57,7 @@ pub returns-then-out-lt-FILE : goal.returns-then-out-lt-FILE
 unfolding to_old
 returns-then-out-lt-FILE c =
     let flags : c.wrong_modes.result ≡ wrong_modes (content_modes (content_of c.args.bytes.now)) = c.wrong_modes.ensures ∙ ap wrong_modes c.modes_in-modes.ensures in
-    let sets : c.any_set.result ≡ any_set (content_modes (content_of c.args.bytes.now)) = c.any_set.ensures ∙ ap (λ m. any_set m) c.modes_in-modes.ensures in 
+    let sets : c.any_set.result ≡ any_set (content_modes (content_of c.args.bytes.now)) = c.any_set.ensures ∙ ap (λ m. any_set m) c.modes_in-modes.ensures in
     let o = c in
     let n = o in
     let w = n in
@@ -73,7 +73,7 @@ returns-then-out-lt-FILE c =
 
 pub copy-requires : goal.copy-requires
 copy-requires c =
-    let stands : Stands 4 c.args.bytes.now = file-stands 4 c.args.bytes.now (sym (ap (λ x. x.number) c.judge_file-found.ensures) ∙ c.if-number-ne0.false) in 
+    let stands : Stands 4 c.args.bytes.now = file-stands 4 c.args.bytes.now (sym (ap (λ x. x.number) c.judge_file-found.ensures) ∙ c.if-number-ne0.false) in
     let e = c in
     let a = e.args in
     picture-length 4 a.bytes.now refl stands ∙ sym (mid_len 0 8704 a.out.now c.if-out-lt-FILE.false)
@@ -83,7 +83,7 @@ unfolding to_old
 returns c =
     let stands : Stands 4 c.args.bytes.now = file-stands 4 c.args.bytes.now (sym (ap (λ x. x.number) c.judge_file-found.ensures) ∙ c.if-number-ne0.false) in
     let flags : c.wrong_modes.result ≡ wrong_modes (content_modes (content_of c.args.bytes.now)) = c.wrong_modes.ensures ∙ ap wrong_modes c.modes_in-modes.ensures in
-    let sets : c.any_set.result ≡ any_set (content_modes (content_of c.args.bytes.now)) = c.any_set.ensures ∙ ap (λ m. any_set m) c.modes_in-modes.ensures in 
+    let sets : c.any_set.result ≡ any_set (content_modes (content_of c.args.bytes.now)) = c.any_set.ensures ∙ ap (λ m. any_set m) c.modes_in-modes.ensures in
     let y = c in
     let h = y in
     let o = h in
