@@ -9,7 +9,7 @@ pub returns-then-bytes-lt2 : goal.returns-then-bytes-lt2
 returns-then-bytes-lt2 c =
     let w = c in
     let b = w.args.buffer.now in
-    kind-short w.front-bytes.result.now c.if-bytes-lt2.true ∙ ap kind_taken (found-bytes b w.found.given.1 w.front-bytes.ensures)
+    kind-short w.front-bytes.result.now c.if-bytes-lt2.true ∙ ap kind_taken (found-bytes b w.in-Bytes.is w.front-bytes.ensures)
 
 pub returns-then-two_at-eq-MODES_PICTURE : goal.returns-then-two_at-eq-MODES_PICTURE
 returns-then-two_at-eq-MODES_PICTURE c =
@@ -17,13 +17,13 @@ returns-then-two_at-eq-MODES_PICTURE c =
     let w = e in
     let b = w.args.buffer.now in
     kind-four w.front-bytes.result.now e.if-bytes-lt2.false (sym c.two_at.ensures.0 ∙ c.if-two_at-eq-MODES_PICTURE.true)
-    ∙ ap kind_taken (found-bytes b w.found.given.1 w.front-bytes.ensures)
+    ∙ ap kind_taken (found-bytes b w.in-Bytes.is w.front-bytes.ensures)
 
 pub returns-in-Absent : goal.returns-in-Absent
-returns-in-Absent c = let b = c.args.buffer.now in sym (ap (λ (f : Found). kind_taken (file_of f b)) c.enum_told.given.1)
+returns-in-Absent c = let b = c.args.buffer.now in sym (ap (λ (f : Found). kind_taken (file_of f b)) c.in-Absent.is)
 
 pub returns-in-Failed : goal.returns-in-Failed
-returns-in-Failed c = let b = c.args.buffer.now in sym (ap (λ (f : Found). kind_taken (file_of f b)) c.enum-told2.given.1)
+returns-in-Failed c = let b = c.args.buffer.now in sym (ap (λ (f : Found). kind_taken (file_of f b)) c.in-Failed.is)
 
 pub returns-else-two_at-eq-MODES_PICTURE : goal.returns-else-two_at-eq-MODES_PICTURE
 returns-else-two_at-eq-MODES_PICTURE c =
@@ -31,4 +31,4 @@ returns-else-two_at-eq-MODES_PICTURE c =
     let w = e in
     let b = w.args.buffer.now in
     kind-other w.front-bytes.result.now e.if-bytes-lt2.false (λ q. c.if-two_at-eq-MODES_PICTURE.false (c.two_at.ensures.0 ∙ q))
-    ∙ ap kind_taken (found-bytes b w.found.given.1 w.front-bytes.ensures)
+    ∙ ap kind_taken (found-bytes b w.in-Bytes.is w.front-bytes.ensures)
