@@ -50,6 +50,7 @@ returns c =
     let s = ran lent in
     let k = c.keep-w in
     let t = p.print_run-n in
-    finished-shown a.took (finished a.took s) s _ _ _ q.run-a.result t.result k.result a.text.now t.new.text
+    let told = finished-shown a.took (finished a.took s) s _ _ _ q.run-a.result t.result k.result a.text.now t.new.text
     a.after.now k.new.after refl q.run-a.ensures t.ensures.room t.ensures.count t.ensures.text
-    k.ensures.0 k.ensures.1 k.ensures.2
+    k.ensures.0 k.ensures.1 k.ensures.2 in
+    record { text = told.0; after = told.1 }

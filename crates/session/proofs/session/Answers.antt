@@ -20,8 +20,9 @@ returns-then-read_p-ne0 c =
     let a = c.args in
     let r = t.take_picture-read_p in
     let p = c.print_line in
-    line-shown 112 r.result _ _ p.result a.text.now _ a.after.now
-    r.ensures.answer n.if-read_p-ne0.true p.ensures
+    let told = line-shown 112 r.result _ _ p.result a.text.now _ a.after.now
+    r.ensures.answer n.if-read_p-ne0.true p.ensures in
+    record { text = told.0; after = told.1 }
 
 pub returns : goal.returns
 unfolding outcome
@@ -34,7 +35,8 @@ returns c =
     let held = r.ensures.targets n.if-read_p-ne0.false in
     let picture = file_of a.p a.picture.now in
     let kind = t.kind_taken-kind in
-    next-shown 112 r.result _ _ _ w.with_list.result a.text.now _ a.after.now _ r.ensures.answer n.if-read_p-ne0.false
+    let told = next-shown 112 r.result _ _ _ w.with_list.result a.text.now _ a.after.now _ r.ensures.answer n.if-read_p-ne0.false
     (ap (λ (k : ℕ). with_list k (scrambled (content_in picture)) (start_registers picture) (file_of a.l a.list.now) (file_of a.i a.items.now)) (sym kind.ensures)
     ∙ ap₂ (λ (memory registers : List ℕ). with_list kind.result memory registers (file_of a.l a.list.now) (file_of a.i a.items.now)) (sym held.0) (sym held.1))
-    w.with_list.ensures
+    w.with_list.ensures in
+    record { text = told.0; after = told.1 }

@@ -14,8 +14,9 @@ returns-then-bytes-gt8704 c =
     let w = c in
     let a = w.args in
     let b = a.buffer.now in
-    picture-refused (file_of a.found b) c.unread-then-bytes-gt8704.result a.memory.now a.registers.now c.unread-then-bytes-gt8704.ensures
-    (found-long (refused 20 0) 8704 picture_judged b w.in-Bytes.is w.front-bytes.ensures c.if-bytes-gt8704.true)
+    let told = picture-refused (file_of a.found b) c.unread-then-bytes-gt8704.result a.memory.now a.registers.now c.unread-then-bytes-gt8704.ensures
+    (found-long (refused 20 0) 8704 picture_judged b w.in-Bytes.is w.front-bytes.ensures c.if-bytes-gt8704.true) in
+    record { answer = told.0; targets = told.1.0; place = told.1.1 }
 
 pub slice_bounds-read_picture-end : goal.slice_bounds-read_picture-end
 slice_bounds-read_picture-end c =
@@ -26,13 +27,15 @@ pub returns-in-Absent : goal.returns-in-Absent
 returns-in-Absent c =
     let a = c.args in
     let b = a.buffer.now in
-    picture-refused (file_of a.found b) c.unread.result a.memory.now a.registers.now c.unread.ensures (sym (ap (λ (f : Found). picture_answer (file_of f b)) c.in-Absent.is))
+    let told = picture-refused (file_of a.found b) c.unread.result a.memory.now a.registers.now c.unread.ensures (sym (ap (λ (f : Found). picture_answer (file_of f b)) c.in-Absent.is)) in
+    record { answer = told.0; targets = told.1.0; place = told.1.1 }
 
 pub returns-in-Failed : goal.returns-in-Failed
 returns-in-Failed c =
     let a = c.args in
     let b = a.buffer.now in
-    picture-refused (file_of a.found b) c.unread-in-Failed.result a.memory.now a.registers.now c.unread-in-Failed.ensures (sym (ap (λ (f : Found). picture_answer (file_of f b)) c.in-Failed.is))
+    let told = picture-refused (file_of a.found b) c.unread-in-Failed.result a.memory.now a.registers.now c.unread-in-Failed.ensures (sym (ap (λ (f : Found). picture_answer (file_of f b)) c.in-Failed.is)) in
+    record { answer = told.0; targets = told.1.0; place = told.1.1 }
 
 pub returns-else-bytes-gt8704 : goal.returns-else-bytes-gt8704
 returns-else-bytes-gt8704 c =
@@ -42,6 +45,8 @@ returns-else-bytes-gt8704 c =
     let a = s.args in
     let b = a.buffer.now in
     let r = c.read_picture in
-    let e = found-bytes b w.in-Bytes.is w.front-bytes.ensures in
+    let e = found-bytes b w.in
+    let told = -Bytes.is w.front-bytes.ensures in
     picture-taken w.front-bytes.result.now a.memory.now a.registers.now r.new.memory r.new.registers a.kind n.registers_bytes-size.result r.result
-    (s.requires.0 ∙ sym (ap kind_taken e)) n.registers_bytes-size.ensures s.requires.2 s.requires.1 r.ensures (file_of a.found b) e n.if-bytes-gt8704.false
+    (s.requires.0 ∙ sym (ap kind_taken e)) n.registers_bytes-size.ensures s.requires.2 s.requires.1 r.ensures (file_of a.found b) e n.if-bytes-gt8704.false in
+    record { answer = told.0; targets = told.1.0; place = told.1.1 }

@@ -16,8 +16,9 @@ returns-then-read_i-ne0 c =
     let a = c.args in
     let r = t.take_content-read_i in
     let p = c.print_line in
-    line-shown 105 r.result _ _ p.result a.text.now _ a.after.now
-    r.ensures.answer n.if-read_i-ne0.true p.ensures
+    let told = line-shown 105 r.result _ _ p.result a.text.now _ a.after.now
+    r.ensures.answer n.if-read_i-ne0.true p.ensures in
+    record { text = told.0; after = told.1 }
 
 pub slice_bounds-lent-end : goal.slice_bounds-lent-end
 slice_bounds-lent-end c =

@@ -15,8 +15,9 @@ returns-then-read_l-ne0 c =
     let a = c.args in
     let r = t.take_content-read_l in
     let p = c.print_line in
-    line-shown 108 r.result _ _ p.result a.text.now _ a.after.now
-    r.ensures.answer n.if-read_l-ne0.true p.ensures
+    let told = line-shown 108 r.result _ _ p.result a.text.now _ a.after.now
+    r.ensures.answer n.if-read_l-ne0.true p.ensures in
+    record { text = told.0; after = told.1 }
 
 pub slice_bounds-lent-end : goal.slice_bounds-lent-end
 slice_bounds-lent-end c =
@@ -37,7 +38,8 @@ returns c =
     let t = n in
     let a = c.args in
     let r = t.take_content-read_l in
-    next-shown 108 r.result _ _ _ w.with_items.result a.text.now _ a.after.now _ r.ensures.answer n.if-read_l-ne0.false
+    let told = next-shown 108 r.result _ _ _ w.with_items.result a.text.now _ a.after.now _ r.ensures.answer n.if-read_l-ne0.false
     (ap (λ (list : List ℕ). with_items a.took a.memory.now a.registers.now list (file_of a.i a.items.now))
     (sym (r.ensures.target n.if-read_l-ne0.false).1))
-    w.with_items.ensures
+    w.with_items.ensures in
+    record { text = told.0; after = told.1 }
