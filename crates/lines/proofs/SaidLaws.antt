@@ -20,7 +20,7 @@ use Rattle.judge.proofs.Numbers.{unfaulted, fault-high}
 use Rattle.reach.specs.Reach.{reach_of}
 use Rattle.reach.proofs.CountLaws.{reach-le}
 use Rattle.spelling.specs.Tables.{heads, choices, functions, sources, mode_registers, powers, address_word, from_word, flip_word, shift_word, mod_word, slice_word, word_word, mode_word, comment_word, reaches_word, words_word, unknown_word}
-use Rattle.spelling.specs.Words.{when, plain, decimal, number, extended, visible, spelled_in, spelled, goods, extended_by}
+use Rattle.spelling.specs.Words.{when, plain, decimal, extended, visible, spelled_in, spelled, goods, extended_by}
 use Rattle.spelling.proofs.Tests.{below, choice-found, function-found, power-found, number-decimal, decimal-plain, choice-plain, function-plain, power-plain}
 use Rattle.lines.specs.declared.Line.{Line}
 use Rattle.lines.specs.declared.Phase.{Phase}

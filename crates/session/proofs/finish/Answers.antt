@@ -13,8 +13,8 @@ use Rattle.session.proofs.finish.Goals as goal
 
 pub print_run-n-requires : goal.print_run-n-requires
 print_run-n-requires c =
-    let lent : Lent (List ℕ) = let a = (start c).args in
-    record { memory = a.memory.now; registers = a.registers.now; list = a.list.now; items = a.items.now; out = a.out.now } in 
+    let lent : Lent (List ℕ) = let a = c.args in
+    record { memory = a.memory.now; registers = a.registers.now; list = a.list.now; items = a.items.now; out = a.out.now } in
     let q = c in
     let r = q.run-a in
     let l = r.auto.out in
@@ -26,8 +26,8 @@ print_run-n-requires c =
 
 pub keep-w-requires : goal.keep-w-requires
 keep-w-requires c =
-    let lent : Lent (List ℕ) = let a = (start c).args in
-    record { memory = a.memory.now; registers = a.registers.now; list = a.list.now; items = a.items.now; out = a.out.now } in 
+    let lent : Lent (List ℕ) = let a = c.args in
+    record { memory = a.memory.now; registers = a.registers.now; list = a.list.now; items = a.items.now; out = a.out.now } in
     let q = c in
     let r = q.run-a in
     let s = c in
@@ -42,8 +42,8 @@ keep-w-requires c =
 
 pub returns : goal.returns
 returns c =
-    let lent : Lent (List ℕ) = let a = (start c).args in
-    record { memory = a.memory.now; registers = a.registers.now; list = a.list.now; items = a.items.now; out = a.out.now } in 
+    let lent : Lent (List ℕ) = let a = c.args in
+    record { memory = a.memory.now; registers = a.registers.now; list = a.list.now; items = a.items.now; out = a.out.now } in
     let p = c in
     let q = p in
     let a = c.args in

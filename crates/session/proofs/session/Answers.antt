@@ -38,5 +38,5 @@ returns c =
     let told = next-shown 112 r.result _ _ _ w.with_list.result a.text.now _ a.after.now _ r.ensures.answer n.if-read_p-ne0.false
     (ap (λ (k : ℕ). with_list k (scrambled (content_in picture)) (start_registers picture) (file_of a.l a.list.now) (file_of a.i a.items.now)) (sym kind.ensures)
     ∙ ap₂ (λ (memory registers : List ℕ). with_list kind.result memory registers (file_of a.l a.list.now) (file_of a.i a.items.now)) (sym held.0) (sym held.1))
-    w.with_list.ensures in
+    (w.with_list.ensures.text, w.with_list.ensures.after) in
     record { text = told.0; after = told.1 }

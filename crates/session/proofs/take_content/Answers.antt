@@ -36,7 +36,6 @@ returns-else-bytes-gt8192 c =
     let a = s.args in
     let b = a.buffer.now in
     let r = c.read_content in
-    let e = found-bytes b w.in
-    let told = -Bytes.is w.front-bytes.ensures in
-    content-taken a.kind (file_of a.found b) w.front-bytes.result.now a.target.now r.new.target r.result e s.requires.0 c.if-bytes-gt8192.false s.requires.1 r.ensures in
+    let e = found-bytes b w.in-Bytes.is w.front-bytes.ensures in
+    let told = content-taken a.kind (file_of a.found b) w.front-bytes.result.now a.target.now r.new.target r.result e s.requires.0 c.if-bytes-gt8192.false s.requires.1 r.ensures in
     record { answer = told.0; target = told.1.0; place = told.1.1 }

@@ -45,8 +45,7 @@ returns-else-bytes-gt8704 c =
     let a = s.args in
     let b = a.buffer.now in
     let r = c.read_picture in
-    let e = found-bytes b w.in
-    let told = -Bytes.is w.front-bytes.ensures in
-    picture-taken w.front-bytes.result.now a.memory.now a.registers.now r.new.memory r.new.registers a.kind n.registers_bytes-size.result r.result
+    let e = found-bytes b w.in-Bytes.is w.front-bytes.ensures in
+    let told = picture-taken w.front-bytes.result.now a.memory.now a.registers.now r.new.memory r.new.registers a.kind n.registers_bytes-size.result r.result
     (s.requires.0 ∙ sym (ap kind_taken e)) n.registers_bytes-size.ensures s.requires.2 s.requires.1 r.ensures (file_of a.found b) e n.if-bytes-gt8704.false in
     record { answer = told.0; targets = told.1.0; place = told.1.1 }

@@ -40,7 +40,7 @@ returns c =
     let t = n in
     let a = c.args in
     let r = t.take_content-read_i in
-    next-shown 105 r.result _ _ _ f.finish.result a.text.now _ a.after.now _ r.ensures.answer n.if-read_i-ne0.false
+    let told = next-shown 105 r.result _ _ _ f.finish.result a.text.now _ a.after.now _ r.ensures.answer n.if-read_i-ne0.false
     (ap₂
     (λ (items out : List ℕ). finished a.took (ran (record {
       memory = a.memory.now;
@@ -50,4 +50,5 @@ returns c =
       out = out;
     })))
     (sym (r.ensures.target n.if-read_i-ne0.false).1) (sym b.blank-out.ensures.0))
-    f.finish.ensures
+    (f.finish.ensures.text, f.finish.ensures.after) in
+    record { text = told.0; after = told.1 }

@@ -41,5 +41,5 @@ returns c =
     let told = next-shown 108 r.result _ _ _ w.with_items.result a.text.now _ a.after.now _ r.ensures.answer n.if-read_l-ne0.false
     (ap (λ (list : List ℕ). with_items a.took a.memory.now a.registers.now list (file_of a.i a.items.now))
     (sym (r.ensures.target n.if-read_l-ne0.false).1))
-    w.with_items.ensures in
+    (w.with_items.ensures.text, w.with_items.ensures.after) in
     record { text = told.0; after = told.1 }

@@ -17,4 +17,4 @@ returns-then-blank c = simp (ne_eqb _ _ c.if-c-eq10.false, ne_eqb _ _ c.if-c-eq5
 
 pub returns : goal.returns
 unfolding character
-returns c = simp (ne_eqb _ _ c.if-c-eq10.false, ne_eqb _ _ c.if-c-eq59.false, ← c.blank.ensures, c.if-blank.false, c.extended.ensures, c.start_of_lem.ensures, c.reading-2.ensures)
+returns c = simp (ne_eqb _ _ c.if-c-eq10.false, ne_eqb _ _ c.if-c-eq59.false, ← c.blank.ensures, c.if-blank.false, c.extended.ensures, c.start_of.ensures, c.reading-2.ensures)

@@ -26,7 +26,7 @@ returns-then-number-ne0 c =
     let sc = d.scan-scanned in
     let a = d.args in
     let text = a.text.now in
-    let n = numbered a.text.now d.number_of_lem.ensures sc.ensures.0 in
+    let n = numbered a.text.now d.number_of-number.ensures sc.ensures.0 in
     let given = bad text a.out.now d.if-text-gt1048576.false (λ z. d.if-number-ne0.true (n ∙ z)) in
     record { answer = c.refused_at.ensures ∙ ap₂ (λ (x y : ℕ). refused_at text x y) n (ap (λ (x : Reading). x.start) sc.ensures.0) ∙ sym given.0; bytes = sym given.1 }
 
@@ -35,7 +35,7 @@ returns-then-size-gt-MOST_BYTES c =
     let d = c in
     let sc = d.scan-scanned in
     let a = d.args in
-    let n = numbered a.text.now d.number_of_lem.ensures sc.ensures.0 in
+    let n = numbered a.text.now d.number_of-number.ensures sc.ensures.0 in
     let given = too_many a.text.now a.out.now d.if-text-gt1048576.false (sym n ∙ d.if-number-ne0.false) (omega (arith, sc.ensures.1, c.if-size-gt-MOST_BYTES.true)) in
     record { answer = c.answer-then-size-gt-MOST_BYTES.ensures ∙ sym given.0; bytes = sym given.1 }
 
@@ -44,7 +44,7 @@ returns-then-out-size c =
     let d = c in
     let sc = d.scan-scanned in
     let a = d.args in
-    let n = numbered a.text.now d.number_of_lem.ensures sc.ensures.0 in
+    let n = numbered a.text.now d.number_of-number.ensures sc.ensures.0 in
     let given =
     too_short a.text.now a.out.now d.if-text-gt1048576.false (sym n ∙ d.if-number-ne0.false)
     (omega (arith, sc.ensures.1, c.if-size-gt-MOST_BYTES.false)) (omega (arith, sc.ensures.1, c.if-out-size.true)) in
@@ -59,7 +59,7 @@ returns c =
     let a = d.args in
     let text = a.text.now in
     let out = a.out.now in
-    let n = numbered a.text.now d.number_of_lem.ensures sc.ensures.0 in
+    let n = numbered a.text.now d.number_of-number.ensures sc.ensures.0 in
     let whole = put_whole w.ensures in
     let given =
     done text out d.if-text-gt1048576.false (sym n ∙ d.if-number-ne0.false)

@@ -9,7 +9,7 @@ use Rattle.text.proofs.ScanLaws.{left}
 use Rattle.text.proofs.making.write.Given as goal
 
 abbrev pub invariant-loop-i : goal.invariant-loop-i
-invariant-loop-i l =     (l.i ≤ length l.text) × (length l.out ≡ length l.initial.out) × (l.next + length (emitted l.s l.i (left l.text l.i)) ≤ length l.out)
+invariant-loop-i l = (l.i ≤ length l.text) × (length l.out ≡ length l.initial.out) × (l.next + length (emitted l.s l.i (left l.text l.i)) ≤ length l.out)
     × ((e : ℕ) (final : List ℕ) → Put l.next (emitted l.s l.i (left l.text l.i)) l.out e final → Put 0 (made_bytes l.text) l.initial.out e final)
 
 abbrev pub decreases-loop-i : goal.decreases-loop-i

@@ -8,7 +8,7 @@ use Rattle.text.specs.Show.{rest}
 use Rattle.text.proofs.showing.put_line.Given as goal
 
 abbrev pub invariant-loop-k : goal.invariant-loop-k
-invariant-loop-k l =     (l.k ≤ length l.ws) × (length l.text ≡ length l.initial.text) × (l.initial.next ≤ length l.initial.text) × (l.next + length (rest (drop l.k l.ws)) ≤ length l.text)
+invariant-loop-k l = (l.k ≤ length l.ws) × (length l.text ≡ length l.initial.text) × (l.initial.next ≤ length l.initial.text) × (l.next + length (rest (drop l.k l.ws)) ≤ length l.text)
     × ((e : ℕ) (final : List ℕ) → Put l.next (rest (drop l.k l.ws)) l.text e final → Put l.initial.next (rest (drop 1 l.ws)) l.initial.text e final)
 
 abbrev pub decreases-loop-k : goal.decreases-loop-k
