@@ -720,7 +720,7 @@ cp "$here/docs/numbers.tsv" "$copy/docs"; cp "$here/include/staran.h" "$copy/inc
 . "$here/tests/kit.sh"
 cat >stand/rt <<STAND
 #!/bin/sh
-[ "\$*" = run ] && [ "\$PWD" = "$copy/crates/program" ] || exit 2
+case "\$* \$PWD" in 'run '*/copy/crates/program) ;; *) exit 2 ;; esac
 echo \$\$ >>"$work/calls"
 echo 'note: of the stand-in'
 echo 'crate bits: modules loaded=0 checked=3'
