@@ -713,22 +713,24 @@ call "$staran" good good; [ $status -eq 0 ] && [ "$(grep -cx "$done_line" "$work
 # ---- building, with a stand-in for rt that counts its calls and does as it is told
 copy=$work/copy
 mkdir -p "$copy/docs" "$copy/include" "$copy/tests" stand
-cp -r "$here/staran" "$here/crates.txt" "$here/crates" "$here/demo" "$here/tools" "$copy"
+cp -r "$here/staran" "$here/crates.txt" "$here/demo" "$here/tools" "$copy"
+(cd "$here" && find crates -name out -prune -o -type f -print0 | tar -c --null -T -) | tar -x -C "$copy"
 cp "$here/docs/numbers.tsv" "$copy/docs"; cp "$here/include/staran.h" "$copy/include"; cp "$here/tests/kit.sh" "$here/tests/make_blocks.py" "$copy/tests"
 # shellcheck source=tests/kit.sh
 . "$here/tests/kit.sh"
 cat >stand/rt <<STAND
 #!/bin/sh
-[ "\$*" = 'check program' ] || exit 2
+case "\$* \$PWD" in 'run '*/copy/crates/program) ;; *) exit 2 ;; esac
 echo \$\$ >>"$work/calls"
 echo 'note: of the stand-in'
-echo 'rt: bits proved (3 s)'
+echo 'crate bits: modules loaded=0 checked=3'
+echo 'logic=proved functions=1'
 [ ! -e "$work/hold" ] || { : >"$work/held"; while [ -e "$work/hold" ]; do sleep 0.05; done; }
-[ ! -e "$work/fail" ] || { echo 'rt: program NOT PROVED'; exit 1; }
-mkdir -p target/bin
-cp "$here/target/bin/program" target/bin/program
-echo 'rt: program proved (1 s)'
-echo 'rt: ok, 2 crates proved'
+echo 'crate program: modules loaded=0 checked=1'
+[ ! -e "$work/fail" ] || { echo 'logic=not-proved'; exit 1; }
+mkdir -p out
+cp "$here/crates/program/out/program" out/program
+echo 'logic=proved functions=1'
 STAND
 chmod +x stand/rt
 kit_home=${RATTLE_HOME:-$kit}
@@ -750,10 +752,10 @@ touch -d '2001-01-01' "$copy/crates/bits/src/lib.rt"; built "only a time changed
 echo '// less' >"$copy/crates/bits/src/lib.rt"; touch -d '2001-01-01' "$copy/crates/bits/src/lib.rt"; built "a source changed under an old time: it is built again" 3 0
 echo >>"$copy/crates/promises/src/lib.rt"; built "a crate that the program does not stand on changed: nothing is built" 3 0
 echo '# an edit' >"$copy/crates/bits/must-fail/another.edit"; built "a must-fail edit changed: nothing is built" 3 0
-echo x >>"$copy/target/bin/program"; built "the program is another than the one built: it is built again" 4 0
-rm "$copy/target/bin/program"; built "the program is gone: it is built again" 5 0
+echo x >>"$copy/crates/program/out/program"; built "the program is another than the one built: it is built again" 4 0
+rm "$copy/crates/program/out/program"; built "the program is gone: it is built again" 5 0
 : >fail; echo '// no' >>"$copy/crates/bits/src/lib.rt"; built "a build that fails: nothing is run" 6 2
-[ ! -s "$work/out" ] && grep -q "what the checker said is in $copy/target/staran.log" "$work/err" && grep -q 'NOT PROVED' "$copy/target/staran.log"; judge "and it says where the checker's notes are" $?
+[ ! -s "$work/out" ] && grep -q "what the checker said is in $copy/target/staran.log" "$work/err" && grep -q 'logic=not-proved' "$copy/target/staran.log"; judge "and it says where the checker's notes are" $?
 built "the program of before is not run either" 7 2
 rm fail; built "the next build stands" 8 0
 # two commands at once

@@ -15,5 +15,5 @@ else
     fi
     # shellcheck source=tests/kit.sh
     . "$here/tests/kit.sh"
-    [ -n "$emulator" ] || die "the kit at $kit has no emulator for this machine, $(uname -m)"
+    [ -n "$emulator" ] || die "qemu-x86_64 is not on PATH, and this machine is $(uname -m): install Debian's qemu-user"
 fi

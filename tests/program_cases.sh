@@ -389,7 +389,7 @@ one='' # the process of the first, by hold
 for name in one two; do "$compiler" -std=gnu11 -Wall -Wextra -Werror -O2 -shared -fPIC -nostdlib -DNAME="\"$name\"" -o "$work/$name.so" "$here/tests/program/pause.c" || die "tests/program/pause.c does not build"; done
 hold() { # NAME: starts a run in the folder, and comes back when it has made its new file and written nothing
     rm -f "$work/$1".{reached,go,fail}
-    (cd "$work/f" && exec ${emulator:+"$emulator"} "$loader" --library-path "$tools/lib" --preload "$work/$1.so" "$here/target/bin/program" >"$work/$1.out" 2>"$work/$1.err") &
+    (cd "$work/f" && exec ${emulator:+"$emulator"} "$loader" --library-path "$tools/lib" --preload "$work/$1.so" "$here/crates/program/out/program" >"$work/$1.out" 2>"$work/$1.err") &
     eval "$1=$!"
     for _ in $(seq 500); do [ ! -e "$work/$1.reached" ] || return 0; sleep 0.02; done
     return 1
@@ -408,19 +408,19 @@ fresh; rm run.lst; old; hold one; { kill -KILL "$one"; wait "$one"; } 2>/dev/nul
 another; run; whole "$here/demo/before.pic"; judge "and the next run is not hindered by what it left" $?
 
 # ---- printing: by the program itself, whose output the command takes before it hands it on
-fresh; timeout 20 ${emulator:+"$emulator"} "$loader" --library-path "$tools/lib" "$here/target/bin/program" >/dev/full 2>"$work/err"; : >"$work/out"
+fresh; timeout 20 ${emulator:+"$emulator"} "$loader" --library-path "$tools/lib" "$here/crates/program/out/program" >/dev/full 2>"$work/err"; : >"$work/out"
 grep -qx 'standard output: No space left on device' "$work/err" && [ -s "$work/f/after.pic" ]; judge "an output that takes nothing: the reason is said, and after.pic is whole" $?
 
 # ---- a run in a folder needs little stack
 if [ -z "$emulator" ]; then
-    narrow() { (ulimit -s 256; timeout 20 "$loader" --library-path "$tools/lib" "$here/target/bin/program") >"$work/out" 2>"$work/err"; }
+    narrow() { (ulimit -s 256; timeout 20 "$loader" --library-path "$tools/lib" "$here/crates/program/out/program") >"$work/out" 2>"$work/err"; }
     fresh; narrow; printf '%b' "$done_lines" | cmp -s - "$work/out" && [ ! -s "$work/err" ]; judge "256 KB of stack: the document's example" $?
     fresh; blocks list run.lst "$(times 248 000400000000001A)" "$(times 488 000200000000001F)" "$(times 256 0500000000000000)"; blocks items in.itm "$(times 248 "$zeros")"; blocks --replace picture before.pic 01FF01FF
     narrow; [ "$(head -n 1 "$work/out")" = 'r 0 0 0 992 248 256' ] && [ "$(wc -l <"$work/out")" -eq 257 ] && [ -s after.pic ] && [ ! -s "$work/err" ]; judge "256 KB of stack: as many instructions and items as a folder has" $?
 fi
 
 # ---- a picture of one kind made one of the other, by the program itself: new or old, the file, and the file to be made
-program() { (cd "$work/f" && timeout 20 ${emulator:+"$emulator"} "$loader" --library-path "$tools/lib" "$here/target/bin/program" "$@") >"$work/out" 2>"$work/err"; }
+program() { (cd "$work/f" && timeout 20 ${emulator:+"$emulator"} "$loader" --library-path "$tools/lib" "$here/crates/program/out/program" "$@") >"$work/out" 2>"$work/err"; }
 converts() { # NAME LINE WAY: before.pic to x.pic; LINE is printed and nothing said, and x.pic is there exactly if the line is that of done
     program "$3" before.pic x.pic
     [ "$(cat "$work/out")" = "$2" ] && [ ! -s "$work/err" ] && if [ "$2" = 'c 0 0 8704' ]; then [ -s x.pic ]; else [ ! -e x.pic ]; fi
@@ -490,7 +490,7 @@ for name in sorted(os.listdir(room)):
             print(name, way, 'c', number, place, 0 if number else 8704)
 PYTHON
 while read -r name way _ <&3; do
-    echo "$name $way $(${emulator:+"$emulator"} "$loader" --library-path "$tools/lib" "$here/target/bin/program" "$way" "$work/pictures/$name/before.pic" "$work/pictures/$name/$way.pic" 2>&1)"
+    echo "$name $way $(${emulator:+"$emulator"} "$loader" --library-path "$tools/lib" "$here/crates/program/out/program" "$way" "$work/pictures/$name/before.pic" "$work/pictures/$name/$way.pic" 2>&1)"
     if [ -e "$work/pictures/$name/$way.want" ]; then cmp -s "$work/pictures/$name/$way.want" "$work/pictures/$name/$way.pic"; else [ ! -e "$work/pictures/$name/$way.pic" ]; fi || echo "$name $way: another file"
 done 3<"$work/want" >"$work/got" 2>"$work/err"
 count=$(wc -l <"$work/want") numbers=$(cut -d ' ' -f 4 "$work/want" | sort -nu | paste -s -d ' ')
@@ -648,7 +648,7 @@ fresh; program show ''; silent "show: an empty name" ': No such file or director
 if [ "$(id -u)" -ne 0 ]; then
     fresh; chmod 000 run.lst; program show run.lst; silent "show: a list that may not be read" 'run.lst: Permission denied'
 fi
-fresh; (cd "$work/f" && timeout 20 ${emulator:+"$emulator"} "$loader" --library-path "$tools/lib" "$here/target/bin/program" show run.lst >/dev/full) 2>"$work/err"; : >"$work/out"; silent "show: an output that takes nothing" 'standard output: No space left on device'
+fresh; (cd "$work/f" && timeout 20 ${emulator:+"$emulator"} "$loader" --library-path "$tools/lib" "$here/crates/program/out/program" show run.lst >/dev/full) 2>"$work/err"; : >"$work/out"; silent "show: an output that takes nothing" 'standard output: No space left on device'
 
 # ---- a list made of a text, by the program itself: make, the text's file, and those of list and items that are to be made
 made_of() { rm -f x.lst x.itm; program make x.txt x.lst x.itm; } # x.lst, and x.itm where there are items, of x.txt
@@ -770,7 +770,7 @@ fresh; echo halt >x.txt; program make x.txt nothing/x.lst x.itm; [ "$(cat "$work
 fresh; echo resolve >x.txt; program make x.txt nothing/x.lst x.itm; silent "make: a file that cannot be made" 'nothing/x.lst: No such file or directory'
 fresh; times 4096 resolve >x.txt; (ulimit -f 4; trap '' XFSZ; program make x.txt x.lst x.itm); [ ! -s "$work/out" ] && grep -q '^x.lst: ' "$work/err" && [ ! -e x.lst ]; judge "make: a write that fails half way: the reason is said, and nothing is left" $?
 fresh; { sleep 0.1; echo resolve; sleep 0.1; printf 'set a'; sleep 0.1; echo ' 13'; } | program make /dev/stdin x.lst x.itm; [ "$(cat "$work/out")" = 'm 0 0 0 16 0' ] && blocks list want.lst 05000000000000000600020D00000000 && cmp -s x.lst want.lst; judge "make: a text that comes in pieces" $?
-fresh; echo resolve >x.txt; (cd "$work/f" && timeout 20 ${emulator:+"$emulator"} "$loader" --library-path "$tools/lib" "$here/target/bin/program" make x.txt x.lst x.itm >/dev/full) 2>"$work/err"; : >"$work/out"
+fresh; echo resolve >x.txt; (cd "$work/f" && timeout 20 ${emulator:+"$emulator"} "$loader" --library-path "$tools/lib" "$here/crates/program/out/program" make x.txt x.lst x.itm >/dev/full) 2>"$work/err"; : >"$work/out"
 silent "make: an output that takes nothing" 'standard output: No space left on device'; [ "$(wc -c <x.lst)" -eq 512 ]; judge "and the list is made" $?
 
 # ---- texts with statements (docs/TEXT.md): fields by name, sums and searches, and a limit of what stores reach
@@ -1134,7 +1134,7 @@ rm x.lst; program make x.txt x.lst nothing/x.itm; [ "$(cat "$work/out")" = 'm 0 
 fresh; printf 'field a 0 8\nless b 5\n' >x.txt; echo mine >x.itm; program make x.txt x.lst x.itm; [ "$(cat "$work/out")" = 'm 73 2 6 0 0' ] && [ ! -s "$work/err" ] && [ ! -e x.lst ] && [ "$(cat x.itm)" = mine ]; judge "make: a refusal comes before items that cannot be made" $?
 fresh; printf 'field a 0 64\nless a 5\n' >x.txt; (ulimit -f 2; trap '' XFSZ; program make x.txt x.lst x.itm); [ ! -s "$work/out" ] && grep -q '^x.itm: ' "$work/err" && [ ! -e x.lst ] && [ ! -e x.itm ]; judge "make: a write of the items that fails half way: neither is left" $?
 (ulimit -f 1; trap '' XFSZ; program make x.txt x.lst x.itm); [ ! -s "$work/out" ] && grep -q '^x.lst: ' "$work/err" && [ ! -e x.lst ] && [ ! -e x.itm ]; judge "make: and of the list" $?
-fresh; printf 'field a 0 8\nless a 5\n' >x.txt; (cd "$work/f" && timeout 20 ${emulator:+"$emulator"} "$loader" --library-path "$tools/lib" "$here/target/bin/program" make x.txt x.lst x.itm >/dev/full) 2>"$work/err"; : >"$work/out"
+fresh; printf 'field a 0 8\nless a 5\n' >x.txt; (cd "$work/f" && timeout 20 ${emulator:+"$emulator"} "$loader" --library-path "$tools/lib" "$here/crates/program/out/program" make x.txt x.lst x.itm >/dev/full) 2>"$work/err"; : >"$work/out"
 silent "make: an output that takes nothing, and items" 'standard output: No space left on device'; [ "$(wc -c <x.lst)" -eq 512 ] && [ "$(wc -c <x.itm)" -eq 512 ]; judge "and both are made" $?
 # What is made is run, on fields a, b and s of 32 bits that start at 0, 40 and 80, every word marked: PYTHON says of the `a` and `b` that a word had which `s` it has
 # now, and whether it is `marked`; `every` are the a of all words.

@@ -1,6 +1,6 @@
-// The library that others link: the public entries under C names, with their answers in a lent array of 32-bit numbers. include/staran.h says each contract in words.
+// The library for C, as crates call it: the public entries under C names, with their answers in a lent array of 32-bit numbers. include/staran.h says each contract in words.
 //
-// A slice passes as a pointer and a length; an array and the register record, as a pointer. No function asks anything of its bytes and lengths.
+// `library_c` exports each function under its name. No function asks anything of its bytes and lengths.
 #![tactic(auto)]
 
 mod answers;
@@ -11,8 +11,7 @@ ghost use Rattle.library.specs.Left.{run_left, step_left, pass_left, sum_left, d
 use registers::Registers;
 
 // A run of an instruction list. The 4 is the version since which the answer has six numbers: a program compiled for five does not link.
-#[unsafe(no_mangle)]
-pub extern "C" fn staran_run_4(
+pub fn staran_run_4(
     memory: &mut [u8],
     registers: &mut [u8],
     list: &[u8],
@@ -28,8 +27,7 @@ pub extern "C" fn staran_run_4(
 }
 
 // A step: an operator's console lends the register record and finds it updated there. The 5 is the version since which the record has 100 bytes: a program compiled for 96 does not link.
-#[unsafe(no_mangle)]
-pub extern "C" fn staran_step_5(
+pub fn staran_step_5(
     memory: &mut [u8],
     registers: &mut Registers,
     instruction: &[u8],
@@ -45,8 +43,7 @@ pub extern "C" fn staran_step_5(
 }
 
 // A pass of the network in arithmetic form.
-#[unsafe(no_mangle)]
-pub extern "C" fn staran_pass<'a>(
+pub fn staran_pass<'a>(
     item: &'a [u8; 32],
     flip: u8,
     code: u8,
@@ -62,8 +59,7 @@ pub extern "C" fn staran_pass<'a>(
 }
 
 // The same pass in wired form.
-#[unsafe(no_mangle)]
-pub extern "C" fn staran_wired_pass<'a>(
+pub fn staran_wired_pass<'a>(
     item: &'a [u8; 32],
     flip: u8,
     code: u8,
@@ -79,15 +75,7 @@ pub extern "C" fn staran_wired_pass<'a>(
 }
 
 // The list that adds two fields.
-#[unsafe(no_mangle)]
-pub extern "C" fn staran_sum_list(
-    a: u32,
-    b: u32,
-    s: u32,
-    n: u32,
-    list: &mut [u8],
-    answer: &mut [u32; 2],
-)
+pub fn staran_sum_list(a: u32, b: u32, s: u32, n: u32, list: &mut [u8], answer: &mut [u32; 2])
     ensures { record { buffer = list.new; answer = answer.new } ≡ sum_left a b s n list.old }
 {
     let r = builders::sums::sum_list(a, b, s, n, list);
@@ -95,8 +83,7 @@ pub extern "C" fn staran_sum_list(
 }
 
 // The list that takes a field off another.
-#[unsafe(no_mangle)]
-pub extern "C" fn staran_difference_list(
+pub fn staran_difference_list(
     a: u32,
     b: u32,
     s: u32,
@@ -111,8 +98,7 @@ pub extern "C" fn staran_difference_list(
 }
 
 // The list that marks the words whose field equals a number, with its items.
-#[unsafe(no_mangle)]
-pub extern "C" fn staran_equal_list(
+pub fn staran_equal_list(
     start: u32,
     n: u32,
     number: u64,
@@ -128,8 +114,7 @@ pub extern "C" fn staran_equal_list(
 }
 
 // The list that marks those whose field is less than it, with its items.
-#[unsafe(no_mangle)]
-pub extern "C" fn staran_less_list(
+pub fn staran_less_list(
     start: u32,
     n: u32,
     number: u64,
@@ -145,8 +130,7 @@ pub extern "C" fn staran_less_list(
 }
 
 // The list that keeps the marks of the words with the greatest field among the marked.
-#[unsafe(no_mangle)]
-pub extern "C" fn staran_greatest_list(start: u32, n: u32, list: &mut [u8], answer: &mut [u32; 2])
+pub fn staran_greatest_list(start: u32, n: u32, list: &mut [u8], answer: &mut [u32; 2])
     ensures { record { buffer = list.new; answer = answer.new } ≡ greatest_left start n list.old }
 {
     let r = builders::searches::greatest_list(start, n, list);
@@ -154,8 +138,7 @@ pub extern "C" fn staran_greatest_list(start: u32, n: u32, list: &mut [u8], answ
 }
 
 // The list that closes up a field of the marked words, with its items.
-#[unsafe(no_mangle)]
-pub extern "C" fn staran_closing_list(
+pub fn staran_closing_list(
     a: u32,
     s: u32,
     n: u32,
@@ -172,8 +155,7 @@ pub extern "C" fn staran_closing_list(
 }
 
 // The list that spreads it back, with its items.
-#[unsafe(no_mangle)]
-pub extern "C" fn staran_spreading_list(
+pub fn staran_spreading_list(
     a: u32,
     s: u32,
     n: u32,
@@ -190,8 +172,7 @@ pub extern "C" fn staran_spreading_list(
 }
 
 // Whether a list is one in which no station can disturb another, for a run that starts with these registers.
-#[unsafe(no_mangle)]
-pub extern "C" fn staran_isolated(list: &[u8], registers: &[u8], answer: &mut [u32; 2])
+pub fn staran_isolated(list: &[u8], registers: &[u8], answer: &mut [u32; 2])
     ensures { answer.new ≡ isolated_left list.now registers.now }
 {
     let a = isolation::isolated(list, registers);
@@ -199,8 +180,7 @@ pub extern "C" fn staran_isolated(list: &[u8], registers: &[u8], answer: &mut [u
 }
 
 // How many words each instruction of a list reaches, for a run that starts with these registers: two bytes each.
-#[unsafe(no_mangle)]
-pub extern "C" fn staran_reach(registers: &[u8], list: &[u8], out: &mut [u8], answer: &mut [u32; 2])
+pub fn staran_reach(registers: &[u8], list: &[u8], out: &mut [u8], answer: &mut [u32; 2])
     ensures { record { buffer = out.new; answer = answer.new }
         ≡ reach_left registers.now list.now out.old }
 {
@@ -209,8 +189,7 @@ pub extern "C" fn staran_reach(registers: &[u8], list: &[u8], out: &mut [u8], an
 }
 
 // The text of a list.
-#[unsafe(no_mangle)]
-pub extern "C" fn staran_show(list: &[u8], text: &mut [u8], answer: &mut [u32; 2])
+pub fn staran_show(list: &[u8], text: &mut [u8], answer: &mut [u32; 2])
     ensures { record { buffer = text.new; answer = answer.new }
         ≡ show_left list.now text.old }
 {
@@ -219,8 +198,7 @@ pub extern "C" fn staran_show(list: &[u8], text: &mut [u8], answer: &mut [u32; 2
 }
 
 // The list of a text, with its items.
-#[unsafe(no_mangle)]
-pub extern "C" fn staran_make(text: &[u8], list: &mut [u8], items: &mut [u8], answer: &mut [u32; 5])
+pub fn staran_make(text: &[u8], list: &mut [u8], items: &mut [u8], answer: &mut [u32; 5])
     ensures { record { list = list.exit.now; items = items.new; answer = answer.new }
         ≡ make_left text.now list.entry.now items.old }
 {
@@ -229,13 +207,7 @@ pub extern "C" fn staran_make(text: &[u8], list: &mut [u8], items: &mut [u8], an
 }
 
 // Reads the blocks of a list or of items.
-#[unsafe(no_mangle)]
-pub extern "C" fn staran_read_content(
-    kind: usize,
-    bytes: &[u8],
-    target: &mut [u8],
-    answer: &mut [u32; 3],
-)
+pub fn staran_read_content(kind: usize, bytes: &[u8], target: &mut [u8], answer: &mut [u32; 3])
     ensures { record { buffer = target.new; answer = answer.new }
         ≡ read_left kind bytes.now target.old }
 {
@@ -244,13 +216,7 @@ pub extern "C" fn staran_read_content(
 }
 
 // Writes a list or items as blocks.
-#[unsafe(no_mangle)]
-pub extern "C" fn staran_write_content(
-    kind: usize,
-    content: &[u8],
-    out: &mut [u8],
-    answer: &mut [u32; 3],
-)
+pub fn staran_write_content(kind: usize, content: &[u8], out: &mut [u8], answer: &mut [u32; 3])
     ensures { record { buffer = out.new; answer = answer.new }
         ≡ write_left kind content.now out.old }
 {
@@ -259,8 +225,7 @@ pub extern "C" fn staran_write_content(
 }
 
 // Reads a picture into a memory and registers.
-#[unsafe(no_mangle)]
-pub extern "C" fn staran_read_picture(
+pub fn staran_read_picture(
     kind: usize,
     bytes: &[u8],
     memory: &mut [u8],
@@ -275,8 +240,7 @@ pub extern "C" fn staran_read_picture(
 }
 
 // Writes a memory and registers as a picture.
-#[unsafe(no_mangle)]
-pub extern "C" fn staran_write_picture(
+pub fn staran_write_picture(
     kind: usize,
     memory: &[u8],
     registers: &[u8],
@@ -291,8 +255,7 @@ pub extern "C" fn staran_write_picture(
 }
 
 // A file with a picture of kind 1 made one of kind 4.
-#[unsafe(no_mangle)]
-pub extern "C" fn staran_picture_to_new(bytes: &[u8], out: &mut [u8], answer: &mut [u32; 3])
+pub fn staran_picture_to_new(bytes: &[u8], out: &mut [u8], answer: &mut [u32; 3])
     ensures { record { buffer = out.new; answer = answer.new }
         ≡ to_new_left bytes.now out.old }
 {
@@ -301,8 +264,7 @@ pub extern "C" fn staran_picture_to_new(bytes: &[u8], out: &mut [u8], answer: &m
 }
 
 // A file with a picture of kind 4 made one of kind 1.
-#[unsafe(no_mangle)]
-pub extern "C" fn staran_picture_to_old(bytes: &[u8], out: &mut [u8], answer: &mut [u32; 3])
+pub fn staran_picture_to_old(bytes: &[u8], out: &mut [u8], answer: &mut [u32; 3])
     ensures { record { buffer = out.new; answer = answer.new }
         ≡ to_old_left bytes.now out.old }
 {
@@ -311,8 +273,7 @@ pub extern "C" fn staran_picture_to_old(bytes: &[u8], out: &mut [u8], answer: &m
 }
 
 // The version of the library that is linked, to be held to the header's.
-#[unsafe(no_mangle)]
-pub extern "C" fn staran_version() -> u32
+pub fn staran_version() -> u32
     ensures { result ≡ version 5 4 }
 {
     327684
