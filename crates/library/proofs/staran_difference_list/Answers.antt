@@ -1,0 +1,11 @@
+-- `staran_difference_list`: what the builder leaves, and its answer as two numbers. Assumes nothing.
+use Rattle.library.proofs.LeftLaws.{difference-small, difference-left}
+use Rattle.library.proofs.staran_difference_list.Goals as goal
+
+pub two-requires : goal.two-requires
+two-requires c =
+    difference-small _ _ _ _ _ _ c.difference_list-r.ensures
+
+pub returns : goal.returns
+returns c =
+    difference-left _ _ _ _ _ _ _ c.difference_list-r.ensures c.two.ensures

@@ -1,0 +1,7 @@
+-- `staran_pass`: the item and the number that the pass answers. Assumes nothing.
+use Rattle.library.proofs.LeftLaws.{pass-left}
+use Rattle.library.proofs.staran_pass.Goals as goal
+
+pub returns : goal.returns
+returns c =
+    pass-left _ _ _ _ c.pass-r.ensures
