@@ -173,8 +173,8 @@ module _ {M : Type 1} {𝓤 : Ura M} (𝓛 : Logic 𝓤) (memory : Memory → SP
         read_all = equation 𝓤 _ (λ κs a g r e. refl);
       }
 
-  of_words : OfWords 𝓛 memory runs
-  of_words =
+  of-words : OfWords 𝓛 memory runs
+  of-words =
       record {
         words_out = equation 𝓤 _ (λ κs a g r e. refl);
         words_in = equation 𝓤 _ (λ κs a g r e. refl);
@@ -260,8 +260,8 @@ module _ {M : Type 1} {𝓤 : Ura M} (𝓛 : Logic 𝓤) (memory : Memory → SP
         sort = equation 𝓤 _ (λ κs a g r e. refl);
       }
 
-  of_blocks : OfBlocks 𝓛 memory runs
-  of_blocks =
+  of-blocks : OfBlocks 𝓛 memory runs
+  of-blocks =
       record {
         two_at = equation-and 𝓤 _ _ (λ κs a g r e. refl);
         fault = equation 𝓤 _ (λ κs a g r e. refl);
@@ -293,7 +293,7 @@ module _ {M : Type 1} {𝓤 : Ura M} (𝓛 : Logic 𝓤) (memory : Memory → SP
         program = program;
         of_bits = of-bits;
         of_memory = of-memory;
-        of_words = of_words;
+        of_words = of-words;
         of_network = of-network;
         of_registers = of-registers;
         of_judge = of-judge;
@@ -301,7 +301,7 @@ module _ {M : Type 1} {𝓤 : Ura M} (𝓛 : Logic 𝓤) (memory : Memory → SP
         of_reach = of-reach;
         of_spelling = of-spelling;
         of_lines = of-lines;
-        of_blocks = of_blocks;
+        of_blocks = of-blocks;
         of_contents = of-contents;
         of_pictures = of-pictures;
       }
