@@ -5,9 +5,9 @@ use Rattle.library.proofs.staran_make.Goals as goal
 pub five-requires : goal.five-requires
 five-requires c =
     let r = c.assemble-r.ensures in
-    make-small _ _ _ _ r.0
+    make-small _ _ _ _ r.answer
 
 pub returns : goal.returns
 returns c =
     let r = c.assemble-r.ensures in
-    make-left _ _ _ _ _ _ _ r.0 r.1.0 r.1.1 c.five.ensures
+    make-left _ _ _ _ _ _ _ r.answer r.list r.items c.five.ensures

@@ -5,9 +5,9 @@ use Rattle.library.proofs.staran_reach.Goals as goal
 pub number_and_count-requires : goal.number_and_count-requires
 number_and_count-requires c =
     let r = c.reach-r.ensures in
-    reach-small _ _ _ _ r.0
+    reach-small _ _ _ _ r.answer
 
 pub returns : goal.returns
 returns c =
     let r = c.reach-r.ensures in
-    reach-left _ _ _ _ _ _ r.0 r.1 c.number_and_count.ensures
+    reach-left _ _ _ _ _ _ r.answer r.bytes c.number_and_count.ensures

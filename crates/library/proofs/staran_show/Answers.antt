@@ -5,9 +5,9 @@ use Rattle.library.proofs.staran_show.Goals as goal
 pub number_and_count-requires : goal.number_and_count-requires
 number_and_count-requires c =
     let r = c.show-r.ensures in
-    show-small _ _ _ r.0
+    show-small _ _ _ r.answer
 
 pub returns : goal.returns
 returns c =
     let r = c.show-r.ensures in
-    show-left _ _ _ _ _ r.0 r.1 c.number_and_count.ensures
+    show-left _ _ _ _ _ r.answer r.text c.number_and_count.ensures
