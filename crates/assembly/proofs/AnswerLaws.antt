@@ -76,8 +76,8 @@ module _ (text list items : List ℕ) where
           answered b s =
               simp (le-ltb 1048576 (length text) h, eq-eqb (outcome_of text).number 0 n, le-ltb most_bytes (length (made_list text)) f, le-ltb most_bytes (length (made_items text)) g, s)
 
-          pub too_short_lem : short ≡ true → Refused (answer 33 0 0 0 0)
-          too_short_lem s = kept (answer 33 0 0 0 0) (answered true s) (λ z. omega (arith, z))
+          pub too-short : short ≡ true → Refused (answer 33 0 0 0 0)
+          too-short s = kept (answer 33 0 0 0 0) (answered true s) (λ z. omega (arith, z))
 
           pub done : short ≡ false
               → (assembled_answer text (length list) (length items) ≡ answer 0 0 0 (length (made_list text)) (length (made_items text)))

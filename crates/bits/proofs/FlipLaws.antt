@@ -158,12 +158,12 @@ digits-flip : T (all 256 (λ f. eqb (by_digits f) f))
 unfolding by_digits
 digits-flip = tt
 
-pub by_digits_lem : (f : ℕ) → f < 256
+pub by-digits : (f : ℕ) → f < 256
     → bit_xor (64 * (f / 64))
     (bit_xor (f / 32 % 2 * 32) (bit_xor (f / 16 % 2 * 16) (bit_xor (f / 8 % 2 * 8) (bit_xor (f / 4 % 2 * 4) (bit_xor (f / 2 % 2 * 2) (f % 2 * 1))))))
     ≡ f
 unfolding by_digits
-by_digits_lem f h = eqb→eq (by_digits f) f (all-at 256 (λ f. eqb (by_digits f) f) digits-flip f h)
+by-digits f h = eqb→eq (by_digits f) f (all-at 256 (λ f. eqb (by_digits f) f) digits-flip f h)
 
 -- ---- an item by its quarters
 

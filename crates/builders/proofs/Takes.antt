@@ -54,11 +54,11 @@ module _ {S O : Type 0} (f : Instruction → O → S → S) (o : ℕ → O) wher
       (h j (k + taken_by (rounds g j)) (folded_on f o (rounds g j) k s) (omega arith) (on-rounds g n P h j k s (omega arith) p))
 
   -- a machine that counts what it takes is handed its items so
-  pub folded_on_lem : (t : S → ℕ) → ((i : Instruction) (x : O) (s : S) → t (f i x s) ≡ t s + cond (takes i) 1 0)
+  pub folded-on : (t : S → ℕ) → ((i : Instruction) (x : O) (s : S) → t (f i x s) ≡ t s + cond (takes i) 1 0)
       → (l : List Instruction) (s : S) → folded (λ i s. f i (o (t s)) s) l s ≡ folded_on f o l (t s) s
   unfolding folded folded_on
-  folded_on_lem t c [] s = refl
-  folded_on_lem t c (i ∷ l) s = folded_on_lem t c l (f i (o (t s)) s) ∙ ap (λ (n : ℕ). folded_on f o l n (f i (o (t s)) s)) (c i (o (t s)) s)
+  folded-on t c [] s = refl
+  folded-on t c (i ∷ l) s = folded-on t c l (f i (o (t s)) s) ∙ ap (λ (n : ℕ). folded_on f o l n (f i (o (t s)) s)) (c i (o (t s)) s)
 
 -- ---- items that are not taken do not matter
 
@@ -83,7 +83,7 @@ module _ {S O : Type 0} (f : Instruction → O → S → S) (idle : (i : Instruc
   pub folded_ext : (t : S → ℕ) → ((i : Instruction) (x : O) (s : S) → t (f i x s) ≡ t s + cond (takes i) 1 0)
       → (l : List Instruction) (s : S) → ((j : ℕ) → t s ≤ j → j < t s + taken_by l → o j ≡ o' j)
       → folded (λ i s. f i (o (t s)) s) l s ≡ folded (λ i s. f i (o' (t s)) s) l s
-  folded_ext t c l s h = folded_on_lem f o t c l s ∙ on-ext l (t s) s h ∙ sym (folded_on_lem f o' t c l s)
+  folded_ext t c l s h = folded-on f o t c l s ∙ on-ext l (t s) s h ∙ sym (folded-on f o' t c l s)
 
 -- the one-word machine's run
 pub ran_word-ext : (o o' : ℕ → ℕ) (l : List Instruction) (v : Word) → ((j : ℕ) → v.taken ≤ j → j < v.taken + taken_by l → o j ≡ o' j)

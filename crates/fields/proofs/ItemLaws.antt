@@ -20,7 +20,7 @@ use Rattle.module.specs.Run.{Lent, begun, ran_by}
 use Rattle.builders.specs.Lists.{decoded, items_of}
 use Rattle.builders.specs.Word.{folded, taken_by, folded_on}
 use Rattle.builders.proofs.ListLaws.{items_at}
-use Rattle.builders.proofs.Takes.{folded_on_lem, on-ext, folded_ext}
+use Rattle.builders.proofs.Takes.{folded-on, on-ext, folded_ext}
 use Rattle.fields.specs.Items.{acted_on}
 use Rattle.fields.proofs.LineLaws.{ran-folded}
 
@@ -41,7 +41,7 @@ idle-on i x y s e =
 -- each instruction sees its own item
 pub folded-items : (items : List ℕ) (l : List Instruction) (s : State) → folded (λ i. acted i items) l s ≡ folded_on acted_on (part_at items) l s.taken s
 unfolding acted passed_by source_item acted_on
-folded-items items = folded_on_lem acted_on (part_at items) (λ s. s.taken) counts-on
+folded-items items = folded-on acted_on (part_at items) (λ s. s.taken) counts-on
 
 pub ran-items : (list items : List ℕ) (s : State) (n : ℕ) → ran_by list items s n ≡ folded_on acted_on (part_at items) (decoded list n) s.taken s
 ran-items list items s n = ran-folded list items s n ∙ folded-items items (decoded list n) s

@@ -70,10 +70,10 @@ module _ (l : Lent Registers) (u : Left Registers Verdict) where
   stepped-small e =
       small-six u.answer _ (ap (λ (x : Left Registers Verdict). x.answer) e ∙ stepped-answer l) (step-bounds (step_lengths l) l.registers.modes l.list)
 
-  pub step_left_lem : (w : List ℕ) → u ≡ stepped l → w ≡ six u.answer
+  pub step-left : (w : List ℕ) → u ≡ stepped l → w ≡ six u.answer
       → ◌≡◌ {A = Left Registers (List ℕ)} (record { memory = u.memory; registers = u.registers; out = u.out; answer = w }) (step_left l)
   unfolding step_left
-  step_left_lem = left_as u (stepped l)
+  step-left = left_as u (stepped l)
 
 -- ---- the network
 
@@ -96,10 +96,10 @@ module _ (a b s n : ℕ) (list : List ℕ) (l : Buffer) where
   pub sum-small : l ≡ sum_built a b s n list → l.answer.count ≤ 5640
   sum-small e = small-built 33 2576 (omega arith) l _ e (sum-bounds a b s n list)
 
-  pub sum_left_lem : (w : List ℕ) → l ≡ sum_built a b s n list → w ≡ l.answer.number ∷ l.answer.count ∷ []
+  pub sum-left : (w : List ℕ) → l ≡ sum_built a b s n list → w ≡ l.answer.number ∷ l.answer.count ∷ []
       → ◌≡◌ {A = BufferLeft} (record { buffer = l.list; answer = w }) (sum_left a b s n list)
   unfolding sum_left
-  sum_left_lem w e d = built-left l (sum_built a b s n list) w e d
+  sum-left w e d = built-left l (sum_built a b s n list) w e d
 
   pub difference-small : l ≡ difference_built a b s n list → l.answer.count ≤ 5640
   difference-small e = small-built 33 2576 (omega arith) l _ e (difference-bounds a b s n list)
@@ -223,9 +223,9 @@ module _ (kind : ℕ) (bytes target : List ℕ) (l : ContentLeft) (e : l ≡ con
   unfolding content_read
   read_small = small-three l.answer _ (ap (λ (x : ContentLeft). x.answer) e) (read-content-bounds kind bytes target)
 
-  pub read_left_lem : (w : List ℕ) → w ≡ three l.answer → ◌≡◌ {A = BufferLeft} (record { buffer = l.buffer; answer = w }) (read_left kind bytes target)
+  pub read-left : (w : List ℕ) → w ≡ three l.answer → ◌≡◌ {A = BufferLeft} (record { buffer = l.buffer; answer = w }) (read_left kind bytes target)
   unfolding read_left
-  read_left_lem w d = moved-left l (content_read kind bytes target) w e d
+  read-left w d = moved-left l (content_read kind bytes target) w e d
 
 -- and of one that is written
 module _ (kind : ℕ) (content out : List ℕ) (l : ContentLeft) (e : l ≡ content_written kind content out) where

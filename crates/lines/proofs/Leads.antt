@@ -41,12 +41,12 @@ pub record Bytes (i : Instruction) : Type 0 where
   pub code : i.code < 256
   pub logic : i.logic < 256
 
-byte_word_lem : (n x : ℕ) (i : Instruction) → x < 256 → worded.worded (line (Byte n) i) (hex_pair x) ≡ line (after_byte n) (with_byte i x)
+byte-word : (n x : ℕ) (i : Instruction) → x < 256 → worded.worded (line (Byte n) i) (hex_pair x) ≡ line (after_byte n) (with_byte i x)
 unfolding worded.worded worded.byte_word
-byte_word_lem n x i h = simp (pair-hex x h, lt-ltb x 256 h)
+byte-word n x i h = simp (pair-hex x h, lt-ltb x 256 h)
 
 byte-lead : (n x : ℕ) (a : Instruction) {ws : List ℕ} {i : Instruction} → x < 256 → Leads (line (after_byte n) (with_byte a x)) ws i → Leads (line (Byte n) a) (hex_pair x ∷ ws) i
-byte-lead n x a h rest = word (line (after_byte n) (with_byte a x)) refl (hex-plain x h) (byte_word_lem n x a h) rest
+byte-lead n x a h rest = word (line (after_byte n) (with_byte a x)) refl (hex-plain x h) (byte-word n x a h) rest
 
 -- An instruction in bytes leads to itself, whatever it is said to be refused with.
 pub bytes-lead : (old i : Instruction) (fault : Fault) → Bytes i → fault.number < 257 → fault.byte < 257 → Leads (line Head old) (in_bytes i fault) i

@@ -150,9 +150,9 @@ place_words t m g ws =
     ∷ decimal g
     ∷ ws
 
-address_word_lem : (k s t m g l : ℕ) → g < 256 → worded.worded (line Address (made k s t m 0 0 0 l)) (decimal g) ≡ line (after_place k) (made k s t m g 0 0 l)
+address-word : (k s t m g l : ℕ) → g < 256 → worded.worded (line Address (made k s t m 0 0 0 l)) (decimal g) ≡ line (after_place k) (made k s t m g 0 0 l)
 unfolding worded.worded address_number
-address_word_lem k s t m g l h = simp (number-decimal g h, lt-ltb g 256 h)
+address-word k s t m g l h = simp (number-decimal g h, lt-ltb g 256 h)
 
 -- no number is the name of a mode register
 no_register : (m : ℕ) → m < 256 → register_tag (index_of (decimal m) mode_registers) ≡ false
@@ -185,7 +185,7 @@ place-active alone = refl
 module _ {p : Phase} (h : Places p) (k s g l : ℕ) (hg : g < 256) where
   -- the number of the place, and what follows it
   place-number : (t m : ℕ) {ws : List ℕ} {i : Instruction} → Leads (line (after_place k) (made k s t m g 0 0 l)) ws i → Leads (line Address (made k s t m 0 0 0 l)) (decimal g ∷ ws) i
-  place-number t m rest = word (line (after_place k) (made k s t m g 0 0 l)) refl (decimal-plain g (omega arith)) (address_word_lem k s t m g l hg) rest
+  place-number t m rest = word (line (after_place k) (made k s t m g 0 0 l)) refl (decimal-plain g (omega arith)) (address-word k s t m g l hg) rest
 
   -- a mode that is given
   given-lead : (m : ℕ) {ws : List ℕ} {i : Instruction} → m < 256 → Leads (line (after_place k) (made k s 1 m g 0 0 l)) ws i → Leads (line p (made k s 0 0 0 0 0 l)) (place_words 1 m g ws) i

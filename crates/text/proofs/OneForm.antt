@@ -61,9 +61,9 @@ emitted-bytes s at (c ∷ cs) h =
     let k = stepped-carried Kept carries s at c h in
     each_append (brought next) (emitted next (at + 1) cs) (brought-bytes next k) (emitted-bytes next (at + 1) cs k)
 
-pub made_bytes_lem : (text : List ℕ) → AllBytes (made_bytes text)
+pub made-bytes : (text : List ℕ) → AllBytes (made_bytes text)
 unfolding made_bytes
-made_bytes_lem text =
+made-bytes text =
     each_at (emitted begin 0 (text ++ (10 ∷ []))) (emitted-bytes begin 0 (text ++ (10 ∷ [])) zeros)
   where
     zeros : Kept begin.line
@@ -96,6 +96,6 @@ shown-again text c =
 -- every text that makes a list of at most 4,096 instructions has such a form, which makes the same list
 pub has-form : (text : List ℕ) → length (made_bytes text) ≤ most_bytes → Canonical (shown_text (made_bytes text)) × (made_bytes (shown_text (made_bytes text)) ≡ made_bytes text)
 has-form text h = (
-  record { list = made_bytes text; fits = made-fits text h; bytes = made_bytes_lem text; shown = refl },
-  (make-show (made_bytes text) (made-whole text) (made_bytes_lem text)).0,
+  record { list = made_bytes text; fits = made-fits text h; bytes = made-bytes text; shown = refl },
+  (make-show (made_bytes text) (made-whole text) (made-bytes text)).0,
 )

@@ -11,7 +11,7 @@ use Rattle.bits.proofs.Rows.{or-none}
 use Rattle.assembly.specs.declared.assembling.Measured.{Measured}
 use Rattle.assembly.specs.Assembly.{outcome_of, made_list, made_items, answer, too_short}
 use Rattle.assembly.specs.Steps.{measured}
-use Rattle.assembly.proofs.AnswerLaws.{too_long, bad, too_many, too-many-items, too_short_lem, done}
+use Rattle.assembly.proofs.AnswerLaws.{too_long, bad, too_many, too-many-items, too-short, done}
 use borrow.Author.Rules.{rules}
 use Rattle.assembly.proofs.assemble.Goals as goal
 
@@ -91,7 +91,7 @@ returns-then-too_short c =
     let list = a.list.now in
     let items = a.items.now in
     let given =
-    too_short_lem text list items one.if-text-gt1048576.false (sym (number-as text m) ∙ two.if-m-ne0.false) (omega (arith, list-as text m, three.if-m-gt-MOST_BYTES.false))
+    too-short text list items one.if-text-gt1048576.false (sym (number-as text m) ∙ two.if-m-ne0.false) (omega (arith, list-as text m, three.if-m-gt-MOST_BYTES.false))
     (omega (arith, items_as text m, four.if-m-gt-MOST_BYTES-2.false)) (short-as text m list items c.too_short.ensures ∙ c.if-too_short.true) in
     record { answer = c.answer-then-too_short.ensures ∙ sym given.0; list = sym given.1; items = sym given.2 }
 

@@ -1,5 +1,5 @@
 -- `staran_read_content`: what the entry leaves, and its answer as three numbers. Assumes nothing.
-use Rattle.library.proofs.LeftLaws.{read_small, read_left_lem}
+use Rattle.library.proofs.LeftLaws.{read_small, read-left}
 use Rattle.library.proofs.staran_read_content.Goals as goal
 
 pub three-requires : goal.three-requires
@@ -8,4 +8,4 @@ three-requires c =
 
 pub returns : goal.returns
 returns c =
-    read_left_lem _ _ _ _ c.read_content-r.ensures _ c.three.ensures
+    read-left _ _ _ _ c.read_content-r.ensures _ c.three.ensures

@@ -1,5 +1,5 @@
 -- `staran_sum_list`: what the builder leaves, and its answer as two numbers. Assumes nothing.
-use Rattle.library.proofs.LeftLaws.{sum-small, sum_left_lem}
+use Rattle.library.proofs.LeftLaws.{sum-small, sum-left}
 use Rattle.library.proofs.staran_sum_list.Goals as goal
 
 pub two-requires : goal.two-requires
@@ -8,4 +8,4 @@ two-requires c =
 
 pub returns : goal.returns
 returns c =
-    sum_left_lem _ _ _ _ _ _ _ c.sum_list-r.ensures c.two.ensures
+    sum-left _ _ _ _ _ _ _ c.sum_list-r.ensures c.two.ensures

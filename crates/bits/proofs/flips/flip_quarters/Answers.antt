@@ -2,7 +2,7 @@
 use mathlib.Core.Path.{ap, ◌∙◌}
 use native.Mathlib.Omega.{arith}
 use Rattle.bits.specs.Quarters.{flipped_quarters}
-use Rattle.bits.proofs.FlipLaws.{flips-1, flips-2, flips-4, flips-8, flips-16, flips-32, flipped-more, by_digits_lem}
+use Rattle.bits.proofs.FlipLaws.{flips-1, flips-2, flips-4, flips-8, flips-16, flips-32, flipped-more, by-digits}
 use Rattle.bits.proofs.flips.flip_quarters.Goals as goal
 
 pub returns : goal.returns
@@ -24,7 +24,7 @@ returns c =
     (eights.exchange_if-eights.ensures
     ∙ more _ _ _ (omega arith)
     (fours.exchange_if-fours.ensures ∙ more _ _ _ (omega arith) (twos.exchange_if-twos.ensures ∙ more _ _ _ (omega arith) ones.exchange_if-ones.ensures)))))
-    ∙ ap (flipped_quarters s.args.q) (by_digits_lem s.args.f (omega arith))
+    ∙ ap (flipped_quarters s.args.q) (by-digits s.args.f (omega arith))
 
 pub exchange_if-ones-requires : goal.exchange_if-ones-requires
 exchange_if-ones-requires c = (omega arith, omega arith, flips-1)
