@@ -17,7 +17,7 @@ unfolding picture_read
 returns-then-number-ne0 c =
     let a = c.args in
     let j = c.judge_file-found in
-    both-unmoved j.result _ _ _ _ _ (read-refused a.kind a.bytes.now _ _ j.result j.ensures c.if-number-ne0.true) c.if-number-ne0.true
+    both-unmoved j.result _ _ _ _ _ (read-refused a.kind a.bytes.now _ _ j.result j.ensures (λ z. omega arith)) (λ z. omega arith)
 
 pub returns-then-not-picture_fits : goal.returns-then-not-picture_fits
 unfolding picture_read

@@ -55,7 +55,7 @@ returns-then-out-lt-FILE c =
     left-unmoved r.result _ _ _
     (r.ensures
     ∙ answered-first _ _ 27 (λ x. omega arith)
-    (inr (ap not kind_ok, inr (ap not fits-ok, inr (sym modes-are ∙ g.if-wrong_modes.false, inl (lt-ltb _ _ c.if-out-lt-FILE.true, refl))))))
+    (inr (ap not kind_ok, inr (ap not fits-ok, inr (sym modes-are ∙ g.if-wrong_modes.false, inl (lt-ltb (length c.args.out.now) 8704 (omega arith), refl))))))
     (refused-not r.result 27 0 r.ensures (λ x. omega arith))
 
 pub put_picture-requires : goal.put_picture-requires
