@@ -7,10 +7,10 @@ mod folder;
 mod lists;
 mod words;
 
-fn main() {
-    if os::arg_count() > 1 {
-        words::asked();
+fn main(rt: HostRuntime) {
+    if words::arg_count(&rt) > 1 {
+        words::asked(&rt);
     } else {
-        folder::run();
+        folder::run(&rt);
     }
 }
