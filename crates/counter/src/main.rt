@@ -2,9 +2,9 @@
 // Where none is asked for, nothing is done and written. What the calls leave is written out, so that no compiler finds them idle; `vectors` holds the answers.
 #![tactic(auto)]
 
-ghost use Rattle.std.specs.Prelude.{◌≡◌, length};
+ghost use Rattle.std.specs.Prelude.{◌≡◌, ◌≤◌, length};
 
-use libc::{STDIN_FILENO, STDOUT_FILENO};
+use std::io::{Read, Write};
 
 // One call of the memory, and the item after it.
 fn access<'a>(
@@ -28,17 +28,32 @@ fn access<'a>(
     memory::load(mem, mode, addr)
 }
 
-// An item written out.
-fn show(item: &[u8; 32]) {
-    io::write_all(STDOUT_FILENO, item);
+// Reads until the buffer is full, the input ends or a read fails: how many bytes there are.
+fn read_full(input: &mut impl Read, buffer: &mut [u8]) -> usize
+    ensures { result ≤ length buffer.new }
+{
+    let mut done: usize = 0;
+    while done < buffer.len() {
+        match input.read(&mut buffer[done..]) {
+            Err(_) | Ok(0) => return done,
+            Ok(more) => done += more,
+        }
+    }
+    done
 }
 
-fn main() {
+// An item written out.
+fn show(output: &mut impl Write, item: &[u8; 32]) {
+    let _ = output.write_all(item);
+}
+
+fn main(rt: HostRuntime) {
+    let mut output = rt.stdout();
     let mut steps = [0u8; 3072];
     let mut mem = [165u8; 8192];
     let mut item = [90u8; 32];
     let mask = [60u8; 32];
-    let got = io::read_full(STDIN_FILENO, &mut steps);
+    let got = read_full(&mut rt.stdin(), &mut steps);
     if got == 0 {
         return;
     }
@@ -54,6 +69,6 @@ fn main() {
         );
         at += 3;
     }
-    show(&item);
-    io::write_all(STDOUT_FILENO, &mem);
+    show(&mut output, &item);
+    let _ = output.write_all(&mem);
 }

@@ -1,16 +1,16 @@
 // The program: a run in the folder that it is started in; or, with words behind its name, a picture's file converted, a list shown as text, or a list and its items made of a text.
 #![tactic(auto)]
 
+mod arguments;
 mod convert;
 mod files;
 mod folder;
 mod lists;
-mod words;
 
-fn main() {
-    if os::arg_count() > 1 {
-        words::asked();
+fn main(rt: HostRuntime) {
+    if arguments::arg_count(&rt) > 1 {
+        arguments::asked(&rt);
     } else {
-        folder::run();
+        folder::run(&rt);
     }
 }

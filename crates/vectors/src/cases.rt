@@ -6,6 +6,7 @@ use super::buffers::{clamp, digest, fill, format, patch, repeat, seal, shape};
 use super::calls::call;
 use super::records::{buffers_of, byte, half, parameter, patches_at, word, write_word, zeros_in};
 use super::rooms::{end_of, start_of};
+use std::io::Write;
 
 // The patch at `at` of the record, if it is for the buffer of number `which`: its bytes go into the buffer; target 255 seals a block of the file, number 5;
 // targets 254 and 253 repeat the front of the memory, number 0, and of the file. Nothing is a patch from byte 1,000 on.
@@ -111,12 +112,12 @@ fn prepare(record: &[u8], room: &mut [u8])
 }
 
 // The numbers of an answer written out, on a line that the digests end.
-fn write_numbers(answer: Numbers) {
+fn write_numbers(output: &mut impl Write, answer: Numbers) {
     let w = answer.w;
     let count = clamp(answer.count, 16);
     let mut i: usize = 0;
     while i < count {
-        write_word(w[i], false);
+        write_word(output, w[i], false);
         i += 1;
     }
 }
@@ -136,34 +137,41 @@ fn left_out(which: usize, unfixed: Unfixed) -> usize {
 }
 
 // The digest of one buffer in the room written out.
-fn write_digest(record: &[u8], which: usize, room: &[u8], unfixed: Unfixed, last: bool)
+fn write_digest(
+    output: &mut impl Write,
+    record: &[u8],
+    which: usize,
+    room: &[u8],
+    unfixed: Unfixed,
+    last: bool,
+)
     requires { length room.now ≡ 131072 }
 {
     let s = start_of(record, which);
     let e = end_of(record, which, s);
     let from = s + clamp(left_out(which, unfixed), e - s);
-    write_word(digest(&room[from..e]), last);
+    write_word(output, digest(&room[from..e]), last);
 }
 
 // The digests of all buffers written out.
-fn write_digests(record: &[u8], room: &[u8], unfixed: Unfixed)
+fn write_digests(output: &mut impl Write, record: &[u8], room: &[u8], unfixed: Unfixed)
     requires { length room.now ≡ 131072 }
 {
     let count = buffers_of(record);
     let mut k: usize = 0;
     while k < count {
-        write_digest(record, k, room, unfixed, k + 1 == count);
+        write_digest(output, record, k, room, unfixed, k + 1 == count);
         k += 1;
     }
 }
 
 // One case: its answer, and the digests of what it leaves.
-pub(crate) fn run_case(record: &[u8], room: &mut [u8])
+pub(crate) fn run_case(output: &mut impl Write, record: &[u8], room: &mut [u8])
     requires { length room.old ≡ 131072 }
 {
     prepare(record, room);
     let answer = call(record, room);
     let unfixed = answer.unfixed;
-    write_numbers(answer);
-    write_digests(record, room, unfixed);
+    write_numbers(output, answer);
+    write_digests(output, record, room, unfixed);
 }

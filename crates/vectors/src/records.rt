@@ -1,7 +1,7 @@
 // A case's line of hex digits to its record, what the record says, and an answer's numbers to a line of hex digits.
 ghost use Rattle.std.specs.Prelude.{◌<◌, ◌≤◌, length};
 
-use libc::{STDIN_FILENO, STDOUT_FILENO};
+use std::io::{Read, Write};
 
 // The value of a lower-case hex digit; 0 for any other character.
 fn hex_value(c: u8) -> u8
@@ -43,19 +43,21 @@ fn put_digit(record: &mut [u8], k: usize, c: u8) {
     record[at] = joined(record[at], d);
 }
 
-// The next byte of standard input, or a line feed at its end.
-fn next_byte() -> u8 {
+// The next byte of standard input, or a line feed at its end and where it cannot be read.
+fn next_byte(input: &mut impl Read) -> u8 {
     let mut one = [10u8; 1];
-    io::read_full(STDIN_FILENO, &mut one);
-    one[0]
+    match input.read(&mut one) {
+        Err(_) | Ok(0) => 10,
+        Ok(_) => one[0],
+    }
 }
 
 // One digit more of a line, of which `left` are left to read; answers how many are left then, and none at the line's end.
-fn read_digit(record: &mut [u8], left: usize) -> usize
+fn read_digit(input: &mut impl Read, record: &mut [u8], left: usize) -> usize
     requires { (0 < left) × (left ≤ 2100) }
     ensures { result < left }
 {
-    let c = next_byte();
+    let c = next_byte(input);
     if c == 10 {
         return 0;
     }
@@ -64,21 +66,21 @@ fn read_digit(record: &mut [u8], left: usize) -> usize
 }
 
 // The digits of a line behind its first put into the record. A line has fewer than 2,100.
-fn read_rest(record: &mut [u8]) {
+fn read_rest(input: &mut impl Read, record: &mut [u8]) {
     let mut left: usize = 2100;
     while left > 0 {
-        left = read_digit(record, left);
+        left = read_digit(input, record, left);
     }
 }
 
 // The next line of standard input put into the record. Is there one?
-pub(crate) fn read_record(record: &mut [u8]) -> bool {
-    let first = next_byte();
+pub(crate) fn read_record(input: &mut impl Read, record: &mut [u8]) -> bool {
+    let first = next_byte(input);
     if first == 10 {
         return false;
     }
     put_digit(record, 0, first);
-    read_rest(record);
+    read_rest(input, record);
     true
 }
 
@@ -177,9 +179,9 @@ fn behind(last: bool) -> u8 {
 }
 
 // A number of an answer written out.
-pub(crate) fn write_word(x: u32, last: bool) {
+pub(crate) fn write_word(output: &mut impl Write, x: u32, last: bool) {
     let mut text = [0u8; 9];
     put_word(&mut text, x);
     text[8] = behind(last);
-    io::write_all(STDOUT_FILENO, &text);
+    let _ = output.write_all(&text);
 }

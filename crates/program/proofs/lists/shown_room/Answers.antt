@@ -1,0 +1,7 @@
+-- `shown_room`: so many zeros, by the law of their length: counted one by one they are too many for the checker.
+use Rattle.std.proofs.Common.{ℕ, sym}
+use Rattle.std.proofs.lemmas.List.{length-replicate}
+use Rattle.program.proofs.lists.shown_room.Goals as goal
+
+pub returns : goal.returns
+returns c = sym (length-replicate {A = ℕ} 786432 0)
