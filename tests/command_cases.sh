@@ -294,6 +294,8 @@ call "$staran" convert new pictures/list x.pic; [ $status -eq 1 ] && ! grep -q '
 call "$staran" convert new pictures/stray x.pic; [ "$(grep -c '<-- here$' "$work/out")" -eq 1 ]; judge "of 24 the first byte that is wrong is marked, and no other" $?
 cp pictures/list $'pictures/\377'; PYTHONIOENCODING=utf-8:strict call "$staran" convert new $'pictures/\377' x.pic
 [ $status -eq 1 ] && [ ! -s "$work/err" ] && LC_ALL=C grep -q $'at byte 0 of \377, which has 1 block' "$work/out"; judge "a name that is no text" $?
+call "$staran" convert new pictures/one $'\377.pic'; [ $status -eq 0 ] && cmp -s $'\377.pic' pictures/four && [ ! -s "$work/err" ]; judge "nor that of the file to be made" $?
+rm -f $'\377.pic'; call "$staran" convert new $'missing\377' x.pic; [ $status -eq 2 ] && [ ! -s "$work/out" ] && LC_ALL=C grep -qx $'./missing\377: No such file or directory' "$work/err" && [ ! -e x.pic ]; judge "no file of such a name, with the reason" $?
 cp old.pic there.pic
 complains "convert: a file that is there is not written over" 2 'staran: there.pic: it is there, and is not written over: name a file that is not there' "$staran" convert new pictures/one there.pic
 cmp -s there.pic old.pic; judge "and is as it was" $?
