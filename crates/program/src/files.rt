@@ -116,7 +116,7 @@ fn written(file: &mut (impl Write + OpenFile), bytes: &[u8]) -> io::Result<()> {
     file.sync_all()
 }
 
-// All of the bytes, through to the device, and the file closed; `name` is what a failure is told of.
+// All of the bytes, through to the device, and then the file is closed; `name` is what a failure is told of, but for one of closing alone, which std does not tell.
 pub(crate) fn put(
     rt: &impl Eprint,
     mut file: impl Write + OpenFile + Drop,
