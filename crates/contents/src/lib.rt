@@ -188,6 +188,7 @@ pub fn read_content(kind: usize, bytes: &[u8], target: &mut [u8]) -> Moved
 }
 
 // A part of a content, from number `at` on, into the payloads that it is to stand in, piece by piece.
+#[inline(never)]
 pub fn put_part(part: &[u8], at: usize, out: &mut [u8])
     requires { block_bytes * block_count (at + length part.now) ≤ length out.old }
     ensures { out.new ≡ laid part.now at out.old }

@@ -37,6 +37,7 @@ pub fn read_all(mem: &[u8], mode: u8, addr: u8) -> [u8; 256]
 }
 
 // Line 8i + j's bit, from the byte read of the chip that it meets.
+#[inline(never)]
 pub(crate) fn gather(bytes: &[u8], mode: u8, addr: u8) -> [u8; 32]
     requires { length bytes.now ≡ 256 }
     ensures { result ≡ listed (λ i. digits_of (line_digit bytes.now mode addr i) 8) 32 }

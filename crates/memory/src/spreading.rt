@@ -60,6 +60,7 @@ pub fn kept(mask: &[u8; 32], mode: u8, addr: u8) -> [u8; 256]
 }
 
 // The same where every line writes. All bytes of a lane are then one, and only the first is made.
+#[inline(never)]
 pub fn kept_by_all(mode: u8, addr: u8) -> [u8; 256]
     ensures { (t : ℕ) → t < 8 → get_or result (32 * t) 0 ≡ keep_byte every mode addr 0 t }
 {

@@ -104,6 +104,7 @@ fn put_out(out: &mut [u8], given: usize, x: &[u8; 32])
 }
 
 // The out buffer after it: a deliver puts the passed item out.
+#[inline(never)]
 fn deliver(out: &mut [u8], i: Instruction, given: usize, f: &[u8; 32])
     requires { gives i ≡ true → 32 * given + 32 ≤ length out.old }
     ensures { out.new ≡ cond (eqb i.kind deliver) (put_part out.old given f.now) out.old }

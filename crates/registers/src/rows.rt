@@ -7,6 +7,7 @@ use crate::mode_bytes::modes_of;
 use bits::copies::{copy, item_of};
 
 // The register record of 100 bytes: M, X, Y, and the mode registers.
+#[inline(never)]
 pub fn registers_of(regs: &[u8]) -> Registers
     requires { length regs.now ≡ 100 }
     ensures { result ≡ registers_of regs.now }

@@ -27,6 +27,7 @@ fn gather_word(bytes: &[u8], addr: u8) -> [u8; 32]
 }
 
 // Eight rows turned: from the bytes read of the chips to the words, or back, for it is its own inverse.
+#[inline(always)]
 pub fn turned(bytes: &[u8]) -> [u8; 256]
     requires { length bytes.now ≡ 256 }
     ensures { result ≡ turned bytes.now }
