@@ -295,6 +295,8 @@ call "$staran" convert new pictures/stray x.pic; [ "$(grep -c '<-- here$' "$work
 cp pictures/list $'pictures/\377'; PYTHONIOENCODING=utf-8:strict call "$staran" convert new $'pictures/\377' x.pic
 [ $status -eq 1 ] && [ ! -s "$work/err" ] && LC_ALL=C grep -q $'at byte 0 of \377, which has 1 block' "$work/out"; judge "a name that is no text" $?
 call "$staran" convert new pictures/one $'\377.pic'; [ $status -eq 0 ] && cmp -s $'\377.pic' pictures/four && [ ! -s "$work/err" ]; judge "nor that of the file to be made" $?
+call "$staran" convert new pictures/one $'\377.pic'; [ $status -eq 2 ] && [ ! -s "$work/out" ] && LC_ALL=C grep -qx $'staran: \377.pic: it is there, and is not written over: name a file that is not there' "$work/err" && cmp -s $'\377.pic' pictures/four; judge "which is not written over where it is there" $?
+call "$staran" convert new pictures/stray $'\376.pic'; [ $status -eq 1 ] && [ ! -e $'\376.pic' ] && ! ls -d new.*/ >/dev/null 2>&1; judge "nor made of a picture that is refused, and no folder is left" $?
 rm -f $'\377.pic'; call "$staran" convert new $'missing\377' x.pic; [ $status -eq 2 ] && [ ! -s "$work/out" ] && LC_ALL=C grep -qx $'./missing\377: No such file or directory' "$work/err" && [ ! -e x.pic ]; judge "no file of such a name, with the reason" $?
 cp old.pic there.pic
 complains "convert: a file that is there is not written over" 2 'staran: there.pic: it is there, and is not written over: name a file that is not there' "$staran" convert new pictures/one there.pic
