@@ -748,7 +748,7 @@ built() { # NAME CALLS STATUS [FOLDER]: a run gives the status, and rt has been 
     judge "$1" $?
 }
 built "no program: it is built, then run" 1 0
-grep -q 'some five minutes' "$work/err" && grep -qx "staran: 1 of $total crates: bits proved" "$work/err" && ! grep -q 'note:' "$work/err" && grep -q 'note:' "$copy/target/staran.log"
+grep -q 'some ten minutes' "$work/err" && grep -qx "staran: 1 of $total crates: bits proved" "$work/err" && ! grep -q 'note:' "$work/err" && grep -q 'note:' "$copy/target/staran.log"
 judge "it says how long that takes and which of how many crates is proved, and keeps the notes" $?
 built "nothing changed: nothing is built" 1 0; [ ! -s "$work/err" ]; judge "and nothing is said" $?
 echo '// more' >>"$copy/crates/bits/src/lib.rt"; built "a source changed: it is built again" 2 0
