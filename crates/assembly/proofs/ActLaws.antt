@@ -13,12 +13,24 @@ use Rattle.spelling.specs.Words.{no_number, digit, number}
 use Rattle.judge.specs.declared.Instruction.{Instruction}
 use Rattle.builders.specs.Lists.{encoded}
 use Rattle.builders.proofs.ListLaws.{sum-length, difference-length, search-length, greatest-length, number-length}
-use Rattle.assembly.specs.declared.Act.{Act}
-use Rattle.assembly.specs.declared.Act.TheVariants.{Refused, One, Sum, Search, Greatest}
+use Rattle.assembly.specs.declared.Act as lines
+use Rattle.assembly.specs.declared.Act.TheVariants as act
+use Rattle.assembly.specs.Act.{Act, Refused, One, Sum, Search, Greatest}
+use Rattle.assembly.specs.Steps.{made}
 use Rattle.assembly.specs.Words.{word_from}
 use Rattle.assembly.specs.Fields.{Named}
 use Rattle.assembly.specs.Acts.{number_of, fields_list, list_of, items_of, over_by, limited, searches, ordered}
 use Rattle.assembly.specs.Statements.{line_by, line_act}
+
+-- what the program's line makes is no refusal
+pub made-stands : (act : lines.Act) → number_of (made act) ≡ 0
+made-stands act.Nothing = refl
+made-stands (act.Field name span) = refl
+made-stands (act.Limit n) = refl
+made-stands (act.One i) = refl
+made-stands (act.Sum d a b s) = refl
+made-stands (act.Search l a v) = refl
+made-stands (act.Greatest a) = refl
 
 -- the list of a sum or of a difference
 pub fields-length : (d : Bool) (a b s n : ℕ) → length (fields_list d a b s n) ≡ 8 * (cond d 2 1 + 5 * n)

@@ -9,7 +9,7 @@ use lib.Dec.{eqb, ltb}
 use lib.ListN.{length, drop}
 use borrow.Author.Tests.{lt-ltb, le-ltb, eq-eqb, ne_eqb}
 use Rattle.judge.specs.Kinds.{most_bytes}
-use Rattle.assembly.specs.declared.Assembled.{Assembled}
+use Rattle.assembly.specs.Assembly.{Assembled}
 use Rattle.assembly.specs.Assembly.{outcome_of, made_list, made_items, answer, too_short, assembled_answer, assembled_list, assembled_items}
 
 -- a text that is assembled has no line that is refused

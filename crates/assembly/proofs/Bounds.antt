@@ -19,9 +19,8 @@ use Rattle.text.specs.Make as making
 use Rattle.text.proofs.ScanLaws.{stepped_start}
 use Rattle.text.proofs.LineNumbers.{line-numbers}
 use Rattle.assembly.specs.declared.Word.{Word}
-use Rattle.assembly.specs.declared.Act.{Act}
-use Rattle.assembly.specs.declared.Act.TheVariants.{Nothing, Refused, One}
-use Rattle.assembly.specs.declared.Assembled.{Assembled}
+use Rattle.assembly.specs.Act.{Act, Nothing, Refused, One}
+use Rattle.assembly.specs.Assembly.{Assembled}
 use Rattle.assembly.specs.Words.{blanks, letters, part, word_from, value_of, stops, same_characters}
 use Rattle.assembly.specs.Fields.{Named, span_of}
 use Rattle.assembly.specs.Acts.{number_of, column_of, over_by, limited, searches, ordered}

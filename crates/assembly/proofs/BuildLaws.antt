@@ -9,8 +9,8 @@ use borrow.Author.Tests.{le-ltb}
 use Rattle.bits.specs.Steps.{put_at}
 use Rattle.bits.proofs.Puts.{put_all}
 use Rattle.bits.proofs.Rows.{none_number}
-use Rattle.builders.specs.declared.Built.{Built}
-use Rattle.builders.specs.declared.BuiltTwo.{BuiltTwo}
+use Rattle.builders.specs.Building.{Built}
+use Rattle.builders.specs.Building.{BuiltTwo}
 use Rattle.builders.specs.Field.{Field}
 use Rattle.builders.specs.Lists.{encoded}
 use Rattle.builders.specs.Sums.{sum_list, difference_list, list_length, field_rows, fields_fault, sum_built, difference_built}

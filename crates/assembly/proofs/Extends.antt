@@ -18,15 +18,14 @@ use Rattle.lines.specs.declared.Phase.TheVariants.{Head}
 use Rattle.lines.specs.Alone.{bytes_of, of_kind}
 use Rattle.lines.specs.Worded.{line}
 use Rattle.text.specs.declared.Reading.{Reading}
-use Rattle.text.specs.declared.Made.{Made}
+use Rattle.text.specs.Make.{Made}
 use Rattle.text.specs.Make as make
 use Rattle.text.specs.Make.{reading, emitted, ends, made_bytes, last_of, refused_at, made_answer, made_out}
 use Rattle.text.proofs.MadeLaws as made
 use Rattle.text.proofs.ReadLaws as read
 use Rattle.text.proofs.LineNumbers.{Numbered, ends-numbered, refused-some}
 use Rattle.text.proofs.OneForm.{made-whole}
-use Rattle.assembly.specs.declared.Act.{Act}
-use Rattle.assembly.specs.declared.Act.TheVariants.{Nothing, One}
+use Rattle.assembly.specs.Act.{Act, Nothing, One}
 use Rattle.assembly.specs.Words.{word_from}
 use Rattle.assembly.specs.Fields.{Named}
 use Rattle.assembly.specs.Acts.{number_of, column_of, list_of, items_of, limit_by, limited, ordered}

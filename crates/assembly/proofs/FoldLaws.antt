@@ -7,7 +7,7 @@ use native.Mathlib.Decide.{ℕ_discrete}
 use lib.Dec.{eqb}
 use borrow.Author.Tests.{ne_eqb}
 use Rattle.bits.proofs.Rows.{taken}
-use Rattle.assembly.specs.declared.Act.{Act}
+use Rattle.assembly.specs.Act.{Act}
 use Rattle.assembly.specs.Acts.{number_of, column_of, list_of, items_of}
 use Rattle.assembly.specs.Assembly.{State, applied, act_of, Outcome, folded}
 

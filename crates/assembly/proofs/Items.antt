@@ -17,8 +17,7 @@ use Rattle.builders.specs.Searches.{differs, decided, started, move_x, search_ro
 use Rattle.builders.specs.Word.{taken_by}
 use Rattle.builders.proofs.ListLaws.{length-encoded, encoded-append, rounds-apart, later, decoded-encoded, length-search-rounds, number-length, items_at}
 use Rattle.builders.proofs.Takes.{taken-append, taken-rounds, taken-decoded}
-use Rattle.assembly.specs.declared.Act.{Act}
-use Rattle.assembly.specs.declared.Act.TheVariants.{Nothing, Refused, Field, Limit, One, Sum, Search, Greatest}
+use Rattle.assembly.specs.Act.{Act, Nothing, Refused, Field, Limit, One, Sum, Search, Greatest}
 use Rattle.assembly.specs.Acts.{number_of, column_of, list_of, items_of, taken_by_act, searches}
 use Rattle.assembly.specs.Assembly.{State, begin, applied, act_of, Outcome, folded, outcome_of, made_list, made_items}
 use Rattle.assembly.specs.Items.{taken_before, item_at, LineOf, state_after, place_after, InStep}

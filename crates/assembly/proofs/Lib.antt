@@ -9,6 +9,7 @@ pub mod FoldLaws
 pub mod SoundLaws
 pub mod WalkLaws
 pub mod AnswerLaws
+pub mod ResultLaws
 pub mod FirstWord
 pub mod OneLine
 pub mod Anew

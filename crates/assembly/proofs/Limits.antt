@@ -21,8 +21,7 @@ use Rattle.reach.specs.Reach.{reach_of, reach_by, reach_at}
 use Rattle.spelling.specs.Words.{number}
 use Rattle.text.specs.Make.{made_answer}
 use Rattle.assembly.specs.declared.Word.{Word}
-use Rattle.assembly.specs.declared.Act.{Act}
-use Rattle.assembly.specs.declared.Act.TheVariants.{Nothing, Refused, Field, Limit, One, Sum, Search, Greatest}
+use Rattle.assembly.specs.Act.{Act, Nothing, Refused, Field, Limit, One, Sum, Search, Greatest}
 use Rattle.assembly.specs.Words.{word_from, part, same_characters}
 use Rattle.assembly.specs.Fields.{Named, named}
 use Rattle.assembly.specs.Acts.{number_of, list_of, limit_by, modes_by_act, over_by, limited}

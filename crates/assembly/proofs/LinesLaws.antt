@@ -1,93 +1,93 @@
--- Laws of the lines of a text: where the first ends, and what is left behind it. Assumes nothing.
-use mathlib.Core.Path.{◌≡◌, refl, sym, ap, ap₂, ◌∙◌}
-use mathlib.Core.Bool.{Bool, true, false, cond}
-use mathlib.Core.List.{List, [], ◌∷◌}
-use Prim.Native.Nat.{ℕ, suc, ◌+◌, ◌-◌, ◌<◌, ◌≤◌}
-use native.Mathlib.Decide.{dec_le}
-use native.Mathlib.Omega.{arith}
-use lib.Dec.{eqb, ltb}
-use lib.ListN.{length, get_or, take, drop, length-drop}
-use lib.Seq.{drop-drop}
-use borrow.Author.Tests.{eq-eqb, ne_eqb, lt-ltb, le-ltb}
-use Rattle.assembly.specs.Words.{part}
+-- Laws of the lines of a text: they are the parts between its line feeds. Assumes nothing.
+use Rattle.std.proofs.Common.{◌≡◌, refl, sym, ap, subst, ◌∙◌, cond, List, [], ◌∷◌, Option, Some, None, ℕ, zero, suc, ◌+◌, ◌<◌, ◌≤◌, eqb, length, drop, get_or, drop-cons, add-one, arith}
+use lib.ListN.{drop_of_length-le}
+use Rattle.std.specs.List.{slice_split, count_by, enumerate_from}
+use Rattle.std.specs.List as list
+use denote.Ref.{Bor}
+use Rattle.std.specs.Iterator.{Yields}
+use Rattle.std.proofs.lemmas.Iterator.{YieldsList}
+use Rattle.std.proofs.lemmas.Iterator.Consumers.{YieldsList-turn, YieldsList-end}
+use Rattle.std.proofs.lemmas.List.Splits.{length-slice_split}
+use Rattle.std.proofs.lemmas.Grind.{common_steps}
 use Rattle.assembly.specs.Assembly.{onto_first, lines_of}
-use Rattle.assembly.specs.Steps.{line_length}
-use Rattle.assembly.proofs.WordLaws.{drop_more, drop-end}
 
--- ---- the search for the line's end has come to place i
+onto-same : (c : ℕ) (ls : List (List ℕ)) → onto_first c ls ≡ list.onto_first c ls
+unfolding onto_first
+onto-same c [] = refl
+onto-same c (l ∷ ls) = refl
 
-module _ (l : List ℕ) (i total : ℕ) where
-  pub line-here : i < length l → get_or l i 0 ≡ 10 → total ≡ i + line_length (drop i l) → i ≡ total
-  unfolding line_length
-  line-here h b e =
-      let z : line_length (drop i l) ≡ 0 = ap line_length (drop_more l i h) ∙ ap (λ (x : Bool). cond x 0 (suc (line_length (drop (i + 1) l)))) (eq-eqb (get_or l i 0) 10 b) in
-      omega arith
+pub lines-split : (text : List ℕ) → lines_of text ≡ slice_split (λ b. eqb b 10) text
+unfolding lines_of
+lines-split [] = refl
+lines-split (c ∷ cs) =
+    ap (λ (ls : List (List ℕ)). cond (eqb c 10) ([] ∷ ls) (onto_first c ls)) (lines-split cs)
+    ∙ ap (λ (ls : List (List ℕ)). cond (eqb c 10) ([] ∷ slice_split (λ b. eqb b 10) cs) ls) (onto-same c (slice_split (λ b. eqb b 10) cs))
 
-  pub line-more : i < length l → (get_or l i 0 ≡ 10 → ⊥) → total ≡ i + line_length (drop i l) → total ≡ i + 1 + line_length (drop (i + 1) l)
-  unfolding line_length
-  line-more h b e =
-      let z : line_length (drop i l) ≡ suc (line_length (drop (i + 1) l)) =
-      ap line_length (drop_more l i h) ∙ ap (λ (x : Bool). cond x 0 (suc (line_length (drop (i + 1) l)))) (ne_eqb (get_or l i 0) 10 b) in
-      omega arith
+count-most : (text : List ℕ) → count_by (λ b. eqb b 10) text ≤ length text
+count-most [] = omega arith
+count-most (c ∷ cs) = let h = count-most cs in grind (arith, common_steps)
 
-  pub line-last : length l ≤ i → total ≡ i + line_length (drop i l) → i ≡ total
-  unfolding line_length
-  line-last h e = omega (arith, ap line_length (drop-end l i h))
+-- There are at most as many as characters, and one.
+pub lines-most : (text : List ℕ) → length (lines_of text) ≤ length text + 1
+lines-most text = omega (arith, count-most text, length-slice_split (λ b. eqb b 10) text, ap length (lines-split text))
 
--- ---- the first line, and those behind it
+-- what is left behind n of them
+pub lines-drop : (text : List ℕ) (n : ℕ) (line : List ℕ) → n < length (lines_of text) → line ≡ get_or (lines_of text) n line
+    → drop n (lines_of text) ≡ line ∷ drop (n + 1) (lines_of text)
+lines-drop text n line h q =
+    drop-cons (lines_of text) n line h
+    ∙ ap (λ (x : List ℕ). x ∷ drop (suc n) (lines_of text)) (sym q)
+    ∙ ap (λ (k : ℕ). line ∷ drop k (lines_of text)) (sym (add-one n))
 
--- the lines that are left at place `at`: none behind the end
-abbrev pub lines_left : List ℕ → ℕ → List (List ℕ)
-lines_left text at = cond (ltb (length text) at) [] (lines_of (drop at text))
+pub lines-end : (text : List ℕ) (n : ℕ) → n ≡ length (lines_of text) → drop n (lines_of text) ≡ []
+lines-end text n h = drop_of_length-le (lines_of text) {i = n} (omega arith)
 
-behind : List ℕ → ℕ → List (List ℕ)
-behind l k = cond (ltb k (length l)) (lines_of (drop (suc k) l)) []
+-- where a numbered line stands
+numbered-at : (a : ℕ) (ls : List (List ℕ)) (n k : ℕ) (line : List ℕ) → n < length (enumerate_from a ls) → ◌≡◌ {A = ℕ × List ℕ} (k, line) (get_or (enumerate_from a ls) n (k, line))
+    → (n < length ls) × (k ≡ a + n) × (line ≡ get_or ls n line)
+numbered-at a [] n k line h e = absurd (omega (arith, h))
+numbered-at a (l ∷ ls) zero k line h e = (omega arith, omega (arith, ap (λ (x : ℕ × List ℕ). x.0) e), ap (λ (x : ℕ × List ℕ). x.1) e)
+numbered-at a (l ∷ ls) (suc n) k line h e =
+    let r = numbered-at (a + 1) ls n k line (omega (arith, h)) e in
+    (omega (arith, r.0), omega (arith, r.1), r.2)
 
-ltb-more : (a b : ℕ) → ltb (suc a) (suc b) ≡ ltb a b
-ltb-more a b = go (dec_le (a + 1) b)
-  where
-    go : Dec (a + 1 ≤ b) → ltb (suc a) (suc b) ≡ ltb a b
-    go (yes h) = lt-ltb (suc a) (suc b) (omega arith) ∙ sym (lt-ltb a b (omega arith))
-    go (no h) = le-ltb (suc a) (suc b) (omega arith) ∙ sym (le-ltb a b (omega arith))
+numbered-length : (a : ℕ) (ls : List (List ℕ)) → length (enumerate_from a ls) ≡ length ls
+numbered-length a [] = refl
+numbered-length a (l ∷ ls) = ap suc (numbered-length (a + 1) ls)
 
-lines-first : (l : List ℕ) → lines_of l ≡ take (line_length l) l ∷ behind l (line_length l)
-unfolding lines_of onto_first line_length behind
-lines-first [] = refl
-lines-first (c ∷ cs) = go (eqb c 10) (lines-first cs)
-  where
-    go : (b : Bool) → lines_of cs ≡ take (line_length cs) cs ∷ behind cs (line_length cs)
-        → cond b ([] ∷ lines_of cs) (onto_first c (lines_of cs)) ≡ take (cond b 0 (suc (line_length cs))) (c ∷ cs) ∷ behind (c ∷ cs) (cond b 0 (suc (line_length cs)))
-    go true e = ap (λ (b : Bool). [] ∷ cond b (lines_of cs) []) (sym (lt-ltb 0 (suc (length cs)) (omega arith)))
-    go false e =
-        ap (onto_first c) e
-        ∙ ap (λ (b : Bool). (c ∷ take (line_length cs) cs) ∷ cond b (lines_of (drop (suc (line_length cs)) cs)) []) (sym (ltb-more (line_length cs) (length cs)))
+-- ---- a loop over the lines, numbered from 0
 
-pub lines_at : (text : List ℕ) (at e : ℕ) → at ≤ length text → e ≡ at + line_length (drop at text) → lines_left text at ≡ part text at e ∷ lines_left text (e + 1)
-unfolding behind
-lines_at text at e h q =
-    ap (λ (b : Bool). cond b [] (lines_of (drop at text))) (le-ltb (length text) at h)
-    ∙ lines-first (drop at text)
-    ∙ ap₂ (λ (x : List ℕ) (y : List (List ℕ)). x ∷ y) (ap (λ (n : ℕ). take n (drop at text)) k) (go (dec_le (e + 1) (length text)))
-  where
-    k : line_length (drop at text) ≡ e - at
-    k = omega (arith, q)
+abbrev parts : List ℕ → List (List ℕ)
+parts text = slice_split (λ (b : ℕ). eqb b 10) text
 
-    size : length (drop at text) ≡ length text - at
-    size = length-drop at text
+module _ {S : Type 0} {steps : S → Option (ℕ × Bor (List ℕ)) → S → Type 0} {s : S} (text : List ℕ) (xs : List (ℕ × Bor (List ℕ))) (t : S) (y : Yields steps s xs t)
+    (r : Option (ℕ × Bor (List ℕ))) (u : S) (d : steps t r u) where
+  pub numbered-turn : (k : ℕ) (line : Bor (List ℕ)) → r ≡ Some (k, line)
+      → YieldsList {B = ℕ × List ℕ} steps (λ (p : ℕ × Bor (List ℕ)). (p.0, p.1.now)) s (enumerate_from 0 (parts text))
+      → (length xs < length (lines_of text)) × (k ≡ length xs) × (line.now ≡ get_or (lines_of text) (length xs) line.now)
+  numbered-turn k line e road =
+      let p = YieldsList-turn road xs t y r u (k, line) e d in
+      let q = numbered-at 0 (parts text) (length xs) k line.now p.0 p.1 in
+      let P : List (List ℕ) → Type 0 = λ ls. (length xs < length ls) × (k ≡ length xs) × (line.now ≡ get_or ls (length xs) line.now) in
+      subst P (sym (lines-split text)) (q.0, omega (arith, q.1), q.2)
 
-    next : drop (suc (line_length (drop at text))) (drop at text) ≡ drop (e + 1) text
-    next =
-        let z : at + suc (line_length (drop at text)) ≡ e + 1 = omega (arith, q) in
-        drop-drop (suc (line_length (drop at text))) at text ∙ ap (λ (n : ℕ). drop n text) z
+  pub numbered-end : r ≡ None → YieldsList {B = ℕ × List ℕ} steps (λ (p : ℕ × Bor (List ℕ)). (p.0, p.1.now)) s (enumerate_from 0 (parts text)) → length xs ≡ length (lines_of text)
+  numbered-end e road =
+      let p = YieldsList-end road xs t y r u e d in
+      p.1 ∙ numbered-length 0 (parts text) ∙ ap length (sym (lines-split text))
 
-    go : Dec (e + 1 ≤ length text) → behind (drop at text) (line_length (drop at text)) ≡ lines_left text (e + 1)
-    go (yes l) =
-        ap (λ (b : Bool). cond b (lines_of (drop (suc (line_length (drop at text))) (drop at text))) []) (lt-ltb (line_length (drop at text)) (length (drop at text)) (omega (arith, q, size)))
-        ∙ ap lines_of next
-        ∙ sym (ap (λ (b : Bool). cond b [] (lines_of (drop (e + 1) text))) (le-ltb (length text) (e + 1) l))
-    go (no u) =
-        ap (λ (b : Bool). cond b (lines_of (drop (suc (line_length (drop at text))) (drop at text))) []) (le-ltb (line_length (drop at text)) (length (drop at text)) (omega (arith, q, size)))
-        ∙ sym (ap (λ (b : Bool). cond b [] (lines_of (drop (e + 1) text))) (lt-ltb (length text) (e + 1) (omega arith)))
+-- ---- and with no numbers
 
-pub lines_none : (text : List ℕ) (at : ℕ) → length text < at → lines_left text at ≡ []
-lines_none text at h = ap (λ (b : Bool). cond b [] (lines_of (drop at text))) (lt-ltb (length text) at h)
+module _ {S : Type 0} {steps : S → Option (Bor (List ℕ)) → S → Type 0} {s : S} (text : List ℕ) (xs : List (Bor (List ℕ))) (t : S) (y : Yields steps s xs t)
+    (r : Option (Bor (List ℕ))) (u : S) (d : steps t r u) where
+  pub line-turn : (line : Bor (List ℕ)) → r ≡ Some line → YieldsList steps (λ (x : Bor (List ℕ)). x.now) s (parts text)
+      → (length xs < length (lines_of text)) × (line.now ≡ get_or (lines_of text) (length xs) line.now)
+  line-turn line e road =
+      let p = YieldsList-turn road xs t y r u line e d in
+      let P : List (List ℕ) → Type 0 = λ ls. (length xs < length ls) × (line.now ≡ get_or ls (length xs) line.now) in
+      subst P (sym (lines-split text)) p
+
+  pub line-end : r ≡ None → YieldsList steps (λ (x : Bor (List ℕ)). x.now) s (parts text) → length xs ≡ length (lines_of text)
+  line-end e road =
+      let p = YieldsList-end road xs t y r u e d in
+      p.1 ∙ ap length (sym (lines-split text))

@@ -6,7 +6,7 @@ use Prim.Native.Nat.{ℕ, ◌≤◌}
 use native.Mathlib.Omega.{arith}
 use lib.ListN.{length, drop}
 use Rattle.judge.specs.Judge.{unfit}
-use Rattle.text.specs.declared.Made.{Made}
+use Rattle.text.specs.Make.{Made}
 use Rattle.text.specs.Show.{shown_text}
 use Rattle.text.proofs.ReadLaws.{AllBytes}
 use Rattle.text.proofs.RoundTrip.{make-after-show}

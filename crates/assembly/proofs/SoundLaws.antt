@@ -19,8 +19,7 @@ use Rattle.spelling.specs.Words.{number}
 use Rattle.builders.specs.Field as builders
 use Rattle.builders.specs.Sums.{crosses}
 use Rattle.assembly.specs.declared.Word.{Word}
-use Rattle.assembly.specs.declared.Act.{Act}
-use Rattle.assembly.specs.declared.Act.TheVariants.{Nothing, Refused, Field, Limit, One, Sum, Search, Greatest}
+use Rattle.assembly.specs.Act.{Act, Nothing, Refused, Field, Limit, One, Sum, Search, Greatest}
 use Rattle.assembly.specs.Words.{word_from, part, value_of, same_characters}
 use Rattle.assembly.specs.Fields.{Named, named, known, span_of}
 use Rattle.assembly.specs.Acts.{named_by, over_by, limited, searches, ordered}

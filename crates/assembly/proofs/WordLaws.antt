@@ -1,122 +1,100 @@
--- Laws of the loops over the characters of a line: one character more. Assumes nothing.
-use mathlib.Core.Path.{◌≡◌, refl, sym, ap, ap₂, ◌∙◌}
-use mathlib.Core.Bool.{Bool, true, false, cond, ◌&&◌}
-use mathlib.Core.List.{List, [], ◌∷◌}
-use Prim.Native.Nat.{ℕ, suc, ◌+◌, ◌*◌, ◌<◌, ◌≤◌}
-use native.Mathlib.Numerals.{add-one}
-use native.Mathlib.Omega.{arith}
-use lib.Dec.{eqb}
-use lib.ListN.{length, get_or, drop, drop_of_length-le}
-use lib.Seq.{drop-cons}
-use borrow.Author.Tests.{eq-eqb, ne_eqb, lt-ltb, le-ltb}
+-- Laws of the characters of a line: what is counted, and what they make. Assumes nothing.
+use Rattle.std.proofs.Common.{◌≡◌, refl, sym, ap, ◌∙◌, Bool, true, false, cond, not, ◌&&◌, List, [], ◌∷◌, ℕ, ◌+◌, ◌*◌, ◌<◌, ◌≤◌, ◌-◌, eqb, ltb, length, get_or, take, take_all, drop, length-drop, drop-cons, add-one, Option, Some, None, arith}
+use lib.ListN.{drop_of_length-le}
+use lib.Pointwise.{pointwise}
+use borrow.Author.Tests.{le-ltb}
+use Rattle.std.specs.List.{position, position_or_len, fold}
+use Rattle.std.specs.Option.{unwrap_or, SomeIff}
+use Rattle.std.proofs.lemmas.List.Sums.{prefix_len-le-length}
+use Rattle.std.proofs.lemmas.Grind.{common_steps}
+use Rattle.std.proofs.lemmas.Bool.Decides.{nat_tests}
 use Rattle.spelling.specs.Words.{number, extended, extended_by}
 use Rattle.text.specs.Make.{blank}
-use Rattle.assembly.specs.declared.Value.{Value}
-use Rattle.assembly.specs.Words.{stops, blanks, letters, valued, with_digit, value_by, same_characters}
+use Rattle.assembly.specs.Words.{stops, blanks, letters, Value, valued, with_digit, value_by, value_of, same_characters}
+use Rattle.assembly.specs.Steps.{value_given}
 
--- what is left at place i
-pub drop_more : (l : List ℕ) (i : ℕ) → i < length l → drop i l ≡ get_or l i 0 ∷ drop (i + 1) l
-drop_more l i h = drop-cons l i 0 h ∙ ap (λ (n : ℕ). get_or l i 0 ∷ drop n l) (sym (add-one i))
+-- ---- what is counted in front
 
-pub drop-end : (l : List ℕ) (i : ℕ) → length l ≤ i → drop i l ≡ []
-drop-end l i h = drop_of_length-le l {i = i} h
+pub blanks-position : (l : List ℕ) → blanks l ≡ position_or_len (λ c. not (blank c)) l
+unfolding blanks
+blanks-position [] = refl
+blanks-position (c ∷ cs) = let h = blanks-position cs in grind (arith, common_steps)
 
--- ---- a search from place `at` on has come to place i
+pub letters-position : (l : List ℕ) → letters l ≡ position_or_len stops l
+unfolding letters
+letters-position [] = refl
+letters-position (c ∷ cs) = let h = letters-position cs in grind (arith, common_steps)
 
-module _ (l : List ℕ) (i total : ℕ) where
-  pub blanks-here : i < length l → blank (get_or l i 0) ≡ false → total ≡ i + blanks (drop i l) → i ≡ total
-  unfolding blanks
-  blanks-here h b e =
-      let z : blanks (drop i l) ≡ 0 = ap blanks (drop_more l i h) ∙ ap (λ (x : Bool). cond x (suc (blanks (drop (i + 1) l))) 0) b in
-      omega arith
+position-or : (n k : ℕ) → n ≤ k → unwrap_or (cond (ltb n k) (Some n) None) k ≡ n
+position-or n k h = grind (arith, nat_tests)
 
-  pub blanks-more : i < length l → blank (get_or l i 0) ≡ true → total ≡ i + blanks (drop i l) → total ≡ i + 1 + blanks (drop (i + 1) l)
-  unfolding blanks
-  blanks-more h b e =
-      let z : blanks (drop i l) ≡ suc (blanks (drop (i + 1) l)) = ap blanks (drop_more l i h) ∙ ap (λ (x : Bool). cond x (suc (blanks (drop (i + 1) l))) 0) b in
-      omega arith
-
-  pub blanks-end : length l ≤ i → total ≡ i + blanks (drop i l) → i ≡ total
-  unfolding blanks
-  blanks-end h e = omega (arith, ap blanks (drop-end l i h))
-
-  pub letters-here : i < length l → stops (get_or l i 0) ≡ true → total ≡ i + letters (drop i l) → i ≡ total
-  unfolding letters
-  letters-here h b e =
-      let z : letters (drop i l) ≡ 0 = ap letters (drop_more l i h) ∙ ap (λ (x : Bool). cond x 0 (suc (letters (drop (i + 1) l)))) b in
-      omega arith
-
-  pub letters-more : i < length l → stops (get_or l i 0) ≡ false → total ≡ i + letters (drop i l) → total ≡ i + 1 + letters (drop (i + 1) l)
-  unfolding letters
-  letters-more h b e =
-      let z : letters (drop i l) ≡ suc (letters (drop (i + 1) l)) = ap letters (drop_more l i h) ∙ ap (λ (x : Bool). cond x 0 (suc (letters (drop (i + 1) l)))) b in
-      omega arith
-
-  pub letters-end : length l ≤ i → total ≡ i + letters (drop i l) → i ≡ total
-  unfolding letters
-  letters-end h e = omega (arith, ap letters (drop-end l i h))
+-- the first place from `at` on where p holds, or the end
+pub first-place : (p : ℕ → Bool) (l : List ℕ) (at : ℕ) {o : Option ℕ} {r : ℕ} → at ≤ length l
+    → o ≡ position p (take (length l - at) (drop at l)) → r ≡ unwrap_or o (length (take (length l - at) (drop at l)))
+    → (at + r ≤ length l) × (r ≡ position_or_len p (drop at l))
+first-place p l at {o} {r} h e u =
+    let size = length-drop at l in
+    let whole : take (length l - at) (drop at l) ≡ drop at l = ap (λ (n : ℕ). take n (drop at l)) (sym size) ∙ take_all (length (drop at l)) (drop at l) (omega arith) in
+    let most = prefix_len-le-length (λ (x : ℕ). not (p x)) (drop at l) in
+    let is : r ≡ position_or_len p (drop at l) =
+    u
+    ∙ ap (λ (x : Option ℕ). unwrap_or x (length (take (length l - at) (drop at l)))) e
+    ∙ ap (λ (x : List ℕ). unwrap_or (position p x) (length x)) whole
+    ∙ position-or (position_or_len p (drop at l)) (length (drop at l)) most in
+    (omega (arith, is, most, size), is)
 
 -- ---- what characters make
 
-pub extend-more : (l : List ℕ) (i w : ℕ) → i < length l → extended_by w (drop i l) ≡ extended_by (extended w (get_or l i 0)) (drop (i + 1) l)
+pub extended-fold : (w : ℕ) (l : List ℕ) → extended_by w l ≡ fold extended w l
 unfolding extended_by
-extend-more l i w h = ap (extended_by w) (drop_more l i h)
-
-pub extend-end : (l : List ℕ) (i w : ℕ) → length l ≤ i → extended_by w (drop i l) ≡ w
-unfolding extended_by
-extend-end l i w h = ap (extended_by w) (drop-end l i h)
+extended-fold w [] = refl
+extended-fold w (c ∷ cs) = extended-fold (extended w c) cs
 
 pub value-more : (l : List ℕ) (i : ℕ) (v : Value) → i < length l → value_by v (drop i l) ≡ value_by (with_digit v (get_or l i 0)) (drop (i + 1) l)
 unfolding value_by
-value-more l i v h = ap (value_by v) (drop_more l i h)
+value-more l i v h = ap (value_by v) (drop-cons l i 0 h ∙ ap (λ (n : ℕ). get_or l i 0 ∷ drop n l) (sym (add-one i)))
 
 pub value-end : (l : List ℕ) (i : ℕ) (v : Value) → length l ≤ i → value_by v (drop i l) ≡ v
 unfolding value_by
-value-end l i v h = ap (value_by v) (drop-end l i h)
+value-end l i v h = ap (value_by v) (drop_of_length-le l {i = i} h)
+
+-- no digit more makes a number of none
+none-stays : (l : List ℕ) → value_by (valued false 0) l ≡ valued false 0
+unfolding value_by with_digit
+none-stays [] = refl
+none-stays (c ∷ cs) = none-stays cs
+
+pub value-none : (l : List ℕ) (i : ℕ) (v : Value) → i < length l → valued false 0 ≡ with_digit v (get_or l i 0) → value_by v (drop i l) ≡ valued false 0
+value-none l i v h e = value-more l i v h ∙ ap (λ (x : Value). value_by x (drop (i + 1) l)) (sym e) ∙ none-stays (drop (i + 1) l)
+
+pub value-short : (l : List ℕ) → length l ≤ 20 → value_by (valued true 0) l ≡ value_of l
+unfolding value_of
+value-short l h = sym (ap (λ (b : Bool). cond b (valued false 0) (value_by (valued true 0) l)) (le-ltb 20 (length l) h))
 
 -- ---- the same characters
 
-pub same-lengths : (a b : List ℕ) → (length a ≡ length b → ⊥) → same_characters a b ≡ false
+pub same-pointwise : (a b : List ℕ) → same_characters a b ≡ pointwise eqb a b
 unfolding same_characters
-same-lengths [] [] u = absurd (u refl)
-same-lengths [] (y ∷ b) u = refl
-same-lengths (x ∷ a) [] u = refl
-same-lengths (x ∷ a) (y ∷ b) u = go (eqb x y) (same-lengths a b (λ e. u (ap suc e)))
-  where
-    go : (t : Bool) → same_characters a b ≡ false → (t && same_characters a b) ≡ false
-    go true e = e
-    go false e = refl
-
-module _ (a b : List ℕ) (i : ℕ) where
-  same_step : i < length a → i < length b → same_characters (drop i a) (drop i b) ≡ (eqb (get_or a i 0) (get_or b i 0) && same_characters (drop (i + 1) a) (drop (i + 1) b))
-  unfolding same_characters
-  same_step h k = ap₂ same_characters (drop_more a i h) (drop_more b i k)
-
-  pub same_not : i < length a → i < length b → (get_or a i 0 ≡ get_or b i 0 → ⊥) → same_characters (drop i a) (drop i b) ≡ false
-  same_not h k u = same_step h k ∙ ap (λ (t : Bool). t && same_characters (drop (i + 1) a) (drop (i + 1) b)) (ne_eqb (get_or a i 0) (get_or b i 0) u)
-
-  pub same_more : i < length a → i < length b → get_or a i 0 ≡ get_or b i 0 → same_characters (drop i a) (drop i b) ≡ same_characters (drop (i + 1) a) (drop (i + 1) b)
-  same_more h k e = same_step h k ∙ ap (λ (t : Bool). t && same_characters (drop (i + 1) a) (drop (i + 1) b)) (eq-eqb (get_or a i 0) (get_or b i 0) e)
-
-  pub same_end : length a ≤ i → length b ≤ i → same_characters (drop i a) (drop i b) ≡ true
-  unfolding same_characters
-  same_end h k = ap₂ same_characters (drop-end a i h) (drop-end b i k)
+same-pointwise [] [] = refl
+same-pointwise [] (y ∷ b) = refl
+same-pointwise (x ∷ a) [] = refl
+same-pointwise (x ∷ a) (y ∷ b) = ap (λ (t : Bool). eqb x y && t) (same-pointwise a b)
 
 -- ---- one digit more, by what its tests say
 
-module _ (v : Value) (c : ℕ) where
-  pub digit-none : v.stands ≡ false → with_digit v c ≡ valued false 0
+module _ (v c : ℕ) where
+  pub digit-bad : 9 < number c → with_digit (valued true v) c ≡ valued false 0
   unfolding with_digit
-  digit-none s = simp s
+  digit-bad h = grind (arith, nat_tests)
 
-  pub digit-bad : v.stands ≡ true → 9 < number c → with_digit v c ≡ valued false 0
+  pub digit-large : number c ≤ 9 → 18446744073709551616 ≤ 10 * v + number c → with_digit (valued true v) c ≡ valued false 0
   unfolding with_digit
-  digit-bad s h = simp (s, le-ltb (number c) 10 h)
+  digit-large h l = grind (arith, nat_tests)
 
-  pub digit-large : v.stands ≡ true → number c ≤ 9 → 18446744073709551616 ≤ 10 * v.value + number c → with_digit v c ≡ valued false 0
+  pub digit-fits : number c ≤ 9 → 10 * v + number c < 18446744073709551616 → with_digit (valued true v) c ≡ valued true (10 * v + number c)
   unfolding with_digit
-  digit-large s h l = simp (s, lt-ltb (number c) 10 (omega arith), le-ltb (10 * v.value + number c) 18446744073709551616 l)
+  digit-fits h l = grind (arith, nat_tests)
 
-  pub digit-fits : v.stands ≡ true → number c ≤ 9 → 10 * v.value + number c < 18446744073709551616 → with_digit v c ≡ valued true (10 * v.value + number c)
-  unfolding with_digit
-  digit-fits s h l = simp (s, lt-ltb (number c) 10 (omega arith), lt-ltb (10 * v.value + number c) 18446744073709551616 l)
+  pub digit-added : {d f : ℕ} → d ≡ number c → d ≤ 9 → f ≡ v * 10 → (o : Option ℕ) → SomeIff o (f + d < 18446744073709551616) (f + d) → value_given o ≡ with_digit (valued true v) c
+  digit-added {d} {f} e h q None u = sym (digit-large (omega arith) (omega arith))
+  digit-added {d} {f} e h q (Some x) u = ap (valued true) (omega (arith, u.1)) ∙ sym (digit-fits (omega arith) (omega (arith, u.0)))

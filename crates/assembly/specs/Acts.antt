@@ -7,8 +7,7 @@ use Rattle.builders.specs.Lists.{encoded}
 use Rattle.builders.specs.Sums.{sum_list, difference_list}
 use Rattle.builders.specs.Searches.{search_list, number_items, greatest_list}
 use Rattle.reach.specs.Reach.{reach_of}
-use Rattle.assembly.specs.declared.Act.{Act}
-use Rattle.assembly.specs.declared.Act.TheVariants.{Nothing, Refused, Field, Limit, One, Sum, Search, Greatest}
+use Rattle.assembly.specs.Act.{Act, Nothing, Refused, Field, Limit, One, Sum, Search, Greatest}
 use Rattle.assembly.specs.Fields.{Named, named}
 
 -- The number of a refusal, and its column: 0 and 0 where there is none.

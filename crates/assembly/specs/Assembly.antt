@@ -3,8 +3,7 @@ use Rattle.std.specs.Prelude.{Bool, false, cond, ◌||◌, List, [], ◌∷◌, 
 use Rattle.registers.specs.declared.Modes.{Modes}
 use Rattle.registers.specs.Modes.{none_set}
 use Rattle.judge.specs.Kinds.{most_bytes}
-use Rattle.assembly.specs.declared.Act.{Act}
-use Rattle.assembly.specs.declared.Assembled.{Assembled}
+use Rattle.assembly.specs.Act.{Act}
 use Rattle.assembly.specs.Fields.{Named, named}
 use Rattle.assembly.specs.Acts.{number_of, column_of, list_of, items_of, named_by, limit_by, modes_by_act, taken_by_act}
 use Rattle.assembly.specs.Statements.{line_act}
@@ -69,6 +68,14 @@ abbrev pub made_items : List ℕ → List ℕ
 made_items text = (outcome_of text).state.items
 
 -- ---- the answer
+
+-- What assembling gives back, in the documents' numbers: 0 and the bytes of the list and of the items; or a number, with the line and the column of what is refused, counted from 1.
+pub record Assembled : Type 0 where
+  pub number : ℕ
+  pub line : ℕ
+  pub column : ℕ
+  pub list : ℕ
+  pub items : ℕ
 
 abbrev pub answer : ℕ → ℕ → ℕ → ℕ → ℕ → Assembled
 answer number row column list items = record { number = number; line = row; column = column; list = list; items = items }

@@ -1,5 +1,5 @@
 -- The fields named so far, and finding one by its name. docs/TEXT.md, "Fields by name, and the builders as statements".
-use Rattle.std.specs.Prelude.{Bool, List, ℕ, ltb, length, get_or}
+use Rattle.std.specs.Prelude.{Bool, List, map, ℕ, ltb, length, get_or, take}
 use Rattle.bits.specs.Search.{index_of}
 use Rattle.assembly.specs.declared.Span.{Span}
 
@@ -11,6 +11,11 @@ pub record Named : Type 0 where
 
 abbrev pub named : List ℕ → List ℕ → List ℕ → Named
 named ns ss ws = record { names = ns; starts = ss; widths = ws }
+
+-- The first `count` of a table of names and of one of spans.
+abbrev pub firsts : ℕ → List ℕ → List Span → Named
+firsts count names spans =
+    named (take count names) (map (λ (s : Span). s.start) (take count spans)) (map (λ (s : Span). s.width) (take count spans))
 
 -- A field has this name.
 abbrev pub known : Named → ℕ → Bool

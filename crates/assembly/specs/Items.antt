@@ -6,7 +6,7 @@ use Rattle.judge.specs.declared.Instruction.{Instruction}
 use Rattle.judge.specs.Instructions.{instruction_at, takes}
 use Rattle.builders.specs.Lists.{take_y, encoded}
 use Rattle.builders.specs.Searches.{search_list, number_items}
-use Rattle.assembly.specs.declared.Act.TheVariants.{One, Search}
+use Rattle.assembly.specs.Act.{One, Search}
 use Rattle.assembly.specs.Assembly.{lines_of, State, begin, act_of, folded, made_list, made_items, assembled_answer}
 
 -- How many items the instructions before instruction k of a list take: so the judge counts for 12, and so many has a run taken when it comes to instruction k (`ran-taken` of fields/proofs/ItemLaws).

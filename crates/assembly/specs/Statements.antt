@@ -12,10 +12,8 @@ use Rattle.builders.specs.Field.{wrong_width, beyond}
 use Rattle.builders.specs.Sums.{crosses}
 use Rattle.builders.specs.Searches.{too_large}
 use Rattle.assembly.specs.declared.Word.{Word}
-use Rattle.assembly.specs.declared.Value.{Value}
-use Rattle.assembly.specs.declared.Act.{Act}
-use Rattle.assembly.specs.declared.Act.TheVariants.{Nothing, Refused, Field, Limit, One, Sum, Search, Greatest}
-use Rattle.assembly.specs.Words.{part, word_from, value_of, same_characters}
+use Rattle.assembly.specs.Act.{Act, Nothing, Refused, Field, Limit, One, Sum, Search, Greatest}
+use Rattle.assembly.specs.Words.{part, word_from, Value, value_of, same_characters}
 use Rattle.assembly.specs.Fields.{Named, known, span_of}
 use Rattle.assembly.specs.Acts.{limited, ordered}
 

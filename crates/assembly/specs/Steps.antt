@@ -1,10 +1,21 @@
 -- What the loops carry and what inner functions ask for. Only contracts of inner functions cite this file: no promise to a user rests on it.
-use Rattle.std.specs.Prelude.{◌≡◌, false, cond, List, [], ◌∷◌, ℕ, suc, ◌^◌, ◌<◌, eqb, length}
+use Rattle.std.specs.Prelude.{Bool, true, Option, Some, None, ◌+◌, ◌≡◌, false, ℕ, ◌^◌, ◌<◌, length, Result, Ok, Err}
 use Rattle.builders.specs.Field as builders
 use Rattle.builders.specs.Sums.{crosses}
-use Rattle.assembly.specs.declared.Act.{Act}
-use Rattle.assembly.specs.declared.Act.TheVariants.{Nothing, Refused, Field, Limit, One, Sum, Search, Greatest}
-use Rattle.assembly.specs.declared.assembling.Measured.{Measured}
+use Rattle.assembly.specs.Act.{Act, Nothing, Refused, Field, Limit, One, Sum, Search, Greatest}
+use Rattle.bits.specs.declared.refusals.Refusal.{Refusal}
+use Rattle.bits.specs.Refusals.{number_of_refusal}
+use Rattle.builders.specs.declared.Sizes.{Sizes}
+use Rattle.text.specs.declared.Refused as text
+use Rattle.assembly.specs.declared.Adding.{Adding}
+use Rattle.assembly.specs.declared.Adding.TheVariants as adding
+use Rattle.assembly.specs.declared.Search.TheVariants as search
+use Rattle.assembly.specs.declared.Search as program
+use Rattle.assembly.specs.declared.Act as lines
+use Rattle.assembly.specs.declared.Act.TheVariants as act
+use Rattle.assembly.specs.declared.Word.{Word}
+use Rattle.assembly.specs.declared.Fault.{Fault}
+use Rattle.assembly.specs.Words.{Value, valued}
 use Rattle.assembly.specs.Assembly.{Outcome}
 
 -- A field that is named finds room behind the first `count`.
@@ -37,11 +48,42 @@ Buildable (Sum d a b s n) = Joined a b s n
 Buildable (Search l a n v) = builders.Field a n × (v < 2 ^ n)
 Buildable (Greatest a n) = builders.Field a n
 
--- How many characters stand before the first line feed.
-unfoldable pub line_length : List ℕ → ℕ
-line_length [] = 0
-line_length (c ∷ cs) = cond (eqb c 10) 0 (suc (line_length cs))
+-- What the first walk over a text gives, by the text's outcome: the lengths of the list and of the items, or the first refusal.
+abbrev pub Measures : Outcome → Result Sizes text.Refused → Type 0
+Measures o (Ok s) = (o.number ≡ 0) × (s.list ≡ length o.state.list) × (s.items ≡ length o.state.items)
+Measures o (Err r) = (o.number ≡ number_of_refusal r.why) × (o.line ≡ r.line) × (o.column ≡ r.column)
 
--- What the first walk over a text gives: the outcome, with the lengths alone of the list and of the items.
-abbrev pub measured : Outcome → Measured
-measured o = record { number = o.number; line = o.line; column = o.column; list = length o.state.list; items = length o.state.items }
+-- ---- what the program's types say, as these definitions do
+
+abbrev pub is_difference : Adding → Bool
+is_difference adding.Sum = false
+is_difference adding.Difference = true
+
+abbrev pub is_less : program.Search → Bool
+is_less search.Equal = false
+is_less search.Less = true
+
+-- What a line makes that is not refused.
+abbrev pub made : lines.Act → Act
+made act.Nothing = Nothing
+made (act.Field name span) = Field name span.start span.width
+made (act.Limit n) = Limit n
+made (act.One i) = One i
+made (act.Sum d a b s) = Sum (is_difference d) a.start b s a.width
+made (act.Search l a v) = Search (is_less l) a.start a.width v
+made (act.Greatest a) = Greatest a.start a.width
+
+-- What a line gives.
+abbrev pub act_given : Result lines.Act Fault → Act
+act_given (Ok act) = made act
+act_given (Err fault) = Refused (number_of_refusal fault.why) fault.column
+
+-- What is judged of a word, with the column of its first character where it is refused.
+abbrev pub judged : {A : Type 0} → Word → Result A Refusal → Result A Fault
+judged w (Ok x) = Ok x
+judged w (Err r) = Err (record { why = r; column = w.start + 1 })
+
+-- A number in decimal, or none.
+abbrev pub value_given : Option ℕ → Value
+value_given (Some n) = valued true n
+value_given None = valued false 0

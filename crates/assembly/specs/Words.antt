@@ -3,7 +3,6 @@ use Rattle.std.specs.Prelude.{Bool, true, false, cond, ◌&&◌, ◌||◌, List,
 use Rattle.spelling.specs.Words.{number, extended_by}
 use Rattle.text.specs.Make.{blank}
 use Rattle.assembly.specs.declared.Word.{Word}
-use Rattle.assembly.specs.declared.Value.{Value}
 
 -- "Blanks, tabs and carriage returns stand between words, and anything else is part of a word"; "`;` begins a comment, anywhere, also right behind a word".
 abbrev pub stops : ℕ → Bool
@@ -30,6 +29,11 @@ word_from line at =
     record { start = start; next = next; word = extended_by 0 (part line start next) }
 
 -- ---- numbers
+
+-- A number, if there is one: else 0.
+pub record Value : Type 0 where
+  pub stands : Bool
+  pub value : ℕ
 
 abbrev pub valued : Bool → ℕ → Value
 valued b n = record { stands = b; value = n }

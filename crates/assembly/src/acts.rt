@@ -1,5 +1,5 @@
 // What a line makes, and what that brings. docs/TEXT.md, "Fields by name, and the builders as statements", "A limit".
-ghost use Rattle.std.specs.Prelude.{◌≡◌, cond, ◌&&◌, ◌||◌, ◌∷◌, [], ◌+◌, ◌*◌, ◌^◌, ◌<◌, ◌≤◌, ltb, length, take};
+ghost use Rattle.std.specs.Prelude.{◌≡◌, cond, ◌&&◌, not, eqb, ◌||◌, ◌∷◌, [], ◌+◌, ◌*◌, ◌^◌, ◌<◌, ◌≤◌, ltb, length};
 ghost use Rattle.builders.specs.Field.{Field};
 ghost use Rattle.bits.specs.Steps.{put_at};
 ghost use Rattle.judge.specs.Instructions.{stores};
@@ -7,12 +7,11 @@ ghost use Rattle.judge.specs.Modes.{modes_by, mode_of, unset};
 ghost use Rattle.reach.specs.Reach.{reach_of};
 ghost use Rattle.builders.specs.Lists.{encoded};
 ghost use Rattle.builders.specs.Searches.{search_list, number_items, greatest_list};
-ghost use Rattle.assembly.specs.Acts.{number_of, column_of, fields_list, list_of, items_of, named_by, limit_by, modes_by_act, taken_by_act, over_by, limited, searches, ordered};
-ghost use Rattle.assembly.specs.Fields.{named};
-ghost use Rattle.assembly.specs.Steps.{Room, Joined, Buildable};
+ghost use Rattle.assembly.specs.Acts.{fields_list, list_of, items_of, named_by, limit_by, modes_by_act, taken_by_act, over_by, searches};
+ghost use Rattle.assembly.specs.Steps.{Room, Joined, Buildable, is_difference, is_less, made};
 
-use crate::Act;
-use crate::fields::push;
+use crate::fields::Fields;
+use crate::{Act, Adding, Search, Span};
 use builders::searches::{equal_list, greatest_list, less_list};
 use builders::sums::{difference_list, sum_list};
 use judge::Instruction;
@@ -21,50 +20,13 @@ use judge::rows::{stores, takes};
 use reach::reach_of;
 use registers::Modes;
 
-// The number of a refusal, and its column.
-pub fn number_of(act: Act) -> u8
-    ensures { result ≡ number_of act }
-{
-    match act {
-        Act::Nothing => 0,
-        Act::Refused(n, _) => n,
-        Act::Field(_, _, _) => 0,
-        Act::Limit(_) => 0,
-        Act::One(_) => 0,
-        Act::Sum(_, _, _, _, _) => 0,
-        Act::Search(_, _, _, _) => 0,
-        Act::Greatest(_, _) => 0,
-    }
-}
-
-pub fn column_of(act: Act) -> usize
-    ensures { result ≡ column_of act }
-{
-    match act {
-        Act::Nothing => 0,
-        Act::Refused(_, k) => k,
-        Act::Field(_, _, _) => 0,
-        Act::Limit(_) => 0,
-        Act::One(_) => 0,
-        Act::Sum(_, _, _, _, _) => 0,
-        Act::Search(_, _, _, _) => 0,
-        Act::Greatest(_, _) => 0,
-    }
-}
-
 // The limit behind it.
 pub fn limit_by(act: Act, limit: usize) -> usize
-    ensures { result ≡ limit_by act limit }
+    ensures { result ≡ limit_by (made act) limit }
 {
     match act {
-        Act::Nothing => limit,
-        Act::Refused(_, _) => limit,
-        Act::Field(_, _, _) => limit,
         Act::Limit(n) => n,
-        Act::One(_) => limit,
-        Act::Sum(_, _, _, _, _) => limit,
-        Act::Search(_, _, _, _) => limit,
-        Act::Greatest(_, _) => limit,
+        _ => limit,
     }
 }
 
@@ -72,38 +34,25 @@ pub fn limit_by(act: Act, limit: usize) -> usize
 fn modes_after(i: Instruction, m: Modes) -> Modes
     ensures { result ≡ modes_by i m }
 {
-    let settled = settle(i, m);
-    settled.modes
+    settle(i, m).modes
 }
 
 pub fn modes_by(act: Act, m: Modes) -> Modes
-    ensures { result ≡ modes_by_act act m }
+    ensures { result ≡ modes_by_act (made act) m }
 {
     match act {
-        Act::Nothing => m,
-        Act::Refused(_, _) => m,
-        Act::Field(_, _, _) => m,
-        Act::Limit(_) => m,
         Act::One(i) => modes_after(i, m),
-        Act::Sum(_, _, _, _, _) => m,
-        Act::Search(_, _, _, _) => m,
-        Act::Greatest(_, _) => m,
+        _ => m,
     }
 }
 
 // Does an instruction take an item from outside, so far?
 pub fn taken_by(act: Act, taken: bool) -> bool
-    ensures { result ≡ taken_by_act act taken }
+    ensures { result ≡ taken_by_act (made act) taken }
 {
     match act {
-        Act::Nothing => taken,
-        Act::Refused(_, _) => taken,
-        Act::Field(_, _, _) => taken,
-        Act::Limit(_) => taken,
         Act::One(i) => taken | takes(i),
-        Act::Sum(_, _, _, _, _) => taken,
-        Act::Search(_, _, _, _) => taken,
-        Act::Greatest(_, _) => taken,
+        _ => taken,
     }
 }
 
@@ -116,204 +65,142 @@ fn over_one(limit: usize, m: Modes, i: Instruction) -> bool
 }
 
 fn over_by(limit: usize, m: Modes, act: Act) -> bool
-    ensures { result ≡ over_by limit m act }
+    ensures { result ≡ over_by limit m (made act) }
 {
     match act {
-        Act::Nothing => false,
-        Act::Refused(_, _) => false,
-        Act::Field(_, _, _) => false,
-        Act::Limit(_) => false,
         Act::One(i) => over_one(limit, m, i),
-        Act::Sum(_, _, _, _, _) => limit < 256,
-        Act::Search(_, _, _, _) => false,
-        Act::Greatest(_, _) => false,
+        Act::Sum(..) => limit < 256,
+        _ => false,
     }
 }
 
-// Refused with 75 where it stores beyond the limit.
-pub fn limited(limit: usize, m: Modes, start: usize, act: Act) -> Act
-    requires { start ≤ 1048576 }
-    ensures { result ≡ limited limit m start act }
+// Is there a limit, and does it store beyond it?
+pub fn over_limit(limit: usize, m: Modes, act: Act) -> bool
+    ensures { result ≡ (not (eqb limit 0) && over_by limit m (made act)) }
 {
-    if !(limit == 0) & over_by(limit, m, act) {
-        return Act::Refused(75, start + 1);
-    }
-    act
+    !(limit == 0) & over_by(limit, m, act)
 }
 
 // Is it `equal` or `less`?
 fn searches(act: Act) -> bool
-    ensures { result ≡ searches act }
+    ensures { result ≡ searches (made act) }
 {
     match act {
-        Act::Nothing => false,
-        Act::Refused(_, _) => false,
-        Act::Field(_, _, _) => false,
-        Act::Limit(_) => false,
-        Act::One(_) => false,
-        Act::Sum(_, _, _, _, _) => false,
-        Act::Search(_, _, _, _) => true,
-        Act::Greatest(_, _) => false,
+        Act::Search(..) => true,
+        _ => false,
     }
 }
 
-// Refused with 77 where another would take the first of its items.
-pub fn ordered(taken: bool, start: usize, act: Act) -> Act
-    requires { start ≤ 1048576 }
-    ensures { result ≡ ordered taken start act }
+// Would an instruction above it take the first of its items?
+pub fn out_of_step(taken: bool, act: Act) -> bool
+    ensures { result ≡ (searches (made act) && taken) }
 {
-    if searches(act) & taken {
-        return Act::Refused(77, start + 1);
-    }
-    act
+    searches(act) & taken
 }
 
-// The bytes of each statement's list, and of its items: the builders' own lengths.
-fn sum_size(difference: bool, n: u8) -> usize
-    ensures { (result ≤ 22456) × (result ≡ 8 * (cond difference 2 1 + 5 * n)) }
+// The bytes of each statement's list, and of its items: the builders' own lengths, which no contract of a public function of theirs gives.
+// `as`, here and below: it widens a u8, and `usize::from` (tried) leaves four answers to be written anew, with a call's clause in each, for the same words.
+fn sum_size(adding: Adding, n: u8) -> usize
+    ensures { (result ≤ 22456) × (result ≡ 8 * (cond (is_difference adding) 2 1 + 5 * n)) }
 {
-    if difference {
-        return 8 * (2 + 5 * n as usize);
-    }
-    8 * (1 + 5 * n as usize)
-}
-
-fn search_size(n: u8) -> usize
-    ensures { (result ≤ 22456) × (result ≡ 8 * (2 + 3 * n)) }
-{
-    8 * (2 + 3 * n as usize)
-}
-
-fn number_size(n: u8) -> usize
-    ensures { (result ≤ 8160) × (result ≡ 32 * n) }
-{
-    32 * n as usize
-}
-
-fn greatest_size(n: u8) -> usize
-    ensures { (result ≤ 22456) × (result ≡ 8 * (1 + 11 * n)) }
-{
-    8 * (1 + 11 * n as usize)
+    let lead = match adding {
+        Adding::Sum => 1,
+        Adding::Difference => 2,
+    };
+    8 * (lead + 5 * n as usize)
 }
 
 pub fn list_size(act: Act) -> usize
-    ensures { (result ≤ 22456) × (result ≡ length (list_of act)) }
+    ensures { (result ≤ 22456) × (result ≡ length (list_of (made act))) }
 {
     match act {
-        Act::Nothing => 0,
-        Act::Refused(_, _) => 0,
-        Act::Field(_, _, _) => 0,
-        Act::Limit(_) => 0,
         Act::One(_) => 8,
-        Act::Sum(d, _, _, _, n) => sum_size(d, n),
-        Act::Search(_, _, n, _) => search_size(n),
-        Act::Greatest(_, n) => greatest_size(n),
+        Act::Sum(adding, a, _, _) => sum_size(adding, a.width),
+        Act::Search(_, a, _) => 8 * (2 + 3 * a.width as usize),
+        Act::Greatest(a) => 8 * (1 + 11 * a.width as usize),
+        _ => 0,
     }
 }
 
 pub fn items_size(act: Act) -> usize
-    ensures { (result ≤ 8160) × (result ≡ length (items_of act)) }
+    ensures { (result ≤ 8160) × (result ≡ length (items_of (made act))) }
 {
     match act {
-        Act::Nothing => 0,
-        Act::Refused(_, _) => 0,
-        Act::Field(_, _, _) => 0,
-        Act::Limit(_) => 0,
-        Act::One(_) => 0,
-        Act::Sum(_, _, _, _, _) => 0,
-        Act::Search(_, _, n, _) => number_size(n),
-        Act::Greatest(_, _) => 0,
+        Act::Search(_, a, _) => 32 * a.width as usize,
+        _ => 0,
     }
 }
 
-// The field that it names, if it does, behind the first `count`; and how many there are then.
-pub fn put_name(
-    act: Act,
-    names: &mut [u64],
-    starts: &mut [u8],
-    widths: &mut [u8],
-    count: usize,
-) -> usize
-    requires { Room count act × (length names.old ≡ 256) × (length starts.old ≡ 256) × (length widths.old ≡ 256) × (count ≤ 256) }
-    ensures { (result ≤ 256) × (named (take result names.new) (take result starts.new) (take result widths.new)
-        ≡ named_by act (named (take count names.old) (take count starts.old) (take count widths.old))) }
+// The field that it names, if it does, behind those that are named.
+pub fn put_name(act: Act, fields: &mut Fields)
+    requires { Room (length fields.old.names) (made act) }
+    ensures { fields.new ≡ named_by (made act) fields.old }
 {
-    match act {
-        Act::Nothing => count,
-        Act::Refused(_, _) => count,
-        Act::Field(w, a, n) => push(names, starts, widths, count, w, a, n),
-        Act::Limit(_) => count,
-        Act::One(_) => count,
-        Act::Sum(_, _, _, _, _) => count,
-        Act::Search(_, _, _, _) => count,
-        Act::Greatest(_, _) => count,
+    if let Act::Field(name, span) = act {
+        fields.push(name, span);
     }
 }
 
-// ---- the list and the items, into buffers of just their lengths; and how many bytes of the list
+// ---- the list and the items, into buffers of just their lengths
 
-fn put_one(i: Instruction, list: &mut [u8]) -> usize
+fn put_one(i: Instruction, list: &mut [u8])
     requires { length list.old ≡ 8 }
     ensures { list.new ≡ encoded (i ∷ []) }
 {
     builders::writing::put(list, 0, i);
-    list.len()
 }
 
-fn put_sum(difference: bool, a: u8, b: u8, s: u8, n: u8, list: &mut [u8]) -> usize
-    requires { Joined a b s n × (length list.old ≡ length (fields_list difference a b s n)) }
-    ensures { list.new ≡ fields_list difference a b s n }
+// What the builder answers is left, here and below: the clauses say that it refuses nothing, and each of the three is called with its own statement's parts.
+fn put_sum(adding: Adding, a: Span, b: u8, s: u8, list: &mut [u8])
+    requires { Joined a.start b s a.width × (length list.old ≡ length (fields_list (is_difference adding) a.start b s a.width)) }
+    ensures { list.new ≡ fields_list (is_difference adding) a.start b s a.width }
 {
-    if difference {
-        let built = difference_list(a as u32, b as u32, s as u32, n as u32, list);
-        return built.count;
-    }
-    let built = sum_list(a as u32, b as u32, s as u32, n as u32, list);
-    built.count
+    let n = a.width as u32;
+    let _built = match adding {
+        Adding::Sum => sum_list(a.start as u32, b as u32, s as u32, n, list),
+        Adding::Difference => difference_list(a.start as u32, b as u32, s as u32, n, list),
+    };
 }
 
-fn put_search(less: bool, a: u8, n: u8, v: u64, list: &mut [u8], items: &mut [u8]) -> usize
-    requires { Field a n × (v < 2 ^ n) × (length list.old ≡ length (encoded (search_list less a n))) × (length items.old ≡ length (number_items v n)) }
-    ensures { (list.new ≡ encoded (search_list less a n)) × (items.new ≡ number_items v n) }
+fn put_search(search: Search, a: Span, v: u64, list: &mut [u8], items: &mut [u8])
+    requires { Field a.start a.width × (v < 2 ^ a.width) × (length list.old ≡ length (encoded (search_list (is_less search) a.start a.width))) × (length items.old ≡ length (number_items v a.width)) }
+    ensures { (list.new ≡ encoded (search_list (is_less search) a.start a.width)) × (items.new ≡ number_items v a.width) }
 {
-    if less {
-        let built = less_list(a as u32, n as u32, v, list, items);
-        return built.list;
-    }
-    let built = equal_list(a as u32, n as u32, v, list, items);
-    built.list
+    let n = a.width as u32;
+    let _built = match search {
+        Search::Equal => equal_list(a.start as u32, n, v, list, items),
+        Search::Less => less_list(a.start as u32, n, v, list, items),
+    };
 }
 
-fn put_greatest(a: u8, n: u8, list: &mut [u8]) -> usize
-    requires { Field a n × (length list.old ≡ length (encoded (greatest_list a n))) }
-    ensures { list.new ≡ encoded (greatest_list a n) }
+fn put_greatest(a: Span, list: &mut [u8])
+    requires { Field a.start a.width × (length list.old ≡ length (encoded (greatest_list a.start a.width))) }
+    ensures { list.new ≡ encoded (greatest_list a.start a.width) }
 {
-    let built = greatest_list(a as u32, n as u32, list);
-    built.count
+    let _built = greatest_list(a.start as u32, a.width as u32, list);
 }
 
-fn build(act: Act, list: &mut [u8], items: &mut [u8]) -> usize
-    requires { Buildable act × (length list.old ≡ length (list_of act)) × (length items.old ≡ length (items_of act)) }
-    ensures { (list.new ≡ list_of act) × (items.new ≡ items_of act) }
+fn build(act: Act, list: &mut [u8], items: &mut [u8])
+    requires { Buildable (made act) × (length list.old ≡ length (list_of (made act))) × (length items.old ≡ length (items_of (made act))) }
+    ensures { (list.new ≡ list_of (made act)) × (items.new ≡ items_of (made act)) }
 {
     match act {
-        Act::Nothing => 0,
-        Act::Refused(_, _) => 0,
-        Act::Field(_, _, _) => 0,
-        Act::Limit(_) => 0,
         Act::One(i) => put_one(i, list),
-        Act::Sum(d, a, b, s, n) => put_sum(d, a, b, s, n, list),
-        Act::Search(l, a, n, v) => put_search(l, a, n, v, list, items),
-        Act::Greatest(a, n) => put_greatest(a, n, list),
+        Act::Sum(adding, a, b, s) => put_sum(adding, a, b, s, list),
+        Act::Search(search, a, v) => put_search(search, a, v, list, items),
+        Act::Greatest(a) => put_greatest(a, list),
+        _ => {}
     }
 }
 
 // The list from index `at` of its buffer on, and the items from `item` on.
-pub fn place(act: Act, list: &mut [u8], at: usize, items: &mut [u8], item: usize) -> usize
-    requires { Buildable act × (at + length (list_of act) ≤ length list.old) × (item + length (items_of act) ≤ length items.old) }
-    ensures { (list.new ≡ put_at at (list_of act) list.old) × (items.new ≡ put_at item (items_of act) items.old) }
+// Both indices are Standing's counts, as the definitions carry them; a writer for each would hold the same.
+#[inline(never)]
+pub fn place(act: Act, list: &mut [u8], at: usize, items: &mut [u8], item: usize)
+    requires { Buildable (made act) × (at + length (list_of (made act)) ≤ length list.old) × (item + length (items_of (made act)) ≤ length items.old) }
+    ensures { (list.new ≡ put_at at (list_of (made act)) list.old) × (items.new ≡ put_at item (items_of (made act)) items.old) }
 {
     let end = at + list_size(act);
     let last = item + items_size(act);
-    build(act, &mut list[at..end], &mut items[item..last])
+    build(act, &mut list[at..end], &mut items[item..last]);
 }

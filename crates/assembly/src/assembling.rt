@@ -1,25 +1,24 @@
 // A whole text: its lines in turn, once to measure and to judge, and once to write. docs/TEXT.md, "Words, lines and comments"; Refusals.
-ghost use Rattle.std.specs.Prelude.{◌≡◌, false, ◌+◌, ◌≤◌, length, take, drop};
+ghost use Rattle.std.specs.Prelude.{◌≡◌, false, [], ◌+◌, ◌≤◌, length};
 ghost use Rattle.bits.specs.Steps.{put_at};
 ghost use Rattle.registers.specs.Modes.{none_set};
-ghost use Rattle.assembly.specs.Words.{part};
 ghost use Rattle.assembly.specs.Fields.{named};
-ghost use Rattle.assembly.specs.Statements.{line_act};
 ghost use Rattle.assembly.specs.Acts.{limit_by, modes_by_act, taken_by_act, list_of, items_of};
 ghost use Rattle.assembly.specs.Assembly.{outcome_of, made_list, made_items};
-ghost use Rattle.assembly.specs.Steps.{line_length, measured};
+ghost use Rattle.assembly.specs.Steps.{Measures, made};
 
 use crate::Act;
-use crate::acts::{
-    column_of, items_size, limit_by, list_size, modes_by, number_of, place, put_name, taken_by,
-};
+use crate::acts::{items_size, limit_by, list_size, modes_by, place, put_name, taken_by};
+use crate::fields::Fields;
 use crate::statements::line_act;
+use builders::Sizes;
 use registers::{ModeRegister, Modes};
+use text::Refused;
 
-// What stands behind the lines so far: how many fields, the limit (0: none), the mode registers, whether an instruction takes an item from outside, and the bytes of the list and of the items.
+// What stands behind the lines so far, beside the fields: the limit (0: none), the mode registers, whether an instruction takes an item from outside, and the bytes of the list and of the items.
+// No limit is 0 and no Option, as in the definitions (`over_by`, `limit_by`).
 #[derive(Clone, Copy)]
 pub struct Standing {
-    pub count: usize,
     pub limit: usize,
     pub modes: Modes,
     pub taken: bool,
@@ -27,166 +26,84 @@ pub struct Standing {
     pub items: usize,
 }
 
-// The first walk's outcome: the first refusal, or 0; and the bytes of the list and of the items up to there.
-#[derive(Clone, Copy)]
-pub struct Measured {
-    pub number: u8,
-    pub line: usize,
-    pub column: usize,
-    pub list: usize,
-    pub items: usize,
-}
-
-// Where the line that begins at `at` ends.
-fn line_end(text: &[u8], at: usize) -> usize
-    requires { at ≤ length text.now }
-    ensures { (at ≤ result) × (result ≤ length text.now) × (result ≡ at + line_length (drop at text.now)) }
-{
-    let mut i = at;
-    while i < text.len() {
-        if text[i] == 10 {
-            return i;
-        }
-        i += 1;
-    }
-    i
-}
-
 // Before the first line.
+// The registers are a literal here, as in text, whose `none_set` is private.
 fn begin() -> Standing
-    ensures { result ≡ record { count = 0; limit = 0; modes = none_set; taken = false; list = 0; items = 0 } }
+    ensures { result ≡ record { limit = 0; modes = none_set; taken = false; list = 0; items = 0 } }
 {
     let register = ModeRegister { set: 0, mode: 0 };
-    let modes = Modes {
-        a: register,
-        b: register,
-    };
     Standing {
-        count: 0,
         limit: 0,
-        modes: modes,
+        modes: Modes {
+            a: register,
+            b: register,
+        },
         taken: false,
         list: 0,
         items: 0,
     }
 }
 
-// Behind a line that makes `act`, where there are `count` fields then.
-fn advance(s: Standing, act: Act, count: usize) -> Standing
+// Behind a line that makes `act`.
+fn advance(s: Standing, act: Act) -> Standing
     requires { (s.list ≤ 281474976710656) × (s.items ≤ 281474976710656) }
     ensures { (result.list ≤ s.list + 22456) × (result.items ≤ s.items + 8160)
         × (result ≡ record {
-          count = count;
-          limit = limit_by act s.limit;
-          modes = modes_by_act act s.modes;
-          taken = taken_by_act act s.taken;
-          list = s.list + length (list_of act);
-          items = s.items + length (items_of act);
+          limit = limit_by (made act) s.limit;
+          modes = modes_by_act (made act) s.modes;
+          taken = taken_by_act (made act) s.taken;
+          list = s.list + length (list_of (made act));
+          items = s.items + length (items_of (made act));
         }) }
 {
-    let modes = modes_by(act, s.modes);
     Standing {
-        count: count,
         limit: limit_by(act, s.limit),
-        modes: modes,
+        modes: modes_by(act, s.modes),
         taken: taken_by(act, s.taken),
         list: s.list + list_size(act),
         items: s.items + items_size(act),
     }
 }
 
-// What the line from `at` to `end` makes.
-fn next_act(
-    text: &[u8],
-    at: usize,
-    end: usize,
-    names: &[u64],
-    starts: &[u8],
-    widths: &[u8],
-    s: Standing,
-) -> Act
-    requires { (at ≤ end) × (end ≤ length text.now) × (length text.now ≤ 1048576)
-        × (s.count ≤ length names.now) × (s.count ≤ length starts.now) × (s.count ≤ length widths.now) }
-    ensures { result ≡ line_act
-        (named (take s.count names.now) (take s.count starts.now) (take s.count widths.now))
-        s.limit s.modes s.taken (part text.now at end) }
-{
-    let count = s.count;
-    let modes = s.modes;
-    line_act(
-        &names[..count],
-        &starts[..count],
-        &widths[..count],
-        s.limit,
-        modes,
-        s.taken,
-        &text[at..end],
-    )
-}
-
-// The first walk.
-pub(crate) fn measure(
-    text: &[u8],
-    names: &mut [u64],
-    starts: &mut [u8],
-    widths: &mut [u8],
-) -> Measured
-    requires { (length text.now ≤ 1048576) × (length names.old ≡ 256) × (length starts.old ≡ 256) × (length widths.old ≡ 256) }
-    ensures { result ≡ measured (outcome_of text.now) }
+// The first walk: the bytes of the list and of the items, or the first refusal.
+pub(crate) fn measure(text: &[u8], fields: &mut Fields) -> Result<Sizes, Refused>
+    requires { (length text.now ≤ 1048576) × (fields.old ≡ named [] [] []) }
+    ensures { Measures (outcome_of text.now) result }
 {
     let mut s = begin();
-    let mut at: usize = 0;
-    let mut n: usize = 1;
-    while at <= text.len() {
-        let end = line_end(text, at);
-        let act = next_act(text, at, end, names, starts, widths, s);
-        let number = number_of(act);
-        if number != 0 {
-            return Measured {
-                number: number,
-                line: n,
-                column: column_of(act),
-                list: s.list,
-                items: s.items,
-            };
-        }
-        let count = put_name(act, names, starts, widths, s.count);
-        s = advance(s, act, count);
-        at = end + 1;
-        n += 1;
+    for (k, line) in text.split(|c| *c == b'\n').enumerate() {
+        let act = match line_act(fields, s.limit, s.modes, s.taken, line) {
+            Ok(act) => act,
+            Err(fault) => {
+                return Err(Refused {
+                    why: fault.why,
+                    line: k + 1,
+                    column: fault.column,
+                });
+            }
+        };
+        put_name(act, fields);
+        s = advance(s, act);
     }
-    Measured {
-        number: 0,
-        line: 0,
-        column: 0,
+    Ok(Sizes {
         list: s.list,
         items: s.items,
-    }
+    })
 }
 
 // The second walk: the list and the items, at the fronts of their buffers. No line is refused, and there is room.
-pub(crate) fn write(
-    text: &[u8],
-    names: &mut [u64],
-    starts: &mut [u8],
-    widths: &mut [u8],
-    list: &mut [u8],
-    items: &mut [u8],
-) -> usize
-    requires { (length text.now ≤ 1048576) × (length names.old ≡ 256) × (length starts.old ≡ 256) × (length widths.old ≡ 256)
-        × ((outcome_of text.now).number ≡ 0) × (length (made_list text.now) ≤ length list.old) × (length (made_items text.now) ≤ length items.old) }
+pub(crate) fn write(text: &[u8], fields: &mut Fields, list: &mut [u8], items: &mut [u8])
+    requires { (length text.now ≤ 1048576) × (fields.old ≡ named [] [] []) × ((outcome_of text.now).number ≡ 0)
+        × (length (made_list text.now) ≤ length list.old) × (length (made_items text.now) ≤ length items.old) }
     ensures { (list.new ≡ put_at 0 (made_list text.now) list.old)
         × (items.new ≡ put_at 0 (made_items text.now) items.old) }
 {
     let mut s = begin();
-    let mut at: usize = 0;
-    while at <= text.len() {
-        let end = line_end(text, at);
-        let act = next_act(text, at, end, names, starts, widths, s);
-        place(act, list, s.list, items, s.items);
-        let count = put_name(act, names, starts, widths, s.count);
-        s = advance(s, act, count);
-        at = end + 1;
+    for line in text.split(|c| *c == b'\n') {
+        if let Ok(act) = line_act(fields, s.limit, s.modes, s.taken, line) {
+            place(act, list, s.list, items, s.items);
+            put_name(act, fields);
+            s = advance(s, act);
+        }
     }
-    s.list
 }

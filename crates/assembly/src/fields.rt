@@ -1,56 +1,70 @@
 // The fields named so far: finding one by its name, and one more. docs/TEXT.md, "Fields by name, and the builders as statements".
-ghost use Rattle.std.specs.Prelude.{◌≡◌, ◌+◌, ◌<◌, [], ◌∷◌, ◌++◌, ltb, length, get_or, take};
-ghost use Rattle.bits.specs.Search.{index_of};
-ghost use Rattle.assembly.specs.Fields.{named, span_of};
+ghost use Rattle.std.specs.Prelude.{◌≡◌, ◌<◌, [], ◌∷◌, ◌++◌, length, cond, Some, None};
+ghost use Rattle.assembly.specs.Fields.{named, known, span_of};
 
 use crate::Span;
+use std::marker::Model;
 
-// Has a field this name?
-pub fn known(names: &[u64], w: u64) -> bool
-    ensures { result ≡ ltb (index_of w names.now) (length names.now) }
-{
-    spelling::find(names, w) < names.len()
-}
-
-// Byte `k`, or 0 behind the end.
-fn byte_at(bytes: &[u8], k: usize) -> u8
-    ensures { result ≡ get_or bytes.now k 0 }
-{
-    if k < bytes.len() {
-        return bytes[k];
-    }
-    0
-}
-
-// The start and the width of the field with this name.
-pub fn span_of(names: &[u64], starts: &[u8], widths: &[u8], w: u64) -> Span
-    ensures { result ≡ span_of (named names.now starts.now widths.now) w }
-{
-    let k = spelling::find(names, w);
-    Span {
-        start: byte_at(starts, k),
-        width: byte_at(widths, k),
-    }
-}
-
-// One field behind the first `count`.
-pub fn push(
-    names: &mut [u64],
-    starts: &mut [u8],
-    widths: &mut [u8],
+// At most 256 fields, in the order of the text. Names and spans stand apart: together they would take 16 bytes a field, and the stack that the C header gives assembling is less than that.
+#[derive(Drop)]
+pub(crate) struct Fields {
+    names: [u64; 256],
+    spans: [Span; 256],
     count: usize,
-    name: u64,
-    start: u8,
-    width: u8,
-) -> usize
-    requires { (count < length names.old) × (count < length starts.old) × (count < length widths.old) }
-    ensures { (result ≡ count + 1)
-        × (take result names.new ≡ take count names.old ++ (name ∷ []))
-        × (take result starts.new ≡ take count starts.old ++ (start ∷ []))
-        × (take result widths.new ≡ take count widths.old ++ (width ∷ [])) }
-{
-    names[count] = name;
-    starts[count] = start;
-    widths[count] = width;
-    count + 1
+}
+
+impl Model for Fields {
+    ghost use Rattle.std.specs.Prelude.{◌≡◌, ◌≤◌, length};
+    ghost use Rattle.assembly.specs.Fields.{Named, firsts};
+
+    ghost Value = { Named };
+
+    ghost view = { λ f. firsts f.count f.names f.spans };
+
+    ghost invariant = { λ f. (f.count ≤ 256) × (length f.spans ≡ 256) };
+}
+
+impl Fields {
+    // None so far.
+    pub fn none() -> Fields
+        ensures { result ≡ named [] [] [] }
+    {
+        Fields {
+            names: [0; 256],
+            spans: [Span { start: 0, width: 0 }; 256],
+            count: 0,
+        }
+    }
+
+    // None again.
+    pub fn clear(&mut self)
+        ensures { self.new ≡ named [] [] [] }
+    {
+        self.count = 0;
+    }
+
+    // How many there are.
+    pub fn len(&self) -> usize
+        ensures { result ≡ length self.now.names }
+    {
+        self.count
+    }
+
+    // The start and the width of the field with this name.
+    pub fn span_of(&self, w: u64) -> Option<Span>
+        ensures { result ≡ cond (known self.now w) (Some (span_of self.now w)) None }
+    {
+        let k = spelling::find(&self.names[..self.count], w)?;
+        Some(self.spans[k])
+    }
+
+    // One field more.
+    pub fn push(&mut self, name: u64, span: Span)
+        requires { length self.old.names < 256 }
+        ensures { self.new ≡ named (self.old.names ++ (name ∷ [])) (self.old.starts ++ (span.start ∷ [])) (self.old.widths ++ (span.width ∷ [])) }
+    {
+        self.names[self.count] = name;
+        self.spans[self.count] = span;
+        self.count += 1;
+    }
 }

@@ -8,10 +8,15 @@ mod statements;
 mod words;
 
 ghost use Rattle.std.specs.Prelude.{◌≡◌, length};
-ghost use Rattle.assembly.specs.Assembly.{answer, too_short, assembled_answer, assembled_list, assembled_items};
+ghost use Rattle.assembly.specs.Results.{assembled_of};
+ghost use Rattle.assembly.specs.Assembly.{too_short, assembled_answer, assembled_list, assembled_items};
 
 use assembling::{measure, write};
+use bits::refusals::Refusal;
+use builders::Sizes;
+use fields::Fields;
 use judge::{Instruction, MOST_BYTES};
+use text::Refused;
 
 // A word of a line: where it begins, where it ends, and its characters as a number; no word, 0, begins and ends where the words of the line do.
 #[derive(Clone, Copy)]
@@ -21,13 +26,6 @@ pub struct Word {
     pub word: u64,
 }
 
-// A number in decimal, if there is one.
-#[derive(Clone, Copy)]
-pub struct Value {
-    pub stands: bool,
-    pub value: u64,
-}
-
 // A field: its first bit, and how many it has.
 #[derive(Clone, Copy)]
 pub struct Span {
@@ -35,81 +33,76 @@ pub struct Span {
     pub width: u8,
 }
 
+// Is B added to A, or taken off it?
+#[derive(Clone, Copy)]
+pub enum Adding {
+    Sum,
+    Difference,
+}
+
+// Which words does a search mark: those whose field equals a number, or is less?
+// builders has the same enum, and keeps it to itself.
+#[derive(Clone, Copy)]
+pub enum Search {
+    Equal,
+    Less,
+}
+
 // What a line makes.
 #[derive(Clone, Copy)]
 pub enum Act {
     // an empty line
     Nothing,
-    // a number and a column
-    Refused(u8, usize),
-    // a field: its name, its start and its width
-    Field(u64, u8, u8),
+    // a field and its name
+    Field(u64, Span),
     // how many words a store may reach
     Limit(usize),
     // an instruction
     One(Instruction),
-    // the list of a sum, or of a difference: the starts of A, B and S, and their width
-    Sum(bool, u8, u8, u8, u8),
-    // the list and the items of equal, or of less: start, width and number
-    Search(bool, u8, u8, u64),
-    // the list of greatest: start and width
-    Greatest(u8, u8),
+    // the list of a sum, or of a difference: A, and the starts of B and S, which have its width
+    Sum(Adding, Span, u8, u8),
+    // the list and the items of a search for a number
+    Search(Search, Span, u64),
+    // the list of greatest
+    Greatest(Span),
 }
 
-// What assembling gives back: 0 and the bytes of the list and of the items; or a number, with the line and the column of what is refused, counted from 1.
+// Why a word is refused, and the column of its first character, counted from 1.
 #[derive(Clone, Copy)]
-pub struct Assembled {
-    pub number: u8,
-    pub line: usize,
+pub struct Fault {
+    pub why: Refusal,
     pub column: usize,
-    pub list: usize,
-    pub items: usize,
-}
-
-fn answer(number: u8, line: usize, column: usize, list: usize, items: usize) -> Assembled
-    ensures { result ≡ answer number line column list items }
-{
-    Assembled {
-        number: number,
-        line: line,
-        column: column,
-        list: list,
-        items: items,
-    }
 }
 
 // Is the list buffer shorter than the list, or the items buffer than the items?
+// Not builders' `Sizes::lacks`: `too_short` is the definition of this line, and the edit items_without_room is of it.
 fn too_short(list: usize, room: usize, items: usize, other: usize) -> bool
     ensures { result ≡ too_short list room items other }
 {
     (room < list) | (other < items)
 }
 
-// The list of a text, at the front of `list`, and its items, at the front of `items`. A refusal leaves both as they were.
-pub fn assemble<'a>(text: &'a [u8], list: &mut [u8], items: &mut [u8]) -> Assembled
-    ensures answer { result ≡ assembled_answer text.now (length list.old) (length items.old) }
+// The list of a text, at the front of `list`, and its items, at the front of `items`: how many bytes of each there are. A refusal leaves both as they were, and says in which line and at which column it is, counted from 1.
+pub fn assemble(text: &[u8], list: &mut [u8], items: &mut [u8]) -> Result<Sizes, Refused>
+    ensures answer { assembled_of result ≡ assembled_answer text.now (length list.old) (length items.old) }
     ensures list { list.new ≡ assembled_list text.now list.old items.old }
     ensures items { items.new ≡ assembled_items text.now list.old items.old }
 {
     if text.len() > 1048576 {
-        return answer(50, 0, 0, 0, 0);
+        return Err(Refusal::TextLength.into());
     }
-    let mut names = [0u64; 256];
-    let mut starts = [0u8; 256];
-    let mut widths = [0u8; 256];
-    let m = measure(text, &mut names, &mut starts, &mut widths);
-    if m.number != 0 {
-        return answer(m.number, m.line, m.column, 0, 0);
+    let mut fields = Fields::none();
+    let sizes = measure(text, &mut fields)?;
+    if sizes.list > MOST_BYTES {
+        return Err(Refusal::ListLength.into());
     }
-    if m.list > MOST_BYTES {
-        return answer(3, 0, 0, 0, 0);
+    if sizes.items > MOST_BYTES {
+        return Err(Refusal::ItemsLength.into());
     }
-    if m.items > MOST_BYTES {
-        return answer(4, 0, 0, 0, 0);
+    if too_short(sizes.list, list.len(), sizes.items, items.len()) {
+        return Err(Refusal::ListTooShort.into());
     }
-    if too_short(m.list, list.len(), m.items, items.len()) {
-        return answer(33, 0, 0, 0, 0);
-    }
-    write(text, &mut names, &mut starts, &mut widths, list, items);
-    answer(0, 0, 0, m.list, m.items)
+    fields.clear();
+    write(text, &mut fields, list, items);
+    Ok(sizes)
 }

@@ -1,33 +1,37 @@
 // The lines of a text: what each kind of line makes. docs/TEXT.md, "Fields by name, and the builders as statements"; Refusals.
-ghost use Rattle.std.specs.Prelude.{◌≡◌, ◌+◌, ◌≤◌, length};
+ghost use Rattle.std.specs.Prelude.{◌≡◌, ◌+◌, ◌≤◌, ◌<◌, length, IfOk, false, true};
+ghost use Rattle.bits.specs.Refusals.{number_given};
 ghost use Rattle.spelling.specs.Words.{number};
 ghost use Rattle.builders.specs.Sums.{crosses};
 ghost use Rattle.builders.specs.Searches.{too_large};
-ghost use Rattle.assembly.specs.Fields.{named};
-ghost use Rattle.assembly.specs.Statements.{name_fault, start_fault, width_fault, known_fault, second_fault, target_fault, only_fault, value_fault, count_fault, rest_fault, refused_or, small_of, field_line, sum_line, search_line, greatest_line, reach_line, instruction_line, line_by, line_act};
+ghost use Rattle.assembly.specs.Fields.{span_of};
+ghost use Rattle.assembly.specs.Steps.{act_given, judged, is_difference, is_less, value_given};
+ghost use Rattle.assembly.specs.Statements.{name_fault, start_fault, width_fault, known_fault, second_fault, target_fault, only_fault, value_fault, count_fault, rest_fault, small_of, field_line, sum_line, search_line, greatest_line, reach_line, instruction_line, line_by, line_act};
 
-use crate::acts::{limited, ordered};
-use crate::fields::{known, span_of};
-use crate::words::{same_characters, value_of, word_from};
-use crate::{Act, Value, Word};
-use bits::choices::number_or;
-use builders::field::{beyond, wrong_width};
+use crate::acts::{out_of_step, over_limit};
+use crate::fields::Fields;
+use crate::words::{value_of, word_from};
+use crate::{Act, Adding, Fault, Search, Span, Word};
+use bits::refusals::Refusal;
+use builders::field::{beyond, meets, wrong_width};
 use judge::decode;
 use registers::Modes;
 use spelling::number;
 use spelling::tables::{WORD, WORDS};
 
-// The statements' names, as numbers (spelling::tables): field, sum, equal, less, greatest, reach.
-const STATEMENTS: [u64; 6] = [
-    0x6669656c64,
-    0x73756d,
-    0x657175616c,
-    0x6c657373,
-    0x6772656174657374,
-    0x7265616368,
-];
+// The statements' names, as numbers (spelling::tables); difference has more than eight characters.
+const FIELD: u64 = 0x6669656c64;
 
-// difference, which has more than eight characters
+const SUM: u64 = 0x73756d;
+
+const EQUAL: u64 = 0x657175616c;
+
+const LESS: u64 = 0x6c657373;
+
+const GREATEST: u64 = 0x6772656174657374;
+
+const REACH: u64 = 0x7265616368;
+
 const DIFFERENCE: [u8; 10] = [100, 105, 102, 102, 101, 114, 101, 110, 99, 101];
 
 // into
@@ -40,301 +44,338 @@ const AT: u64 = 0x6174;
 const MOST: u64 = 0x6d6f7374;
 
 // What no word reads as.
+// A number and no Option, as 0 is for no word: the definition `extended` says both.
 const UNREADABLE: u64 = 18446744073709551615;
 
-// ---- one word: the number of its refusal
+// ---- one word: what it gives, or why it is refused
 
-fn name_fault(names: &[u64], starts: &[u8], widths: &[u8], w: u64) -> u8
-    ensures { result ≡ name_fault (named names.now starts.now widths.now) w }
+#[tactic(auto, unfolding(crate::specs::Statements::name_fault))]
+fn name_of(fields: &Fields, w: u64) -> Result<u64, Refusal>
+    ensures refused { number_given result ≡ name_fault fields.now w }
+    ensures done { IfOk result (λ name. name ≡ w) }
 {
-    let from72 = number_or(!(names.len() < 256), 72, 0);
-    let from71 = number_or(known(names, w), 71, from72);
-    let from70 = number_or(w == UNREADABLE, 70, from71);
-    number_or(w == 0, 69, from70)
+    if w == 0 {
+        return Err(Refusal::TextTooEarly);
+    }
+    if w == UNREADABLE {
+        return Err(Refusal::TextFieldName);
+    }
+    if fields.span_of(w).is_some() {
+        return Err(Refusal::TextFieldTwice);
+    }
+    if fields.len() >= 256 {
+        return Err(Refusal::TextFieldsTooMany);
+    }
+    Ok(w)
 }
 
-fn start_fault(w: u64) -> u8
-    ensures { result ≡ start_fault w }
+#[tactic(auto, unfolding(crate::specs::Statements::start_fault, crate::specs::Statements::small_of))]
+fn start_of(w: u64) -> Result<u8, Refusal>
+    ensures refused { number_given result ≡ start_fault w }
+    ensures done { IfOk result (λ start. start ≡ small_of w) }
 {
-    let from64 = number_or(!(number(w) < 256), 64, 0);
-    number_or(w == 0, 69, from64)
+    if w == 0 {
+        return Err(Refusal::TextTooEarly);
+    }
+    let start = number(w);
+    if start >= 256 {
+        return Err(Refusal::TextNumber);
+    }
+    Ok(start as u8)
 }
 
-// The number that a word is, at least 999 where it is none: in 32 bits, as the builders take it.
-fn short(w: u64) -> u32
-    ensures { result ≡ number w }
+// Not one with start_of and count_of: each is refused for reasons of its own, in their order.
+#[tactic(auto, unfolding(crate::specs::Statements::width_fault, crate::specs::Statements::small_of))]
+fn width_of(start: u64, w: u64) -> Result<u8, Refusal>
+    ensures refused { number_given result ≡ width_fault start w }
+    ensures done { IfOk result (λ width. width ≡ small_of w) }
 {
-    number(w) as u32
+    if w == 0 {
+        return Err(Refusal::TextTooEarly);
+    }
+    let width = number(w) as u32;
+    if wrong_width(width, 64) {
+        return Err(Refusal::Width);
+    }
+    if beyond(number(start) as u32, width) {
+        return Err(Refusal::FieldBeyond);
+    }
+    Ok(width as u8)
 }
 
-fn width_fault(start: u64, w: u64) -> u8
-    ensures { result ≡ width_fault start w }
+#[tactic(auto, unfolding(crate::specs::Statements::known_fault))]
+fn field_of(fields: &Fields, w: u64) -> Result<Span, Refusal>
+    ensures refused { number_given result ≡ known_fault fields.now w }
+    ensures done { IfOk result (λ span. span ≡ span_of fields.now w) }
 {
-    let n = short(w);
-    let from31 = number_or(beyond(short(start), n), 31, 0);
-    let from30 = number_or(wrong_width(n), 30, from31);
-    number_or(w == 0, 69, from30)
+    if w == 0 {
+        return Err(Refusal::TextTooEarly);
+    }
+    fields.span_of(w).ok_or(Refusal::TextFieldUnknown)
 }
 
-fn known_fault(names: &[u64], starts: &[u8], widths: &[u8], w: u64) -> u8
-    ensures { result ≡ known_fault (named names.now starts.now widths.now) w }
+// A field of `n` bits.
+#[tactic(auto, unfolding(crate::specs::Statements::second_fault, crate::specs::Statements::known_fault))]
+fn second_of(fields: &Fields, n: u8, w: u64) -> Result<Span, Refusal>
+    ensures refused { number_given result ≡ second_fault fields.now n w }
+    ensures done { IfOk result (λ span. span ≡ span_of fields.now w) }
 {
-    let from73 = number_or(!known(names, w), 73, 0);
-    number_or(w == 0, 69, from73)
-}
-
-fn second_fault(names: &[u64], starts: &[u8], widths: &[u8], n: u8, w: u64) -> u8
-    ensures { result ≡ second_fault (named names.now starts.now widths.now) n w }
-{
-    let b = span_of(names, starts, widths, w);
-    let from74 = number_or(!(b.width == n), 74, 0);
-    let from73 = number_or(!known(names, w), 73, from74);
-    number_or(w == 0, 69, from73)
+    let b = field_of(fields, w)?;
+    if b.width != n {
+        return Err(Refusal::TextFieldWidth);
+    }
+    Ok(b)
 }
 
 // Does a field that starts at `s` overlap one that starts at `a` without having its start?
+// builders has this and `too_large` of u32, and keeps them to itself: public they would be owed a field each of promises' Uniqueness.
 fn crosses(s: u8, a: u8, n: u8) -> bool
     ensures { result ≡ crosses s a n }
 {
-    !(s == a) & ((s as u32) < a as u32 + n as u32) & ((a as u32) < s as u32 + n as u32)
+    s != a && meets(u32::from(a), u32::from(s), u32::from(n))
 }
 
-fn target_fault(names: &[u64], starts: &[u8], widths: &[u8], a: u8, b: u8, n: u8, w: u64) -> u8
-    ensures { result ≡ target_fault (named names.now starts.now widths.now) a b n w }
+// One that may be written beside fields that start at `a` and at `b`.
+#[tactic(auto, unfolding(crate::specs::Statements::target_fault, crate::specs::Statements::second_fault))]
+fn target_of(fields: &Fields, a: u8, b: u8, n: u8, w: u64) -> Result<Span, Refusal>
+    ensures refused { number_given result ≡ target_fault fields.now a b n w }
+    ensures done { IfOk result (λ span. span ≡ span_of fields.now w) }
 {
-    let s = span_of(names, starts, widths, w);
-    let from32 = number_or(crosses(s.start, a, n) | crosses(s.start, b, n), 32, 0);
-    let from74 = number_or(!(s.width == n), 74, from32);
-    let from73 = number_or(!known(names, w), 73, from74);
-    number_or(w == 0, 69, from73)
+    let s = second_of(fields, n, w)?;
+    if crosses(s.start, a, n) | crosses(s.start, b, n) {
+        return Err(Refusal::FieldsCross);
+    }
+    Ok(s)
 }
 
-fn only_fault(this: u64, that: u64, w: u64) -> u8
-    ensures { result ≡ only_fault this that w }
+// One of two words.
+#[tactic(auto, unfolding(crate::specs::Statements::only_fault))]
+fn only(this: u64, that: u64, w: u64) -> Result<(), Refusal>
+    ensures { number_given result ≡ only_fault this that w }
 {
-    let from65 = number_or(!((w == this) | (w == that)), 65, 0);
-    number_or(w == 0, 69, from65)
+    if w == 0 {
+        return Err(Refusal::TextTooEarly);
+    }
+    if !((w == this) | (w == that)) {
+        return Err(Refusal::TextWord);
+    }
+    Ok(())
 }
 
 // Has the number more than `n` bits? For a width of 64 and more no number has.
 fn too_large(number: u64, n: u8) -> bool
     ensures { result ≡ too_large number n }
 {
-    if n >= 64 {
-        return false;
+    n < 64 && (number >> n) > 0
+}
+
+#[tactic(auto, unfolding(crate::specs::Statements::value_fault))]
+fn value_fits(w: u64, n: u8, value: Option<u64>) -> Result<u64, Refusal>
+    ensures refused { number_given result ≡ value_fault w n (value_given value) }
+    ensures done { IfOk result (λ v. v ≡ (value_given value).value) }
+{
+    if w == 0 {
+        return Err(Refusal::TextTooEarly);
     }
-    (number >> n) > 0
-}
-
-fn value_fault(w: u64, n: u8, v: Value) -> u8
-    ensures { result ≡ value_fault w n v }
-{
-    let from34 = number_or(too_large(v.value, n), 34, 0);
-    let from76 = number_or(!v.stands, 76, from34);
-    number_or(w == 0, 69, from76)
-}
-
-fn count_fault(w: u64) -> u8
-    ensures { result ≡ count_fault w }
-{
-    let n = number(w);
-    let from64 = number_or((n < 1) | (n > 256), 64, 0);
-    number_or(w == 0, 69, from64)
-}
-
-fn rest_fault(w: u64) -> u8
-    ensures { result ≡ rest_fault w }
-{
-    number_or(!(w == 0), 67, 0)
-}
-
-// A word's refusal, with its column; else what the words behind it say.
-fn refused_or(fault: u8, w: Word, act: Act) -> Act
-    requires { w.start ≤ 1048576 }
-    ensures { result ≡ refused_or fault w act }
-{
-    if fault == 0 {
-        return act;
+    let v = value.ok_or(Refusal::TextValue)?;
+    if too_large(v, n) {
+        return Err(Refusal::NumberTooLarge);
     }
-    Act::Refused(fault, w.start + 1)
+    Ok(v)
 }
 
-fn small_of(w: u64) -> u8
-    ensures { result ≡ small_of w }
+#[tactic(auto, unfolding(crate::specs::Statements::count_fault))]
+fn count_of(w: u64) -> Result<usize, Refusal>
+    ensures refused { number_given result ≡ count_fault w }
+    ensures done { IfOk result (λ count. count ≡ number w) }
 {
-    let n = number(w);
-    if n < 256 {
-        return n as u8;
+    if w == 0 {
+        return Err(Refusal::TextTooEarly);
     }
-    0
+    let count = number(w);
+    if (count < 1) | (count > 256) {
+        return Err(Refusal::TextNumber);
+    }
+    Ok(count as usize)
+}
+
+// No word.
+#[tactic(auto, unfolding(crate::specs::Statements::rest_fault))]
+fn rest(w: u64) -> Result<(), Refusal>
+    ensures { number_given result ≡ rest_fault w }
+{
+    if w != 0 {
+        return Err(Refusal::TextTooMuch);
+    }
+    Ok(())
+}
+
+impl Word {
+    // Why it is refused, with its column.
+    fn fault(self, why: Refusal) -> Fault
+        requires { self.start ≤ 1048576 }
+        ensures { result ≡ record { why = why; column = self.start + 1 } }
+    {
+        Fault {
+            why,
+            column: self.start + 1,
+        }
+    }
+
+    // What was judged of it: a refusal with its column.
+    fn judged<T>(self, answer: Result<T, Refusal>) -> Result<T, Fault>
+        requires { self.start ≤ 1048576 }
+        ensures { result ≡ judged self answer }
+    {
+        match answer {
+            Ok(given) => Ok(given),
+            Err(why) => Err(self.fault(why)),
+        }
+    }
 }
 
 // ---- the lines, from the place `at` behind their first word on
 
-fn field_line(names: &[u64], starts: &[u8], widths: &[u8], line: &[u8], at: usize) -> Act
+// A line and a place in it, here and below: the definitions are of both, and a refusal names the column in the whole line.
+#[tactic(auto, unfolding(crate::specs::Statements::field_line, crate::specs::Statements::refused_or))]
+#[inline(never)]
+fn field_line(fields: &Fields, line: &[u8], at: usize) -> Result<Act, Fault>
     requires { (at ≤ length line.now) × (length line.now ≤ 1048576) }
-    ensures { result ≡ field_line (named names.now starts.now widths.now) line.now at }
+    ensures { act_given result ≡ field_line fields.now line.now at }
 {
     let name = word_from(line, at);
-    let start = word_from(line, name.next);
-    let width = word_from(line, start.next);
-    let more = word_from(line, width.next);
-    let act = Act::Field(name.word, small_of(start.word), small_of(width.word));
-    let fourth = refused_or(rest_fault(more.word), more, act);
-    let third = refused_or(width_fault(start.word, width.word), width, fourth);
-    let second = refused_or(start_fault(start.word), start, third);
-    refused_or(name_fault(names, starts, widths, name.word), name, second)
+    let w = name.judged(name_of(fields, name.word))?;
+    let second = word_from(line, name.next);
+    let start = second.judged(start_of(second.word))?;
+    let third = word_from(line, second.next);
+    let width = third.judged(width_of(second.word, third.word))?;
+    let more = word_from(line, third.next);
+    more.judged(rest(more.word))?;
+    Ok(Act::Field(w, Span { start, width }))
 }
 
-fn sum_line(
-    difference: bool,
-    names: &[u64],
-    starts: &[u8],
-    widths: &[u8],
-    line: &[u8],
-    at: usize,
-) -> Act
+#[tactic(auto, unfolding(crate::specs::Statements::sum_line, crate::specs::Statements::refused_or))]
+fn sum_line(adding: Adding, fields: &Fields, line: &[u8], at: usize) -> Result<Act, Fault>
     requires { (at ≤ length line.now) × (length line.now ≤ 1048576) }
-    ensures { result ≡ sum_line difference (named names.now starts.now widths.now) line.now at }
-{
-    let wa = word_from(line, at);
-    let wb = word_from(line, wa.next);
-    let into = word_from(line, wb.next);
-    let ws = word_from(line, into.next);
-    let more = word_from(line, ws.next);
-    let a = span_of(names, starts, widths, wa.word);
-    let b = span_of(names, starts, widths, wb.word);
-    let s = span_of(names, starts, widths, ws.word);
-    let act = Act::Sum(difference, a.start, b.start, s.start, a.width);
-    let fifth = refused_or(rest_fault(more.word), more, act);
-    let target = target_fault(names, starts, widths, a.start, b.start, a.width, ws.word);
-    let fourth = refused_or(target, ws, fifth);
-    let third = refused_or(only_fault(INTO, INTO, into.word), into, fourth);
-    let second = refused_or(
-        second_fault(names, starts, widths, a.width, wb.word),
-        wb,
-        third,
-    );
-    refused_or(known_fault(names, starts, widths, wa.word), wa, second)
-}
-
-fn search_line(
-    less: bool,
-    names: &[u64],
-    starts: &[u8],
-    widths: &[u8],
-    line: &[u8],
-    at: usize,
-) -> Act
-    requires { (at ≤ length line.now) × (length line.now ≤ 1048576) }
-    ensures { result ≡ search_line less (named names.now starts.now widths.now) line.now at }
-{
-    let wa = word_from(line, at);
-    let wv = word_from(line, wa.next);
-    let more = word_from(line, wv.next);
-    let a = span_of(names, starts, widths, wa.word);
-    let from = wv.start;
-    let to = wv.next;
-    let given = value_of(&line[from..to]);
-    let act = Act::Search(less, a.start, a.width, given.value);
-    let third = refused_or(rest_fault(more.word), more, act);
-    let second = refused_or(value_fault(wv.word, a.width, given), wv, third);
-    refused_or(known_fault(names, starts, widths, wa.word), wa, second)
-}
-
-fn greatest_line(names: &[u64], starts: &[u8], widths: &[u8], line: &[u8], at: usize) -> Act
-    requires { (at ≤ length line.now) × (length line.now ≤ 1048576) }
-    ensures { result ≡ greatest_line (named names.now starts.now widths.now) line.now at }
-{
-    let wa = word_from(line, at);
-    let more = word_from(line, wa.next);
-    let a = span_of(names, starts, widths, wa.word);
-    let act = Act::Greatest(a.start, a.width);
-    let second = refused_or(rest_fault(more.word), more, act);
-    refused_or(known_fault(names, starts, widths, wa.word), wa, second)
-}
-
-fn reach_line(line: &[u8], at: usize) -> Act
-    requires { (at ≤ length line.now) × (length line.now ≤ 1048576) }
-    ensures { result ≡ reach_line line.now at }
+    ensures { act_given result ≡ sum_line (is_difference adding) fields.now line.now at }
 {
     let first = word_from(line, at);
+    let a = first.judged(field_of(fields, first.word))?;
     let second = word_from(line, first.next);
-    let count = word_from(line, second.next);
-    let last = word_from(line, count.next);
+    let b = second.judged(second_of(fields, a.width, second.word))?;
+    let into = word_from(line, second.next);
+    into.judged(only(INTO, INTO, into.word))?;
+    let target = word_from(line, into.next);
+    let s = target.judged(target_of(fields, a.start, b.start, a.width, target.word))?;
+    let more = word_from(line, target.next);
+    more.judged(rest(more.word))?;
+    Ok(Act::Sum(adding, a, b.start, s.start))
+}
+
+#[tactic(auto, unfolding(crate::specs::Statements::search_line, crate::specs::Statements::refused_or))]
+fn search_line(search: Search, fields: &Fields, line: &[u8], at: usize) -> Result<Act, Fault>
+    requires { (at ≤ length line.now) × (length line.now ≤ 1048576) }
+    ensures { act_given result ≡ search_line (is_less search) fields.now line.now at }
+{
+    let name = word_from(line, at);
+    let a = name.judged(field_of(fields, name.word))?;
+    let value = word_from(line, name.next);
+    let given = value_of(&line[value.start..value.next]);
+    let v = value.judged(value_fits(value.word, a.width, given))?;
+    let more = word_from(line, value.next);
+    more.judged(rest(more.word))?;
+    Ok(Act::Search(search, a, v))
+}
+
+#[tactic(auto, unfolding(crate::specs::Statements::greatest_line, crate::specs::Statements::refused_or))]
+#[inline(never)]
+fn greatest_line(fields: &Fields, line: &[u8], at: usize) -> Result<Act, Fault>
+    requires { (at ≤ length line.now) × (length line.now ≤ 1048576) }
+    ensures { act_given result ≡ greatest_line fields.now line.now at }
+{
+    let name = word_from(line, at);
+    let a = name.judged(field_of(fields, name.word))?;
+    let more = word_from(line, name.next);
+    more.judged(rest(more.word))?;
+    Ok(Act::Greatest(a))
+}
+
+#[tactic(auto, unfolding(crate::specs::Statements::reach_line, crate::specs::Statements::refused_or))]
+#[inline(never)]
+fn reach_line(line: &[u8], at: usize) -> Result<Act, Fault>
+    requires { (at ≤ length line.now) × (length line.now ≤ 1048576) }
+    ensures { act_given result ≡ reach_line line.now at }
+{
+    let first = word_from(line, at);
+    first.judged(only(AT, AT, first.word))?;
+    let second = word_from(line, first.next);
+    second.judged(only(MOST, MOST, second.word))?;
+    let number = word_from(line, second.next);
+    let count = number.judged(count_of(number.word))?;
+    let last = word_from(line, number.next);
+    last.judged(only(WORD, WORDS, last.word))?;
     let more = word_from(line, last.next);
-    let act = Act::Limit(number(count.word) as usize);
-    let from5 = refused_or(rest_fault(more.word), more, act);
-    let from4 = refused_or(only_fault(WORD, WORDS, last.word), last, from5);
-    let from3 = refused_or(count_fault(count.word), count, from4);
-    let from2 = refused_or(only_fault(MOST, MOST, second.word), second, from3);
-    refused_or(only_fault(AT, AT, first.word), first, from2)
+    more.judged(rest(more.word))?;
+    Ok(Act::Limit(count))
 }
 
 // A line that is an instruction, or empty: made by itself.
-fn instruction_line(line: &[u8]) -> Act
-    ensures { result ≡ instruction_line line.now }
+#[tactic(auto, unfolding(crate::specs::Statements::instruction_line))]
+#[inline(never)]
+fn instruction_line(line: &[u8]) -> Result<Act, Fault>
+    ensures { act_given result ≡ instruction_line line.now }
 {
     let mut one = [0u8; 8];
-    let made = text::making::make(line, &mut one);
-    if made.number != 0 {
-        return Act::Refused(made.number, made.column);
+    match text::making::make(line, &mut one) {
+        Ok(0) => Ok(Act::Nothing),
+        Ok(_) => Ok(Act::One(decode(&one, 0))),
+        Err(r) => Err(Fault {
+            why: r.why,
+            column: r.column,
+        }),
     }
-    if made.count == 0 {
-        return Act::Nothing;
-    }
-    Act::One(decode(&one, 0))
 }
 
 // ---- a line
 
-fn line_by(names: &[u64], starts: &[u8], widths: &[u8], line: &[u8], w: Word) -> Act
+// By its first word, which is `w`.
+fn line_by(fields: &Fields, line: &[u8], w: Word) -> Result<Act, Fault>
     requires { (w.start ≤ w.next) × (w.next ≤ length line.now) × (length line.now ≤ 1048576) }
-    ensures { result ≡ line_by (named names.now starts.now widths.now) line.now w }
+    ensures { act_given result ≡ line_by fields.now line.now w }
 {
-    let at = w.next;
-    let from = w.start;
-    let long = DIFFERENCE;
-    if same_characters(&line[from..at], &long) {
-        return sum_line(true, names, starts, widths, line, at);
+    if line[w.start..w.next] == DIFFERENCE[..] {
+        return sum_line(Adding::Difference, fields, line, w.next);
     }
-    let table = STATEMENTS;
-    let k = spelling::find(&table, w.word);
-    if k == 0 {
-        return field_line(names, starts, widths, line, at);
+    match w.word {
+        FIELD => field_line(fields, line, w.next),
+        SUM => sum_line(Adding::Sum, fields, line, w.next),
+        EQUAL => search_line(Search::Equal, fields, line, w.next),
+        LESS => search_line(Search::Less, fields, line, w.next),
+        GREATEST => greatest_line(fields, line, w.next),
+        REACH => reach_line(line, w.next),
+        _ => instruction_line(line),
     }
-    if k == 1 {
-        return sum_line(false, names, starts, widths, line, at);
-    }
-    if k == 2 {
-        return search_line(false, names, starts, widths, line, at);
-    }
-    if k == 3 {
-        return search_line(true, names, starts, widths, line, at);
-    }
-    if k == 4 {
-        return greatest_line(names, starts, widths, line, at);
-    }
-    if k == 5 {
-        return reach_line(line, at);
-    }
-    instruction_line(line)
 }
 
 // What a line makes, by the fields, the limit and the mode registers before it, and by whether an instruction took an item from outside.
+#[tactic(auto, unfolding(crate::specs::Statements::line_act, crate::specs::Acts::limited, crate::specs::Acts::ordered))]
 pub fn line_act(
-    names: &[u64],
-    starts: &[u8],
-    widths: &[u8],
+    fields: &Fields,
     limit: usize,
     m: Modes,
     taken: bool,
     line: &[u8],
-) -> Act
+) -> Result<Act, Fault>
     requires { length line.now ≤ 1048576 }
-    ensures { result ≡ line_act (named names.now starts.now widths.now) limit m taken line.now }
+    ensures { act_given result ≡ line_act fields.now limit m taken line.now }
 {
-    let w = word_from(line, 0);
-    let act = limited(limit, m, w.start, line_by(names, starts, widths, line, w));
-    ordered(taken, w.start, act)
+    let first = word_from(line, 0);
+    let act = line_by(fields, line, first)?;
+    if over_limit(limit, m, act) {
+        return Err(first.fault(Refusal::TextReach));
+    }
+    if out_of_step(taken, act) {
+        return Err(first.fault(Refusal::TextItemAbove));
+    }
+    Ok(act)
 }

@@ -1,23 +1,24 @@
 // The words of a line, one behind the other, and the number that the characters of a word are. docs/TEXT.md, "Words, lines and comments".
-ghost use Rattle.std.specs.Prelude.{◌≡◌, ◌+◌, ◌≤◌, length, drop};
+ghost use Rattle.std.specs.Prelude.{◌≡◌, ◌+◌, ◌≤◌, length, drop, true};
 ghost use Rattle.text.specs.Make.{blank};
 ghost use Rattle.spelling.specs.Words.{extended_by};
 ghost use Rattle.assembly.specs.Words.{stops, blanks, letters, word_from, valued, with_digit, value_of, same_characters};
+ghost use Rattle.assembly.specs.Steps.{value_given};
 
-use crate::{Value, Word};
+use crate::Word;
 
-// Space, tab or carriage return?
+// Space, tab or carriage return? The crate text has the same line for its own characters.
 fn blank(c: u8) -> bool
     ensures { result ≡ blank c }
 {
-    (c == 32) | ((c == 9) | (c == 13))
+    matches!(c, b' ' | b'\t' | b'\r')
 }
 
 // Does a word end before this character?
 fn stops(c: u8) -> bool
     ensures { result ≡ stops c }
 {
-    blank(c) | (c == 59)
+    blank(c) | (c == b';')
 }
 
 // The first place from `at` on without a blank.
@@ -25,14 +26,8 @@ fn skip(line: &[u8], at: usize) -> usize
     requires { at ≤ length line.now }
     ensures { (result ≤ length line.now) × (result ≡ at + blanks (drop at line.now)) }
 {
-    let mut i = at;
-    while i < line.len() {
-        if !blank(line[i]) {
-            return i;
-        }
-        i += 1;
-    }
-    i
+    let left = &line[at..];
+    at + left.iter().position(|c| !blank(*c)).unwrap_or(left.len())
 }
 
 // The first place from `at` on that is not in a word.
@@ -40,27 +35,15 @@ fn span(line: &[u8], at: usize) -> usize
     requires { at ≤ length line.now }
     ensures { (at ≤ result) × (result ≤ length line.now) × (result ≡ at + letters (drop at line.now)) }
 {
-    let mut i = at;
-    while i < line.len() {
-        if stops(line[i]) {
-            return i;
-        }
-        i += 1;
-    }
-    i
+    let left = &line[at..];
+    at + left.iter().position(|c| stops(*c)).unwrap_or(left.len())
 }
 
 // Characters as a word.
 fn spell(characters: &[u8]) -> u64
     ensures { result ≡ extended_by 0 characters.now }
 {
-    let mut w: u64 = 0;
-    let mut i: usize = 0;
-    while i < characters.len() {
-        w = spelling::extended(w, characters[i]);
-        i += 1;
-    }
-    w
+    characters.iter().fold(0, |w, c| spelling::extended(w, *c))
 }
 
 // The first word from `at` on.
@@ -71,68 +54,31 @@ pub fn word_from(line: &[u8], at: usize) -> Word
     let start = skip(line, at);
     let next = span(line, start);
     let word = spell(&line[start..next]);
-    Word {
-        start: start,
-        next: next,
-        word: word,
-    }
-}
-
-fn value(stands: bool, value: u64) -> Value
-    ensures { result ≡ valued stands value }
-{
-    Value {
-        stands: stands,
-        value: value,
-    }
+    Word { start, next, word }
 }
 
 // A number with one more digit.
-fn with_digit(v: Value, c: u8) -> Value
-    ensures { result ≡ with_digit v c }
+// `as`, for the reason that stands at acts::sum_size.
+fn with_digit(v: u64, c: u8) -> Option<u64>
+    ensures { value_given result ≡ with_digit (valued true v) c }
 {
-    if !v.stands {
-        return value(false, 0);
-    }
     let d = spelling::number(c as u64);
     if d > 9 {
-        return value(false, 0);
+        return None;
     }
-    if v.value > (18446744073709551615 - d) / 10 {
-        return value(false, 0);
-    }
-    value(true, 10 * v.value + d)
+    v.checked_mul(10)?.checked_add(d)
 }
 
 // The number that characters are, in decimal.
-pub fn value_of(characters: &[u8]) -> Value
-    ensures { result ≡ value_of characters.now }
+pub fn value_of(characters: &[u8]) -> Option<u64>
+    ensures { value_given result ≡ value_of characters.now }
 {
     if characters.len() > 20 {
-        return value(false, 0);
+        return None;
     }
-    let mut v = value(true, 0);
-    let mut i: usize = 0;
-    while i < characters.len() {
-        v = with_digit(v, characters[i]);
-        i += 1;
+    let mut v: u64 = 0;
+    for c in characters {
+        v = with_digit(v, *c)?;
     }
-    v
-}
-
-// Are these the same characters?
-pub fn same_characters(a: &[u8], b: &[u8]) -> bool
-    ensures { result ≡ same_characters a.now b.now }
-{
-    if a.len() != b.len() {
-        return false;
-    }
-    let mut i: usize = 0;
-    while i < a.len() {
-        if a[i] != b[i] {
-            return false;
-        }
-        i += 1;
-    }
-    true
+    Some(v)
 }

@@ -1,4 +1,5 @@
 -- Laws of the definitions in specs/, for the proofs of this crate and of those above it.
+pub mod RefusalLaws
 pub mod Binary
 pub mod Xor
 pub mod Digits

@@ -1,17 +1,19 @@
 -- Laws that connect an item, its lines and its four quarters. Assumes nothing.
-use mathlib.Core.Path.{◌≡◌, sym, ap, ap₂, ◌∙◌}
+use mathlib.Core.Path.{◌≡◌, refl, sym, ap, ap₂, ◌∙◌}
 use mathlib.Core.List.{List, [], ◌∷◌}
-use Prim.Native.Nat.{ℕ, zero, suc, ◌+◌, ◌*◌, ◌/◌, ◌%◌, ◌^◌, ◌<◌}
-use native.Mathlib.Nat.{add-zero, add-suc, mul_assoc, add_assoc, add-mul}
+use Prim.Native.Nat.{ℕ, zero, suc, ◌+◌, ◌*◌, ◌/◌, ◌%◌, ◌^◌, ◌<◌, ◌≤◌}
+use native.Mathlib.Nat.{div-one, add-zero, add-suc, add_comm, mul_assoc, add_assoc, add-mul, pow-suc}
 use native.Mathlib.Omega.{arith}
-use lib.Bits.{bit_or, or_shifted_r}
 use lib.ListN.{length, get_or}
-use lib.Pow.{pow-add, shl_exact}
+use lib.Pow.{pow-add}
+use mir.Syntax.{w64}
+use Rattle.std.specs.Prelude.{slice_index}
+use Rattle.std.specs.Int.{byte_at, byte_worth, bytes_low_first, sum_through, from_le_bytes, to_le_bytes}
 use Rattle.bits.specs.Bits.{digit, bit_of, listed, digits_of, byte_of}
 use Rattle.bits.specs.Quarters.{quarter_of, quarters, line_at}
 use Rattle.bits.proofs.Binary.{Bit, digit-bit}
-use Rattle.bits.proofs.Digits.{digit-mod, digit-down, digits_of-lt, digits_of-at, digits_of-ext, digits_are}
-use Rattle.bits.proofs.Items.{get_d-listed, listed-ext, listed-is, bit_of-bit, byte_of-is, bit_of-at}
+use Rattle.bits.proofs.Digits.{digit-mod, digit-down, digits_of-at, digits_of-ext, digits_are}
+use Rattle.bits.proofs.Items.{get_d-listed, listed-ext, listed-is, byte_of-is, bit_of-at}
 
 -- ---- numbers of an item by its quarters
 
@@ -72,27 +74,39 @@ digits_of-append f a (suc b) =
     ∙ ap (λ (x : ℕ). x + digits_of f a)
     (ap (λ (x : ℕ). x + more * 2 ^ a) (sym (mul_assoc (f (a + b)) (2 ^ b) (2 ^ a))) ∙ sym (add-mul (f (a + b) * 2 ^ b) more (2 ^ a)))
 
--- one byte more, as code puts it in
-pub or_byte : (l : List ℕ) (i n x q : ℕ) → n < 8 → x < 256 → x ≡ get_or l (8 * i + n) 0 → q ≡ digits_of (λ j. bit_of l (64 * i + j)) (8 * n)
-    → bit_or q (x * 2 ^ (8 * n) % 2 ^ 64) ≡ digits_of (λ j. bit_of l (64 * i + j)) (8 * (n + 1))
-or_byte l i n x q h b ex eq =
-    let f : ℕ → ℕ = λ j. bit_of l (64 * i + j) in
-    let bits : (j : ℕ) → Bit (f j) = λ j. bit_of-bit l (64 * i + j) in
-    let e : 8 * n + 8 ≡ 8 * (n + 1) = omega arith in
-    let byte : x ≡ digits_of (λ j. f (8 * n + j)) 8 =
-    digits_are (λ j. f (8 * n + j)) 8 x b
-    (λ j k.
-    let p : 8 * (8 * i + n) + j ≡ 64 * i + (8 * n + j) = omega arith in
-    ap (λ (y : ℕ). digit y j) ex ∙ sym (bit_of-at l (8 * i + n) j k) ∙ ap (bit_of l) p) in
-    ap₂ bit_or eq (shl_exact 8 (8 * n) 64 b (omega arith))
-    ∙ or_shifted_r x (8 * n) (digits_of f (8 * n)) (digits_of-lt f bits (8 * n))
-    ∙ ap (λ (y : ℕ). y * 2 ^ (8 * n) + digits_of f (8 * n)) byte
+bytes_worth : (n : ℕ) → 256 ^ n ≡ 2 ^ (8 * n)
+bytes_worth zero = refl
+bytes_worth (suc n) =
+    let e : 8 * n + 8 ≡ 8 * suc n = omega arith in
+    pow-suc 256 n ∙ ap (λ (x : ℕ). x * 256) (bytes_worth n) ∙ sym (pow-add 2 (8 * n) 8) ∙ ap (λ (x : ℕ). 2 ^ x) e
+
+-- bytes by what each is worth
+bytes-sum : (f b : ℕ → ℕ) (k : ℕ) → ((n : ℕ) → n ≤ k → b n ≡ digits_of (λ j. f (8 * n + j)) 8) → sum_through (λ n. byte_worth n (b n)) k ≡ digits_of f (8 * suc k)
+bytes-sum f b zero h = h 0 (omega arith) ∙ digits_of-ext (λ j. f (8 * 0 + j)) f 8 (λ j l. let e : 8 * 0 + j ≡ j = omega arith in ap f e)
+bytes-sum f b (suc k) h =
+    let n : ℕ = suc k in
+    let e : 8 * n + 8 ≡ 8 * suc n = omega arith in
+    ap₂ (λ (x y : ℕ). x + y) (bytes-sum f b k (λ m l. h m (omega arith))) (ap₂ (λ (x y : ℕ). x * y) (h n (omega arith)) (bytes_worth n))
+    ∙ add_comm (digits_of f (8 * n)) (digits_of (λ j. f (8 * n + j)) 8 * 2 ^ (8 * n))
     ∙ sym (digits_of-append f (8 * n) 8)
     ∙ ap (digits_of f) e
 
+-- quarter i is the number of its eight bytes, the lowest first
+pub quarter-bytes : (l part : List ℕ) (i : ℕ) → ((k : ℕ) → get_or l k 0 < 256) → ((n : ℕ) → n < 8 → slice_index part n ≡ get_or l (8 * i + n) 0)
+    → from_le_bytes w64 part ≡ quarter_of (bit_of l) i
+unfolding quarter_of
+quarter-bytes l part i b h =
+    bytes-sum (λ j. bit_of l (64 * i + j)) (slice_index part) 7
+    (λ n q.
+    h n (omega arith)
+    ∙ digits_are (λ j. bit_of l (64 * i + (8 * n + j))) 8 (get_or l (8 * i + n) 0) (b (8 * i + n))
+    (λ j k.
+    let p : 8 * (8 * i + n) + j ≡ 64 * i + (8 * n + j) = omega arith in
+    sym (bit_of-at l (8 * i + n) j k) ∙ ap (bit_of l) p))
+
 -- ---- and its bytes from a quarter
 
-pub byte-is : (q : List ℕ) (i r : ℕ) → r < 256 → r ≡ get_or q (i / 8) 0 / 2 ^ (8 * (i % 8)) % 256 → r ≡ byte_of (line_at q) i
+byte-is : (q : List ℕ) (i r : ℕ) → r < 256 → r ≡ get_or q (i / 8) 0 / 2 ^ (8 * (i % 8)) % 256 → r ≡ byte_of (line_at q) i
 byte-is q i r b e =
     byte_of-is (line_at q) i r b
     (λ j h.
@@ -102,3 +116,29 @@ byte-is q i r b e =
     ∙ digit-down (get_or q (i / 8) 0) (8 * (i % 8)) j
     ∙ sym (line_at-digit q (i / 8) (j + 8 * (i % 8)) (omega arith))
     ∙ ap (line_at q) p)
+
+-- byte n of a number, by the power of two
+byte_at-is : (x n : ℕ) → byte_at n x ≡ x / 2 ^ (8 * n) % 256
+byte_at-is x zero = ap (λ (y : ℕ). y % 256) (sym (div-one x))
+byte_at-is x (suc n) = ap (λ (y : ℕ). x / y % 256) (bytes_worth (suc n))
+
+low_first-at : (s k x i : ℕ) → i < k → get_or (bytes_low_first s k x) i 0 ≡ byte_at (s + i) x
+low_first-at s zero x i h = absurd (omega arith)
+low_first-at s (suc k) x zero h = ap (λ (y : ℕ). byte_at y x) (sym (add-zero s))
+low_first-at s (suc k) x (suc i) h =
+    let e : suc s + i ≡ s + suc i = omega arith in
+    low_first-at (suc s) k x i (omega arith) ∙ ap (λ (y : ℕ). byte_at y x) e
+
+-- the eight bytes of quarter i, the lowest first
+pub bytes-out : (q : List ℕ) (i : ℕ) → to_le_bytes w64 (get_or q i 0) ≡ listed (λ n. byte_of (line_at q) (8 * i + n)) 8
+bytes-out q i =
+    let x = get_or q i 0 in
+    listed-is (λ n. byte_of (line_at q) (8 * i + n)) 8 (bytes_low_first 0 8 x) refl
+    (λ n h.
+    let hi : (8 * i + n) / 8 ≡ i = omega arith in
+    let lo : (8 * i + n) % 8 ≡ n = omega arith in
+    let none : 0 + n ≡ n = omega arith in
+    let byte : byte_at n x ≡ x / 2 ^ (8 * n) % 256 = byte_at-is x n in
+    low_first-at 0 8 x n h
+    ∙ ap (λ (y : ℕ). byte_at y x) none
+    ∙ byte-is q (8 * i + n) (byte_at n x) (omega arith) (byte ∙ sym (ap₂ (λ (y z : ℕ). get_or q y 0 / 2 ^ (8 * z) % 256) hi lo)))

@@ -2,5 +2,6 @@
 pub mod Bits
 pub mod Search
 pub mod Rows
+pub mod Refusals
 pub mod Steps
 pub mod Quarters

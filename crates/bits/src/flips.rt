@@ -3,6 +3,7 @@ ghost use Rattle.std.specs.Prelude.{◌≡◌, ◌*◌, ◌<◌};
 ghost use Rattle.bits.specs.Quarters.{exchanged, Flips, flipped_quarters};
 
 // The digits of `x` at the places of `m` and those `k` above them change places.
+// A shift's amount below 64 is a number: it comes out of a literal.
 fn exchange(x: u64, m: u64, k: u64) -> u64
     requires { k < 64 }
     ensures { result ≡ exchanged m k x }
@@ -11,6 +12,7 @@ fn exchange(x: u64, m: u64, k: u64) -> u64
 }
 
 // The quarters flipped by `k` where `on` is 1, else as they are. `m` has the places that the flip moves up.
+// `on` is a digit of the flip and no bool: the clause multiplies by it.
 fn exchange_if(on: u8, q: [u64; 4], m: u64, k: u64) -> [u64; 4]
     requires { (on < 2) × (k < 64) × Flips m k }
     ensures { result ≡ flipped_quarters q (on * k) }
@@ -27,15 +29,14 @@ fn exchange_if(on: u8, q: [u64; 4], m: u64, k: u64) -> [u64; 4]
 }
 
 // The quarters in another order: quarter i is quarter i xor `g`.
+// A loop, and no `array::from_fn`: tried three times, here and in quarters; its clause says nothing of what the closure holds, so `returns` stays open.
 fn order(q: [u64; 4], g: usize) -> [u64; 4]
     requires { g < 4 }
     ensures { result ≡ flipped_quarters q (64 * g) }
 {
-    let mut out = [0u64; 4];
-    let mut i: usize = 0;
-    while i < 4 {
+    let mut out = [0; 4];
+    for i in 0..4 {
         out[i] = q[g ^ i];
-        i += 1;
     }
     out
 }

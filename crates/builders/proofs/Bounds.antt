@@ -7,8 +7,8 @@ use native.Mathlib.Decide.{ℕ_discrete}
 use native.Mathlib.Omega.{arith}
 use lib.ListN.{length}
 use Rattle.bits.proofs.Rows.{number-high}
-use Rattle.builders.specs.declared.Built.{Built}
-use Rattle.builders.specs.declared.BuiltTwo.{BuiltTwo}
+use Rattle.builders.specs.Building.{Built}
+use Rattle.builders.specs.Building.{BuiltTwo}
 use Rattle.builders.specs.Lists.{encoded}
 use Rattle.builders.specs.Sums.{sum_list, difference_list, field_rows, fields_fault, sum_built, difference_built}
 use Rattle.builders.specs.Searches.{search_list, number_items, greatest_list, search_rows, greatest_rows, search_fault, greatest_fault, search_built, greatest_built}

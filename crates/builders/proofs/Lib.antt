@@ -13,3 +13,4 @@ pub mod Marks
 pub mod Adder
 pub mod Comparing
 pub mod Examples
+pub mod ResultLaws

@@ -15,7 +15,7 @@ use Rattle.judge.specs.Instructions.{instruction_at}
 use Rattle.builders.specs.Lists.{instruction, bytes_of, encoded, rounds, decoded, items_of}
 use Rattle.builders.specs.Searches.{move_x, search_round, search_rounds, search_list, search_length, number_items, items_length}
 use Rattle.builders.specs.Searches.{or_flipped, without, unmark, greatest_round, greatest_rounds, greatest_list, greatest_length}
-use Rattle.builders.specs.Sums.{bit_round, bit_rounds, sum_byte, difference_byte, sum_list, difference_list, list_length}
+use Rattle.builders.specs.Sums.{clear, set_y, bit_round, bit_rounds, sum_byte, difference_byte, sum_list, difference_list, list_length}
 
 pub length-encoded : (l : List Instruction) → length (encoded l) ≡ 8 * length l
 unfolding encoded
@@ -75,13 +75,18 @@ length-rounds g m (suc n) h = length-append (rounds g n) (g n) ∙ omega (arith,
 pub length-bits : (t a b s n : ℕ) → length (bit_rounds t a b s n) ≡ 5 * n
 length-bits t a b s n = length-rounds (λ k. bit_round t (a + k) (b + k) (s + k)) 5 n (λ k. refl)
 
+-- behind what leads
+pub fields-length : (lead : List Instruction) (t a b s n : ℕ) → length (encoded (lead ++ bit_rounds t a b s n)) ≡ list_length (length lead) n
+fields-length lead t a b s n =
+    length-encoded (lead ++ bit_rounds t a b s n) ∙ omega (arith, length-append lead (bit_rounds t a b s n), length-bits t a b s n)
+
 -- 8(1+5n) bytes
 pub sum-length : (a b s n : ℕ) → length (encoded (sum_list a b s n)) ≡ list_length 1 n
-sum-length a b s n = length-encoded (sum_list a b s n) ∙ omega (arith, length-bits sum_byte a b s n)
+sum-length = fields-length (clear ∷ []) sum_byte
 
 -- and 8(2+5n)
 pub difference-length : (a b s n : ℕ) → length (encoded (difference_list a b s n)) ≡ list_length 2 n
-difference-length a b s n = length-encoded (difference_list a b s n) ∙ omega (arith, length-bits difference_byte a b s n)
+difference-length = fields-length (clear ∷ set_y ∷ []) difference_byte
 
 pub length-search-rounds : (less : Bool) (a n : ℕ) → length (search_rounds less a n) ≡ 3 * n
 length-search-rounds less a n = length-rounds (λ k. search_round less (a + k)) 3 n (λ k. refl)

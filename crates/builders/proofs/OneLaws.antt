@@ -5,10 +5,16 @@ use Prim.Native.Nat.{ℕ}
 use native.Mathlib.Decide.{ℕ_discrete}
 use lib.ListN.{length}
 use borrow.Author.Tests.{eq-eqb, ne_eqb}
+use Rattle.std.specs.Prelude.{Result, Ok, Err}
+use Rattle.std.specs.Result.{IsErrAnd}
+use Rattle.bits.specs.declared.refusals.Refusal.{Refusal}
+use Rattle.bits.specs.Refusals.{number_of_refusal}
 use Rattle.bits.specs.Steps.{put_at}
 use Rattle.bits.proofs.Puts.{put_front}
-use Rattle.builders.specs.declared.Built.{Built}
+use Rattle.builders.specs.Building.{Built}
 use Rattle.builders.specs.Building.{BuiltLeft, built_with}
+use Rattle.builders.specs.Results.{built_of}
+use Rattle.builders.proofs.Refusals.{numbered}
 
 module _ (fault : ℕ) (bytes list : List ℕ) where
   -- refused: the buffer as it was, and the count 0
@@ -17,6 +23,12 @@ module _ (fault : ℕ) (bytes list : List ℕ) where
   one-refused number e u =
       ap (λ (n : ℕ). record { answer = record { number = n; count = 0 }; list = list }) e
       ∙ sym (simp (ne_eqb fault 0 (λ z. u (e ∙ z))))
+
+  -- so for a reason of that number
+  pub one-err : (r : Result ℕ Refusal) (x : Refusal) → IsErrAnd r (λ e. e ≡ x) → number_of_refusal x ≡ fault
+      → ◌≡◌ {A = BuiltLeft} (record { answer = built_of r; list = list }) (built_with fault bytes list)
+  one-err (Ok n) x p e = absurd p
+  one-err (Err r) x p e = one-refused (number_of_refusal r) (ap number_of_refusal p ∙ e) (numbered r)
 
   -- done: the buffer has the bytes at its front, and they are counted
   pub one-done : (number : ℕ) → number ≡ fault → number ≡ 0 → (n : ℕ) (l : List ℕ) → n ≡ length bytes → l ≡ put_at 0 bytes list

@@ -1,10 +1,12 @@
 -- Laws of bytes put into a builder's buffer: a part that was copied, one piece after another, one round or one item more. For every builder. Assumes nothing.
 use mathlib.Core.Path.{◌≡◌, sym, ap, ◌∙◌}
-use mathlib.Core.List.{List, ◌++◌}
-use Prim.Native.Nat.{ℕ, ◌+◌, ◌-◌, ◌*◌, ◌≤◌}
+use mathlib.Core.List.{List, [], ◌∷◌, ◌++◌}
+use Prim.Native.Nat.{ℕ, ◌+◌, ◌-◌, ◌*◌, ◌<◌, ◌≤◌}
 use native.Mathlib.Numerals.{add-one}
 use native.Mathlib.Omega.{arith}
-use lib.ListN.{length}
+use lib.ListN.{length, get_or, take}
+use lib.Seq.{take-suc}
+use Rattle.std.proofs.lemmas.List.{length-take-le}
 use borrow.Rule.Slice.PartMut.{put_mid}
 use Rattle.bits.specs.Bits.{item}
 use Rattle.bits.specs.Steps.{put_at}
@@ -37,6 +39,20 @@ pub rounds-more : (g : ℕ → List Instruction) (k at j : ℕ) (xs l l' : List 
 unfolding rounds
 rounds-more g k at j xs l l' h e a b =
     put-more at j (rounds g k) (g k) xs l l' h e a b ∙ ap (λ (n : ℕ). put_at (8 * at) (encoded (rounds g n)) xs) (sym (add-one k))
+
+-- from what gives that round
+pub round-more : (g : ℕ → List Instruction) (k at j : ℕ) (xs l l' : List ℕ) {r : List Instruction} → 8 * at ≤ length xs → j ≡ at + length (rounds g k)
+    → l ≡ put_at (8 * at) (encoded (rounds g k)) xs → r ≡ g k → l' ≡ put_at (8 * j) (encoded r) l → l' ≡ put_at (8 * at) (encoded (rounds g (k + 1))) xs
+round-more g k at j xs l l' h e a q b =
+    rounds-more g k at j xs l l' h e a (b ∙ ap (λ (r : List Instruction). put_at (8 * j) (encoded r) l) q)
+
+-- one instruction more, of several
+pub all-more : (is : List Instruction) (d : Instruction) (k at : ℕ) (xs l l' : List ℕ) → k < length is → 8 * at ≤ length xs
+    → l ≡ put_at (8 * at) (encoded (take k is)) xs → l' ≡ put_at (8 * (at + k)) (encoded (get_or is k d ∷ [])) l
+    → l' ≡ put_at (8 * at) (encoded (take (k + 1) is)) xs
+all-more is d k at xs l l' h e a b =
+    put-more at (at + k) (take k is) (get_or is k d ∷ []) xs l l' e (omega (arith, length-take-le k is (omega arith))) a b
+    ∙ ap (λ (z : List Instruction). put_at (8 * at) (encoded z) xs) (sym (take-suc is k d h) ∙ ap (λ (n : ℕ). take n is) (sym (add-one k)))
 
 -- one item more, of those from item number `at` on
 pub items_more : (g : ℕ → ℕ → ℕ) (k at : ℕ) (xs l l' : List ℕ) → 32 * at ≤ length xs

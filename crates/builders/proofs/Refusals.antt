@@ -7,10 +7,18 @@ use native.Mathlib.Decide.{dec_le, ℕ_discrete}
 use native.Mathlib.Omega.{arith}
 use lib.Dec.{eqb, ltb}
 use borrow.Author.Tests.{eq-eqb, ne_eqb, ltb-false, lt-ltb, le-ltb}
+use Rattle.bits.specs.declared.refusals.Refusal.{Refusal}
+use Rattle.bits.specs.Refusals.{number_of_refusal}
+use Rattle.bits.proofs.RefusalLaws.{number-never-zero}
 use Rattle.bits.specs.Rows.{FirstRow}
 use Rattle.bits.proofs.Rows.{or-none, none_number, number-none, first-number, number-first, row-off}
 use Rattle.builders.specs.Field.{beyond}
 use Rattle.builders.specs.Sums.{crosses, Clear, Fields, list_length, field_rows, fields_fault}
+
+-- ---- every reason has a number
+
+pub numbered : (r : Refusal) → number_of_refusal r ≡ 0 → ⊥
+numbered r h = true≢false (sym (eq-eqb (number_of_refusal r) 0 h) ∙ number-never-zero r)
 
 -- ---- the table: number n is given exactly if row n is the first that holds
 

@@ -5,10 +5,17 @@ use Prim.Native.Nat.{ℕ}
 use native.Mathlib.Decide.{ℕ_discrete}
 use lib.ListN.{length}
 use borrow.Author.Tests.{eq-eqb, ne_eqb}
+use Rattle.std.specs.Prelude.{Result, Ok, Err}
+use Rattle.std.specs.Result.{IsErrAnd}
+use Rattle.bits.specs.declared.refusals.Refusal.{Refusal}
+use Rattle.bits.specs.Refusals.{number_of_refusal}
 use Rattle.bits.specs.Steps.{put_at}
 use Rattle.bits.proofs.Puts.{put_front}
-use Rattle.builders.specs.declared.BuiltTwo.{BuiltTwo}
+use Rattle.builders.specs.Building.{BuiltTwo}
 use Rattle.builders.specs.Building.{BuiltTwoLeft, built_two}
+use Rattle.builders.specs.declared.Sizes.{Sizes}
+use Rattle.builders.specs.Results.{built_two_of}
+use Rattle.builders.proofs.Refusals.{numbered}
 
 module _ (fault : ℕ) (bytes item_bytes list items : List ℕ) where
   -- refused: both buffers as they were, and both counts 0
@@ -19,6 +26,12 @@ module _ (fault : ℕ) (bytes item_bytes list items : List ℕ) where
   two-refused number e u =
       ap (λ (n : ℕ). record { answer = record { number = n; list = 0; items = 0 }; list = list; items = items }) e
       ∙ sym (simp (ne_eqb fault 0 (λ z. u (e ∙ z))))
+
+  -- so for a reason of that number
+  pub two-err : (r : Result Sizes Refusal) (x : Refusal) → IsErrAnd r (λ e. e ≡ x) → number_of_refusal x ≡ fault
+      → ◌≡◌ {A = BuiltTwoLeft} (record { answer = built_two_of r; list = list; items = items }) (built_two fault bytes item_bytes list items)
+  two-err (Ok n) x p e = absurd p
+  two-err (Err r) x p e = two-refused (number_of_refusal r) (ap number_of_refusal p ∙ e) (numbered r)
 
   -- done: each buffer has its bytes at the front, and they are counted
   pub two-done : (number : ℕ) → number ≡ fault → number ≡ 0

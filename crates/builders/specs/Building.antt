@@ -1,13 +1,16 @@
 -- What a builder leaves: its answer, and its buffers afterwards; of a list alone, and of a list with its items. Document 01, Sum and difference lists; document 02, One and Five.
 use Rattle.std.specs.Prelude.{cond, List, ◌++◌, ℕ, eqb, length, drop}
-use Rattle.builders.specs.declared.Built.{Built}
-use Rattle.builders.specs.declared.BuiltTwo.{BuiltTwo}
 
 -- A buffer with these bytes at its front, and behind them as it was.
 abbrev pub fronted : List ℕ → List ℕ → List ℕ
 fronted bytes buffer = bytes ++ drop (length bytes) buffer
 
 -- ---- a list
+
+-- 0 and the count of the bytes written, or the number of a refusal and 0.
+pub record Built : Type 0 where
+  pub number : ℕ
+  pub count : ℕ
 
 -- The answer, and the list's buffer afterwards.
 pub record BuiltLeft : Type 0 where
@@ -22,6 +25,12 @@ built_with number bytes buffer =
     (record { answer = record { number = number; count = 0 }; list = buffer })
 
 -- ---- a list with its items
+
+-- 0 and the counts of the bytes written to each, or the number of a refusal and zeros.
+pub record BuiltTwo : Type 0 where
+  pub number : ℕ
+  pub list : ℕ
+  pub items : ℕ
 
 -- The answer, and both buffers afterwards.
 pub record BuiltTwoLeft : Type 0 where

@@ -3,6 +3,8 @@ use Rattle.std.specs.Prelude.{Bool, true, false, not, ◌||◌, List, [], ◌∷
 use Rattle.bits.specs.Bits.{digit}
 use Rattle.bits.specs.Rows.{Row, row, number_of}
 use Rattle.judge.specs.declared.Instruction.{Instruction}
+use Rattle.builders.specs.declared.search_rounds.Search.{Search}
+use Rattle.builders.specs.declared.search_rounds.Search.TheVariants.{Equal, Less}
 use Rattle.builders.specs.Lists.{instruction, logic_from, logic_at, take_y, encoded, rounds, items_of}
 use Rattle.builders.specs.Field.{wrong_width, beyond}
 use Rattle.builders.specs.Building.{BuiltLeft, built_with, BuiltTwoLeft, built_two}
@@ -31,6 +33,11 @@ below g = logic_at g (16 * 3 + 5)
 -- Y takes the marks.
 abbrev pub move_x : Instruction
 move_x = logic_from 2 (16 * 1 + 10)
+
+-- Is a search the one for less?
+abbrev pub is_less : Search → Bool
+is_less Equal = false
+is_less Less = true
 
 -- The search for less, or else the one for equal: how X starts, and what it becomes where bit g differs.
 abbrev pub started : Bool → Instruction

@@ -2,23 +2,27 @@
 #![tactic(auto)]
 
 pub mod field;
+pub mod instructions;
 mod search_rounds;
 pub mod searches;
 mod sum_rounds;
 pub mod sums;
 pub mod writing;
 
-// What a builder gives back: 0 and the count of the bytes written, or the number of a refusal and 0.
-#[derive(Clone, Copy)]
-pub struct Built {
-    pub number: u8,
-    pub count: usize,
-}
+ghost use Rattle.std.specs.Prelude.{◌≡◌, ◌||◌, ltb};
 
-// What a builder of a list with its items gives back: 0 and the counts of the bytes written to each, or the number of a refusal and zeros.
-#[derive(Clone, Copy)]
-pub struct BuiltTwo {
-    pub number: u8,
+// How many bytes a builder of a list with its items has written to each.
+#[derive(Clone, Copy, Debug, PartialEq, Eq)]
+pub struct Sizes {
     pub list: usize,
     pub items: usize,
+}
+
+impl Sizes {
+    // Is either less than it needs to be?
+    pub fn lacks(self, need: Sizes) -> bool
+        ensures { result ≡ (ltb self.list need.list || ltb self.items need.items) }
+    {
+        self.list < need.list || self.items < need.items
+    }
 }

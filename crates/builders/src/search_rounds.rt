@@ -1,27 +1,19 @@
 // The items of a number, and the instructions of the three searches, for fields that no number refuses.
-ghost use Rattle.std.specs.Prelude.{◌≡◌, [], ◌∷◌, ◌+◌, ◌*◌, ◌^◌, ◌<◌, ◌≤◌, length};
+ghost use Rattle.std.specs.Prelude.{◌≡◌, ◌+◌, ◌*◌, ◌^◌, ◌<◌, ◌≤◌, length};
 ghost use Rattle.bits.specs.Bits.{digit, item};
 ghost use Rattle.bits.specs.Steps.{put_at};
-ghost use Rattle.builders.specs.Lists.{encoded, rounds};
+ghost use Rattle.builders.specs.Lists.{encoded};
 ghost use Rattle.builders.specs.Field.{Field};
-ghost use Rattle.builders.specs.Searches.{started, decided, search_round, search_rounds, search_list, search_length, number_items, items_length};
-ghost use Rattle.builders.specs.Searches.{or_flipped, greatest_round, greatest_rounds, greatest_list, greatest_length};
+ghost use Rattle.builders.specs.Searches.{is_less, started, decided, search_round, search_list, search_length, number_items, items_length};
+ghost use Rattle.builders.specs.Searches.{or_flip, greatest_round, greatest_rounds, greatest_list, greatest_length};
 
+use crate::instructions::{CLEAR_X, TAKE_MARKED, TAKE_Y, UNSAID, logic_at, logic_from};
 use crate::writing;
 use judge::Instruction;
+use judge::kinds::{LOGIC, OUTSIDE, X};
 
-// Sources.
-const X: u8 = 2;
-
-const OUTSIDE: u8 = 4;
-
-// Byte 7, 16 times the choice plus the function: X everywhere to 0, or to 1; Y takes the source, or is 1 where they differ; where Y is 1, X to 0, or to what
-// the source is not.
-const CLEAR_X: u8 = 0;
-
+// Byte 7, 16 times the choice plus the function: X everywhere to 1; Y is 1 where it differs from the source; where Y is 1, X to 0, or to what the source is not.
 const SET_X: u8 = 15;
-
-const TAKE: u8 = 16 + 10;
 
 const DIFFERS: u8 = 16 + 6;
 
@@ -29,9 +21,7 @@ const UNEQUAL: u8 = 16 * 3;
 
 const BELOW: u8 = 16 * 3 + 5;
 
-// And of greatest: where Y is 1, X takes the source; X or the source; X without the source; both registers without it.
-const TAKE_MARKED: u8 = 16 * 3 + 10;
-
+// And of greatest: X or the source; X without the source; both registers without it.
 const OR: u8 = 14;
 
 const WITHOUT: u8 = 4;
@@ -57,141 +47,101 @@ pub fn put_number(items: &mut [u8], number: u64, n: u32)
     requires { (n ≤ 64) × (items_length n ≤ length items.old) }
     ensures { items.new ≡ put_at 0 (number_items number n) items.old }
 {
-    let mut k: u32 = 0;
-    while k < n {
-        let item = bit_item(number, k);
-        writing::put_item(items, k as usize, &item);
-        k += 1;
+    for k in 0..n {
+        writing::put_item(items, k as usize, &bit_item(number, k));
     }
 }
 
 // ---- equal and less
 
-// How X starts.
-fn put_started(list: &mut [u8], less: bool)
-    requires { 8 ≤ length list.old }
-    ensures { list.new ≡ put_at 0 (encoded (started less ∷ [])) list.old }
-{
-    if less {
-        writing::put_logic_from(list, 0, X, CLEAR_X);
-    } else {
-        writing::put_logic_from(list, 0, X, SET_X);
+// A search that compares with a number.
+#[derive(Clone, Copy, Debug, PartialEq, Eq)]
+pub enum Search {
+    Equal,
+    Less,
+}
+
+impl Search {
+    // How X starts.
+    fn started(self) -> Instruction
+        ensures { result ≡ started (is_less self) }
+    {
+        match self {
+            Search::Equal => logic_from(X, SET_X),
+            Search::Less => logic_from(X, CLEAR_X),
+        }
     }
-}
 
-// What X becomes where bit `g` differs, as instruction number `at`.
-fn put_decided(list: &mut [u8], at: usize, less: bool, g: u8)
-    requires { 8 * at + 8 ≤ length list.old }
-    ensures { list.new ≡ put_at (8 * at) (encoded (decided less g ∷ [])) list.old }
-{
-    if less {
-        writing::put_logic_at(list, at, g, BELOW);
-    } else {
-        writing::put_logic_from(list, at, X, UNEQUAL);
+    // What X becomes where bit `g` differs.
+    fn decided(self, g: u8) -> Instruction
+        ensures { result ≡ decided (is_less self) g }
+    {
+        match self {
+            Search::Equal => logic_from(X, UNEQUAL),
+            Search::Less => logic_at(g, BELOW),
+        }
     }
-}
 
-// The three instructions of one bit, from instruction number `at` on.
-fn put_search_round(list: &mut [u8], at: usize, less: bool, g: u8)
-    requires { 8 * at + 24 ≤ length list.old }
-    ensures { list.new ≡ put_at (8 * at) (encoded (search_round less g)) list.old }
-{
-    writing::put_logic_from(list, at, OUTSIDE, TAKE);
-    writing::put_logic_at(list, at + 1, g, DIFFERS);
-    put_decided(list, at + 2, less, g);
-}
-
-// Those of all bits, lowest first, behind the list's first instruction.
-fn put_search_rounds(list: &mut [u8], less: bool, a: u32, n: u32)
-    requires { Field a n × (search_length n ≤ length list.old) }
-    ensures { list.new ≡ put_at (8 * 1) (encoded (search_rounds less a n)) list.old }
-{
-    let mut k: u32 = 0;
-    while k < n {
-        put_search_round(list, 1 + 3 * k as usize, less, (a + k) as u8);
-        k += 1;
+    // The three instructions of one bit.
+    fn round(self, g: u8) -> [Instruction; 3]
+        ensures { result ≡ search_round (is_less self) g }
+    {
+        [
+            logic_from(OUTSIDE, TAKE_Y),
+            logic_at(g, DIFFERS),
+            self.decided(g),
+        ]
     }
-}
 
-// The whole list of a search: for less, or else for equal.
-pub fn put_search(list: &mut [u8], less: bool, a: u32, n: u32)
-    requires { Field a n × (search_length n ≤ length list.old) }
-    ensures { list.new ≡ put_at 0 (encoded (search_list less a n)) list.old }
-{
-    put_started(list, less);
-    put_search_rounds(list, less, a, n);
-    writing::put_logic_from(list, 1 + 3 * n as usize, X, TAKE);
+    // The whole list: those of all bits, lowest first, between its first instruction and its last.
+    pub fn put_list(self, list: &mut [u8], a: u32, n: u32)
+        requires { Field a n × (search_length n ≤ length list.old) }
+        ensures { list.new ≡ put_at 0 (encoded (search_list (is_less self) a n)) list.old }
+    {
+        writing::put(list, 0, self.started());
+        for k in 0..n {
+            writing::put_all(list, 1 + 3 * k as usize, &self.round((a + k) as u8));
+        }
+        writing::put(list, 1 + 3 * n as usize, logic_from(X, TAKE_Y));
+    }
 }
 
 // ---- greatest
 
-// 2^`e`, as a byte.
-fn pow2(e: u32) -> u8
+// X or X flipped by 2^`e`.
+fn or_flip(e: u32) -> Instruction
     requires { e < 8 }
-    ensures { result ≡ 2 ^ e }
+    ensures { result ≡ or_flip e }
 {
-    1u8 << e
-}
-
-// X or X flipped by 2^`e`, as instruction number `at`.
-fn put_or_flipped(list: &mut [u8], at: usize, e: u32)
-    requires { (8 * at + 8 ≤ length list.old) × (e < 8) }
-    ensures { list.new ≡ put_at (8 * at) (encoded (or_flipped e)) list.old }
-{
-    let i = Instruction {
-        kind: 0,
+    Instruction {
+        kind: LOGIC,
         source: X,
-        tag: 0,
-        mode: 0,
-        addr: 0,
-        flip: pow2(e),
-        code: 0,
+        flip: 1 << e,
         logic: OR,
-    };
-    writing::put(list, at, i);
-}
-
-// The eight that bring X to every line, from instruction number `at` on.
-fn put_flips(list: &mut [u8], at: usize)
-    requires { 8 * at + 64 ≤ length list.old }
-    ensures { list.new ≡ put_at (8 * at) (encoded (rounds or_flipped 8)) list.old }
-{
-    let mut e: u32 = 0;
-    while e < 8 {
-        put_or_flipped(list, at + e as usize, e);
-        e += 1;
+        ..UNSAID
     }
 }
 
-// The eleven instructions of one bit, from instruction number `at` on.
+// The eleven instructions of one bit, from instruction number `at` on: eight of them bring X to every line.
 fn put_greatest_round(list: &mut [u8], at: usize, g: u8)
     requires { 8 * at + 88 ≤ length list.old }
     ensures { list.new ≡ put_at (8 * at) (encoded (greatest_round g)) list.old }
 {
-    writing::put_logic_at(list, at, g, TAKE_MARKED);
-    put_flips(list, at + 1);
-    writing::put_logic_at(list, at + 9, g, WITHOUT);
-    writing::put_logic_from(list, at + 10, X, UNMARK);
-}
-
-// Those of all bits, highest first, behind the list's first instruction.
-fn put_greatest_rounds(list: &mut [u8], a: u32, n: u32)
-    requires { Field a n × (greatest_length n ≤ length list.old) }
-    ensures { list.new ≡ put_at (8 * 1) (encoded (greatest_rounds a n n)) list.old }
-{
-    let mut round: u32 = 0;
-    while round < n {
-        let g = a + (n - (round + 1));
-        put_greatest_round(list, 1 + 11 * round as usize, g as u8);
-        round += 1;
+    writing::put(list, at, logic_at(g, TAKE_MARKED));
+    for e in 0..8 {
+        writing::put(list, at + 1 + e as usize, or_flip(e));
     }
+    writing::put_all(list, at + 9, &[logic_at(g, WITHOUT), logic_from(X, UNMARK)]);
 }
 
-// The whole list of greatest.
+// The whole list of greatest: the rounds of all bits, highest first, behind its first instruction.
 pub fn put_greatest(list: &mut [u8], a: u32, n: u32)
     requires { Field a n × (greatest_length n ≤ length list.old) }
     ensures { list.new ≡ put_at 0 (encoded (greatest_list a n)) list.old }
 {
-    writing::put_logic_from(list, 0, X, CLEAR_X);
-    put_greatest_rounds(list, a, n);
+    writing::put(list, 0, logic_from(X, CLEAR_X));
+    for round in 0..n {
+        let g = a + (n - (round + 1));
+        put_greatest_round(list, 1 + 11 * round as usize, g as u8);
+    }
 }

@@ -1,16 +1,21 @@
 // The lists that add two fields and that take one off another. Document 01, Sum and difference lists.
-ghost use Rattle.std.specs.Prelude.{◌≡◌, ◌<◌};
-ghost use Rattle.builders.specs.Sums.{crosses, list_length, fields_fault, sum_built, difference_built};
+ghost use Rattle.std.specs.Prelude.{◌≡◌, ◌<◌, ◌++◌, length};
+ghost use Rattle.bits.specs.Refusals.{number_given};
+ghost use Rattle.builders.specs.Lists.{encoded};
+ghost use Rattle.builders.specs.Building.{built_with};
+ghost use Rattle.builders.specs.Results.{built_of};
+ghost use Rattle.builders.specs.Sums.{crosses, list_length, bit_rounds, fields_fault, sum_built, difference_built};
 
-use crate::field::{beyond, wrong_width};
-use crate::{Built, sum_rounds};
-use bits::choices::number_or;
+use crate::field::{beyond, meets, wrong_width};
+use crate::sum_rounds::{READ, READ_TURNED, clear, put_fields, set_y};
+use bits::refusals::Refusal;
+use judge::Instruction;
 
 // Does a field that starts at `s` overlap one that starts at `a` without having its start?
 fn crosses(s: u32, a: u32, n: u32) -> bool
     ensures { result ≡ crosses s a n }
 {
-    !(s == a) & ((s as u64) < a as u64 + n as u64) & ((a as u64) < s as u64 + n as u64)
+    s != a && meets(a, s, n)
 }
 
 // The bytes of a list with `lead` instructions before the first bit's.
@@ -21,49 +26,69 @@ fn list_length(lead: usize, n: u32) -> usize
     8 * (lead + 5 * n as usize)
 }
 
-// The number of a refusal, 30 to 33: 0 where there is none.
-fn fields_fault(lead: usize, a: u32, b: u32, s: u32, n: u32, have: usize) -> u8
+// Fields A, B and S, each of `n` bits from its start on.
+#[derive(Clone, Copy)]
+struct Fields {
+    a: u32,
+    b: u32,
+    s: u32,
+    n: u32,
+}
+
+// Why the fields are refused, or the list's buffer of `have` bytes: 30 to 33.
+#[tactic(auto, unfolding(crate::specs::Sums::fields_fault))]
+fn fields_fault(lead: usize, f: Fields, have: usize) -> Result<(), Refusal>
     requires { lead < 3 }
-    ensures { result ≡ fields_fault lead a b s n have }
+    ensures { number_given result ≡ fields_fault lead f.a f.b f.s f.n have }
 {
-    let from33 = number_or(have < list_length(lead, n), 33, 0);
-    let from32 = number_or(crosses(s, a, n) | crosses(s, b, n), 32, from33);
-    let from31 = number_or(beyond(a, n) | beyond(b, n) | beyond(s, n), 31, from32);
-    number_or(wrong_width(n), 30, from31)
+    if wrong_width(f.n, 64) {
+        return Err(Refusal::Width);
+    }
+    if beyond(f.a, f.n) || beyond(f.b, f.n) || beyond(f.s, f.n) {
+        return Err(Refusal::FieldBeyond);
+    }
+    if crosses(f.s, f.a, f.n) || crosses(f.s, f.b, f.n) {
+        return Err(Refusal::FieldsCross);
+    }
+    if have < list_length(lead, f.n) {
+        return Err(Refusal::ListTooShort);
+    }
+    Ok(())
+}
+
+// The list of `lead` and of the rounds in which B is read with `byte7`.
+fn fields_list(
+    lead: &[Instruction],
+    byte7: u8,
+    f: Fields,
+    list: &mut [u8],
+) -> Result<usize, Refusal>
+    requires { length lead.now < 3 }
+    ensures { record { answer = built_of result; list = list.new }
+        ≡ built_with (fields_fault (length lead.now) f.a f.b f.s f.n (length list.old)) (encoded (lead.now ++ bit_rounds byte7 f.a f.b f.s f.n)) list.old }
+{
+    fields_fault(lead.len(), f, list.len())?;
+    put_fields(list, lead, byte7, f.a, f.b, f.s, f.n);
+    Ok(list_length(lead.len(), f.n))
 }
 
 // The list that adds field A and field B into field S, each of `n` bits from its start on.
-pub fn sum_list(a: u32, b: u32, s: u32, n: u32, list: &mut [u8]) -> Built
-    ensures { record { answer = result; list = list.new } ≡ sum_built a b s n list.old }
+#[tactic(auto, unfolding(crate::specs::Sums::sum_built))]
+pub fn sum_list(a: u32, b: u32, s: u32, n: u32, list: &mut [u8]) -> Result<usize, Refusal>
+    ensures { record { answer = built_of result; list = list.new } ≡ sum_built a b s n list.old }
 {
-    let number = fields_fault(1, a, b, s, n, list.len());
-    if number != 0 {
-        return Built {
-            number: number,
-            count: 0,
-        };
-    }
-    sum_rounds::put_sum(list, a, b, s, n);
-    Built {
-        number: 0,
-        count: list_length(1, n),
-    }
+    fields_list(&[clear()], READ, Fields { a, b, s, n }, list)
 }
 
 // The list that takes field B off field A into field S.
-pub fn difference_list(a: u32, b: u32, s: u32, n: u32, list: &mut [u8]) -> Built
-    ensures { record { answer = result; list = list.new } ≡ difference_built a b s n list.old }
+#[tactic(auto, unfolding(crate::specs::Sums::difference_built))]
+pub fn difference_list(a: u32, b: u32, s: u32, n: u32, list: &mut [u8]) -> Result<usize, Refusal>
+    ensures { record { answer = built_of result; list = list.new } ≡ difference_built a b s n list.old }
 {
-    let number = fields_fault(2, a, b, s, n, list.len());
-    if number != 0 {
-        return Built {
-            number: number,
-            count: 0,
-        };
-    }
-    sum_rounds::put_difference(list, a, b, s, n);
-    Built {
-        number: 0,
-        count: list_length(2, n),
-    }
+    fields_list(
+        &[clear(), set_y()],
+        READ_TURNED,
+        Fields { a, b, s, n },
+        list,
+    )
 }

@@ -1,17 +1,17 @@
 // The items of closing and spreading, from the marks: for each round the mask of the words at which values arrive.
 ghost use Rattle.std.specs.Prelude.{◌≡◌, cond, ◌+◌, ◌-◌, ◌*◌, ◌/◌, ◌%◌, ◌^◌, ◌<◌, ◌≤◌, eqb, ltb, length, get_or, take, drop, set};
-ghost use Rattle.std.specs.Int.Count.{ones};
-ghost use Rattle.bits.specs.Bits.{digit, bit_of, item};
+ghost use Rattle.bits.specs.Bits.{digit, item};
 ghost use Rattle.bits.specs.Steps.{put_at};
-ghost use Rattle.closing.specs.Closing.{marked, rank, arrivals, closing_item, closing_items, closing_items_length, spreading_item, spreading_items, spreading_items_length};
+ghost use Rattle.closing.specs.Closing.{marked, arrivals, closing_item, closing_items, closing_items_length, spreading_item, spreading_items, spreading_items_length};
 ghost use Rattle.builders.specs.Lists.{items_of};
 
-use bits::copies::item_of;
+use crate::fields::Fields;
 use builders::writing;
+use registers::resolver::count_responders;
 
 // Is word `w` marked?
-fn is_marked(marks: &[u8], w: usize) -> bool
-    requires { (length marks.now ≡ 32) × (w < 256) }
+fn is_marked(marks: &[u8; 32], w: usize) -> bool
+    requires { w < 256 }
     ensures { result ≡ marked marks.now w }
 {
     (marks[w / 8] >> (w % 8)) % 2 == 1
@@ -38,18 +38,18 @@ fn add_line(out: &mut [u8; 32], p: usize)
     requires { (p < 256) × (get_or out.old (p / 8) 0 + 2 ^ (p % 8) < 256) }
     ensures { out.new ≡ set out.old (p / 8) (get_or out.old (p / 8) 0 + 2 ^ (p % 8)) }
 {
-    out[p / 8] = out[p / 8] + (1u8 << (p % 8));
+    out[p / 8] += 1 << (p % 8);
 }
 
 // The mask of the round of weight 2^`t`: the words at which values arrive, `u` being `t` + 1 in a closing and `t` in a spreading. No two arrive at one, so adding sets a bit.
-fn arrivals(marks: &[u8], t: usize, u: usize) -> [u8; 32]
-    requires { (length marks.now ≡ 32) × (t < 8) × (u ≤ 8) }
+// A loop over words: what is written and where is by the marks before, which `rank` counts.
+fn arrivals(marks: &[u8; 32], t: usize, u: usize) -> [u8; 32]
+    requires { (t < 8) × (u ≤ 8) }
     ensures { result ≡ item (arrivals (marked marks.now) t u) }
 {
     let mut out = [0u8; 32];
     let mut rank: usize = 0;
-    let mut w: usize = 0;
-    while w < 256 {
+    for w in 0..256 {
         if is_marked(marks, w) {
             let d = w - rank;
             if has_weight(d, t) {
@@ -57,7 +57,6 @@ fn arrivals(marks: &[u8], t: usize, u: usize) -> [u8; 32]
             }
             rank += 1;
         }
-        w += 1;
     }
     out
 }
@@ -70,80 +69,42 @@ fn from_count(count: usize) -> [u8; 32]
     ensures { result ≡ item (λ p. cond (ltb p count) 0 1) }
 {
     let mut out = [0u8; 32];
-    let mut p: usize = count;
-    while p < 256 {
+    for p in count..256 {
         add_line(&mut out, p);
-        p += 1;
     }
     out
 }
 
-// How many digits of a byte are 1. (A byte is below 2^8, which whoever reads one behind a reference learns here.)
-fn ones_of(x: u8) -> usize
-    ensures { (result ≡ ones x) × (x < 2 ^ 8) × (result ≤ 8) }
-{
-    u8::count_ones(x) as usize
-}
-
-// How many words are marked: the ones of each byte, added up.
-fn marks_count(marks: &[u8]) -> usize
-    requires { length marks.now ≡ 32 }
-    ensures { (result ≡ rank (marked marks.now) 256) × (result ≤ 256) }
-{
-    let mut count: usize = 0;
-    let mut i: usize = 0;
-    while i < 32 {
-        count += ones_of(marks[i]);
-        i += 1;
-    }
-    count
-}
-
 // The masks of the eight rounds, lowest weight first.
-fn put_closing_masks(items: &mut [u8], marks: &[u8])
-    requires { (length marks.now ≡ 32) × (closing_items_length ≤ length items.old) }
+fn put_closing_masks(items: &mut [u8], marks: &[u8; 32])
+    requires { closing_items_length ≤ length items.old }
     ensures { items.new ≡ put_at 0 (items_of (closing_item (marked marks.now)) 8) items.old }
 {
-    let mut t: usize = 0;
-    while t < 8 {
-        let mask = arrivals(marks, t, t + 1);
-        writing::put_item(items, t, &mask);
-        t += 1;
+    for t in 0..8 {
+        writing::put_item(items, t, &arrivals(marks, t, t + 1));
     }
 }
 
 // All nine items.
-pub fn put_closing_items(items: &mut [u8], marks: &[u8])
-    requires { (length marks.now ≡ 32) × (closing_items_length ≤ length items.old) }
+#[inline(never)]
+pub fn put_closing_items(items: &mut [u8], marks: &[u8; 32])
+    requires { closing_items_length ≤ length items.old }
     ensures { items.new ≡ put_at 0 (closing_items marks.now) items.old }
 {
     put_closing_masks(items, marks);
-    let cleared = from_count(marks_count(marks));
-    writing::put_item(items, 8, &cleared);
+    writing::put_item(items, 8, &from_count(count_responders(marks)));
 }
 
 // ---- the items of a spreading
 
-// The marks as an item.
-fn marks_item(marks: &[u8]) -> [u8; 32]
-    requires { length marks.now ≡ 32 }
-    ensures { result ≡ item (bit_of marks.now) }
-{
-    item_of(marks)
-}
-
 // Item 0, and the masks of the first slice's eight rounds, highest weight first.
-fn put_first_masks(items: &mut [u8], marks: &[u8])
-    requires { (length marks.now ≡ 32) × (32 * 9 ≤ length items.old) }
+fn put_first_masks(items: &mut [u8], marks: &[u8; 32])
+    requires { 32 * 9 ≤ length items.old }
     ensures { items.new ≡ put_at 0 (items_of (spreading_item marks.now) 9) items.old }
 {
-    let front = marks_item(marks);
-    writing::put_item(items, 0, &front);
-    let mut k: usize = 0;
-    while k < 8 {
-        let mask = arrivals(marks, 7 - k, 7 - k);
-        writing::put_item(items, 1 + k, &mask);
-        k += 1;
+    writing::put_item(items, 0, marks);
+    for k in 0..8 {
+        writing::put_item(items, 1 + k, &arrivals(marks, 7 - k, 7 - k));
     }
 }
 
@@ -152,19 +113,16 @@ fn repeat_item(items: &mut [u8], k: usize)
     requires { (9 ≤ k) × (32 * k + 32 ≤ length items.old) }
     ensures { items.new ≡ put_at (32 * k) (take 32 (drop (32 * (k - 8)) items.old)) items.old }
 {
-    let mask = item_of(&items[32 * (k - 8)..32 * (k - 8) + 32]);
-    writing::put_item(items, k, &mask);
+    items.copy_within(32 * (k - 8)..32 * (k - 8) + 32, 32 * k);
 }
 
-// All items for `n` slices: each behind the first has its masks.
-pub fn put_spreading_items(items: &mut [u8], marks: &[u8], n: u32)
-    requires { (length marks.now ≡ 32) × (1 ≤ n) × (n ≤ 32) × (spreading_items_length n ≤ length items.old) }
-    ensures { items.new ≡ put_at 0 (spreading_items marks.now n) items.old }
+// All items for the slices: each behind the first has its masks.
+pub fn put_spreading_items(items: &mut [u8], marks: &[u8; 32], f: Fields)
+    requires { spreading_items_length f.n ≤ length items.old }
+    ensures { items.new ≡ put_at 0 (spreading_items marks.now f.n) items.old }
 {
     put_first_masks(items, marks);
-    let mut k: usize = 9;
-    while k < 1 + 8 * n as usize {
+    for k in 9..1 + 8 * f.n as usize {
         repeat_item(items, k);
-        k += 1;
     }
 }

@@ -1,27 +1,21 @@
 // The instructions of closing and spreading, for fields that no number refuses.
-ghost use Rattle.std.specs.Prelude.{◌≡◌, [], ◌∷◌, ◌+◌, ◌*◌, ◌<◌, ◌≤◌, length};
+ghost use Rattle.std.specs.Prelude.{◌≡◌, ◌+◌, ◌*◌, ◌<◌, ◌≤◌, length};
 ghost use Rattle.bits.specs.Steps.{put_at};
 ghost use Rattle.builders.specs.Lists.{encoded, rounds};
-ghost use Rattle.closing.specs.Closing.{FieldsApart, take_mask, take_further, store_masked, shift_masked};
-ghost use Rattle.closing.specs.Closing.{copy_slice, close_slice, close_round, clear_slice, closing_list, closing_length};
-ghost use Rattle.closing.specs.Closing.{spread_round, spread_bit, spread_slice, spreading_list, spreading_length};
+ghost use Rattle.closing.specs.Closing.{take_further, store_masked, shift_masked};
+ghost use Rattle.closing.specs.Closing.{copy_slice, close_round, clear_slice, closing_list, closing_length};
+ghost use Rattle.closing.specs.Closing.{spread_bit, spreading_list, spreading_length};
 
+use crate::fields::Fields;
+use builders::instructions::{
+    CLEAR_X, TAKE_MARKED, TAKE_Y, UNSAID, logic_at, logic_from, store_at,
+};
 use builders::writing;
 use judge::Instruction;
+use judge::kinds::{LOGIC, MASKED_STORE, OUTSIDE, SET_M, TAG_GIVEN, X};
 
-// Sources.
-const X: u8 = 2;
-
-const OUTSIDE: u8 = 4;
-
-// Byte 7, 16 times the choice plus the function: X everywhere to 0; X takes the source, or Y does; where Y is 1, X takes the source.
-const CLEAR_X: u8 = 0;
-
+// Byte 7, 16 times the choice plus the function: X takes the source.
 const TAKE_X: u8 = 10;
-
-const TAKE_Y: u8 = 16 + 10;
-
-const TAKE_MARKED: u8 = 16 * 3 + 10;
 
 // Byte 6 of a shift of 1 modulo 256; that of 2^t has t more.
 const SHIFT: u8 = 16 * 8;
@@ -29,204 +23,144 @@ const SHIFT: u8 = 16 * 8;
 // The flip that mirrors the words.
 const MIRROR: u8 = 255;
 
-// ---- single instructions, as instruction number `at`
+// ---- single instructions
 
 // M takes the next item.
-fn put_take_mask(list: &mut [u8], at: usize)
-    requires { 8 * at + 8 ≤ length list.old }
-    ensures { list.new ≡ put_at (8 * at) (encoded (take_mask ∷ [])) list.old }
-{
-    let i = Instruction {
-        kind: 1,
-        source: OUTSIDE,
-        tag: 0,
-        mode: 0,
-        addr: 0,
-        flip: 0,
-        code: 0,
-        logic: 0,
-    };
-    writing::put(list, at, i);
-}
+const TAKE_MASK: Instruction = Instruction {
+    kind: SET_M,
+    source: OUTSIDE,
+    ..UNSAID
+};
 
 // X takes bit `g` of the words 2^`t` further, mirrored.
-fn put_take_further(list: &mut [u8], at: usize, t: u8, g: u8)
-    requires { (8 * at + 8 ≤ length list.old) × (t < 8) }
-    ensures { list.new ≡ put_at (8 * at) (encoded (take_further t g ∷ [])) list.old }
+fn take_further(t: u8, g: u8) -> Instruction
+    requires { t < 8 }
+    ensures { result ≡ take_further t g }
 {
-    let i = Instruction {
-        kind: 0,
-        source: 0,
-        tag: 1,
-        mode: 0,
+    Instruction {
+        kind: LOGIC,
+        tag: TAG_GIVEN,
         addr: g,
         flip: MIRROR,
         code: SHIFT + t,
         logic: TAKE_X,
-    };
-    writing::put(list, at, i);
+        ..UNSAID
+    }
 }
 
 // X, flipped by `f`, to bit `g` of the words where M is 1.
-fn put_store_masked(list: &mut [u8], at: usize, f: u8, g: u8)
-    requires { 8 * at + 8 ≤ length list.old }
-    ensures { list.new ≡ put_at (8 * at) (encoded (store_masked f g ∷ [])) list.old }
+fn store_masked(f: u8, g: u8) -> Instruction
+    ensures { result ≡ store_masked f g }
 {
-    let i = Instruction {
-        kind: 3,
+    Instruction {
+        kind: MASKED_STORE,
         source: X,
-        tag: 1,
-        mode: 0,
+        tag: TAG_GIVEN,
         addr: g,
         flip: f,
-        code: 0,
-        logic: 0,
-    };
-    writing::put(list, at, i);
+        ..UNSAID
+    }
 }
 
 // Where Y is 1, X takes X of the words 2^`t` before.
-fn put_shift_masked(list: &mut [u8], at: usize, t: u8)
-    requires { (8 * at + 8 ≤ length list.old) × (t < 8) }
-    ensures { list.new ≡ put_at (8 * at) (encoded (shift_masked t ∷ [])) list.old }
+fn shift_masked(t: u8) -> Instruction
+    requires { t < 8 }
+    ensures { result ≡ shift_masked t }
 {
-    let i = Instruction {
-        kind: 0,
+    Instruction {
+        kind: LOGIC,
         source: X,
-        tag: 0,
-        mode: 0,
-        addr: 0,
-        flip: 0,
         code: SHIFT + t,
         logic: TAKE_MARKED,
-    };
-    writing::put(list, at, i);
+        ..UNSAID
+    }
 }
 
 // ---- closing
 
 // A to S, from the list's first instruction on.
-fn put_copies(list: &mut [u8], a: u32, s: u32, n: u32)
-    requires { FieldsApart a s n × (closing_length n ≤ length list.old) }
-    ensures { list.new ≡ put_at 0 (encoded (rounds (copy_slice a s) n)) list.old }
+// Loops, and `at` for an instruction's number, in all of this file: builders::writing says why.
+fn put_copies(list: &mut [u8], f: Fields)
+    requires { closing_length f.n ≤ length list.old }
+    ensures { list.new ≡ put_at 0 (encoded (rounds (copy_slice f.a f.s) f.n)) list.old }
 {
-    let mut k: u32 = 0;
-    while k < n {
-        writing::put_logic_at(list, 2 * k as usize, (a + k) as u8, TAKE_X);
-        writing::put_store_at(list, 2 * k as usize + 1, X, (s + k) as u8);
-        k += 1;
+    for k in 0..f.n {
+        let copy = [
+            logic_at((f.a + k) as u8, TAKE_X),
+            store_at(X, (f.s + k) as u8),
+        ];
+        writing::put_all(list, 2 * k as usize, &copy);
     }
 }
 
-// The bits of S in the round of weight 2^`t`, from instruction number `at` on.
-fn put_close_slices(list: &mut [u8], at: usize, t: u8, s: u32, n: u32)
-    requires { (8 * (at + 2 * n) ≤ length list.old) × (at ≤ 4096) × (t < 8) × (n ≤ 32) × (s + n ≤ 256) }
-    ensures { list.new ≡ put_at (8 * at) (encoded (rounds (close_slice t s) n)) list.old }
+// The round of weight 2^`t`, its mask and each bit of S, from instruction number `at` on.
+fn put_close_round(list: &mut [u8], at: usize, t: u8, f: Fields)
+    requires { (8 * (at + (1 + 2 * f.n)) ≤ length list.old) × (t < 8) }
+    ensures { list.new ≡ put_at (8 * at) (encoded (close_round f.s f.n t)) list.old }
 {
-    let mut k: u32 = 0;
-    while k < n {
-        put_take_further(list, at + 2 * k as usize, t, (s + k) as u8);
-        put_store_masked(list, at + 2 * k as usize + 1, MIRROR, (s + k) as u8);
-        k += 1;
+    writing::put(list, at, TAKE_MASK);
+    for k in 0..f.n {
+        let g = (f.s + k) as u8;
+        let slice = [take_further(t, g), store_masked(MIRROR, g)];
+        writing::put_all(list, at + 1 + 2 * k as usize, &slice);
     }
-}
-
-// One round, from instruction number `at` on.
-fn put_close_round(list: &mut [u8], at: usize, t: u8, s: u32, n: u32)
-    requires { (8 * (at + (1 + 2 * n)) ≤ length list.old) × (at ≤ 4095) × (t < 8) × (n ≤ 32) × (s + n ≤ 256) }
-    ensures { list.new ≡ put_at (8 * at) (encoded (close_round s n t)) list.old }
-{
-    put_take_mask(list, at);
-    put_close_slices(list, at + 1, t, s, n);
 }
 
 // The eight rounds, lowest weight first, from instruction number `at` on.
-fn put_close_rounds(list: &mut [u8], at: usize, s: u32, n: u32)
-    requires { (8 * (at + 8 * (1 + 2 * n)) ≤ length list.old) × (at ≤ 64) × (n ≤ 32) × (s + n ≤ 256) }
-    ensures { list.new ≡ put_at (8 * at) (encoded (rounds (close_round s n) 8)) list.old }
+fn put_close_rounds(list: &mut [u8], at: usize, f: Fields)
+    requires { 8 * (at + 8 * (1 + 2 * f.n)) ≤ length list.old }
+    ensures { list.new ≡ put_at (8 * at) (encoded (rounds (close_round f.s f.n) 8)) list.old }
 {
-    let mut t: u8 = 0;
-    while t < 8 {
-        put_close_round(list, at + t as usize * (1 + 2 * n as usize), t, s, n);
-        t += 1;
+    for t in 0..8u8 {
+        put_close_round(list, at + t as usize * (1 + 2 * f.n as usize), t, f);
     }
 }
 
 // Zero into the words to clear, from instruction number `at` on.
-fn put_clears(list: &mut [u8], at: usize, s: u32, n: u32)
-    requires { (8 * (at + n) ≤ length list.old) × (at ≤ 4096) × (n ≤ 32) × (s + n ≤ 256) }
-    ensures { list.new ≡ put_at (8 * at) (encoded (rounds (clear_slice s) n)) list.old }
+fn put_clears(list: &mut [u8], at: usize, f: Fields)
+    requires { 8 * (at + f.n) ≤ length list.old }
+    ensures { list.new ≡ put_at (8 * at) (encoded (rounds (clear_slice f.s) f.n)) list.old }
 {
-    let mut k: u32 = 0;
-    while k < n {
-        put_store_masked(list, at + k as usize, 0, (s + k) as u8);
-        k += 1;
+    for k in 0..f.n {
+        writing::put(list, at + k as usize, store_masked(0, (f.s + k) as u8));
     }
 }
 
 // The whole list of a closing.
-pub fn put_closing(list: &mut [u8], a: u32, s: u32, n: u32)
-    requires { FieldsApart a s n × (closing_length n ≤ length list.old) }
-    ensures { list.new ≡ put_at 0 (encoded (closing_list a s n)) list.old }
+#[inline(never)]
+pub fn put_closing(list: &mut [u8], f: Fields)
+    requires { closing_length f.n ≤ length list.old }
+    ensures { list.new ≡ put_at 0 (encoded (closing_list f.a f.s f.n)) list.old }
 {
-    let w = n as usize;
-    put_copies(list, a, s, n);
-    put_close_rounds(list, 2 * w, s, n);
-    put_take_mask(list, 8 + 18 * w);
-    writing::put_logic_from(list, 9 + 18 * w, X, CLEAR_X);
-    put_clears(list, 10 + 18 * w, s, n);
+    let w = f.n as usize;
+    put_copies(list, f);
+    put_close_rounds(list, 2 * w, f);
+    writing::put_all(list, 8 + 18 * w, &[TAKE_MASK, logic_from(X, CLEAR_X)]);
+    put_clears(list, 10 + 18 * w, f);
 }
 
 // ---- spreading
 
-// One round, that of weight 2^(7 - `k`), as two instructions from number `at` on.
-fn put_spread_round(list: &mut [u8], at: usize, k: u8)
-    requires { (8 * at + 16 ≤ length list.old) × (k < 8) }
-    ensures { list.new ≡ put_at (8 * at) (encoded (spread_round k)) list.old }
-{
-    writing::put_logic_from(list, at, OUTSIDE, TAKE_Y);
-    put_shift_masked(list, at + 1, 7 - k);
-}
-
-// The eight rounds, highest weight first.
-fn put_spread_rounds(list: &mut [u8], at: usize)
-    requires { 8 * at + 128 ≤ length list.old }
-    ensures { list.new ≡ put_at (8 * at) (encoded (rounds spread_round 8)) list.old }
-{
-    let mut k: u8 = 0;
-    while k < 8 {
-        put_spread_round(list, at + 2 * k as usize, k);
-        k += 1;
-    }
-}
-
-// The eighteen instructions of one bit: from bit `h` of S to bit `g` of A.
-fn put_spread_slice(list: &mut [u8], at: usize, g: u8, h: u8)
+// The eighteen instructions of one bit, from bit `h` of S to bit `g` of A: between the first and the last the eight rounds, highest weight first.
+fn put_spread_bit(list: &mut [u8], at: usize, g: u8, h: u8)
     requires { 8 * at + 144 ≤ length list.old }
     ensures { list.new ≡ put_at (8 * at) (encoded (spread_bit g h)) list.old }
 {
-    writing::put_logic_at(list, at, h, TAKE_X);
-    put_spread_rounds(list, at + 1);
-    put_store_masked(list, at + 17, 0, g);
-}
-
-// Those of all bits, behind the list's first instruction.
-fn put_spread_slices(list: &mut [u8], a: u32, s: u32, n: u32)
-    requires { FieldsApart a s n × (spreading_length n ≤ length list.old) }
-    ensures { list.new ≡ put_at (8 * 1) (encoded (rounds (spread_slice a s) n)) list.old }
-{
-    let mut k: u32 = 0;
-    while k < n {
-        put_spread_slice(list, 1 + 18 * k as usize, (a + k) as u8, (s + k) as u8);
-        k += 1;
+    writing::put(list, at, logic_at(h, TAKE_X));
+    for k in 0..8u8 {
+        let round = [logic_from(OUTSIDE, TAKE_Y), shift_masked(7 - k)];
+        writing::put_all(list, at + 1 + 2 * k as usize, &round);
     }
+    writing::put(list, at + 17, store_masked(0, g));
 }
 
-// The whole list of a spreading.
-pub fn put_spreading(list: &mut [u8], a: u32, s: u32, n: u32)
-    requires { FieldsApart a s n × (spreading_length n ≤ length list.old) }
-    ensures { list.new ≡ put_at 0 (encoded (spreading_list a s n)) list.old }
+// The whole list of a spreading: the marks, and each bit behind them.
+pub fn put_spreading(list: &mut [u8], f: Fields)
+    requires { spreading_length f.n ≤ length list.old }
+    ensures { list.new ≡ put_at 0 (encoded (spreading_list f.a f.s f.n)) list.old }
 {
-    put_take_mask(list, 0);
-    put_spread_slices(list, a, s, n);
+    writing::put(list, 0, TAKE_MASK);
+    for k in 0..f.n {
+        put_spread_bit(list, 1 + 18 * k as usize, (f.a + k) as u8, (f.s + k) as u8);
+    }
 }

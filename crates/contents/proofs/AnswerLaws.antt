@@ -7,7 +7,7 @@ use lib.Dec.{eqb}
 use borrow.Author.Tests.{ne_eqb, eq-eqb, eqb-true, eqb-false}
 use Rattle.bits.specs.Rows.{Row, number_of, NoRow, FirstRow}
 use Rattle.bits.proofs.Rows.{none_number, first-number}
-use Rattle.contents.specs.declared.Moved.{Moved}
+use Rattle.contents.specs.Moved.{Moved}
 use Rattle.contents.specs.File.{done, refused, file_judged}
 use Rattle.contents.specs.Content.{answered, read_answer, changed, ContentLeft}
 
@@ -25,7 +25,7 @@ refused-not a n p e u z = u (sym (ap (λ (x : Moved). x.number) e) ∙ z)
 
 -- ---- what is left, where the answer r is a: on a refusal the buffer as it was, else the new content
 
-abbrev leaving : Moved → List ℕ → ContentLeft
+abbrev pub leaving : Moved → List ℕ → ContentLeft
 leaving x l = record { answer = x; buffer = l }
 
 module _ (r a : Moved) (new old : List ℕ) (e : r ≡ a) where

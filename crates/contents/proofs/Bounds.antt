@@ -11,7 +11,7 @@ use borrow.Author.Tests.{leb-true, not-false}
 use Rattle.bits.specs.Rows.{Row, number_of}
 use Rattle.bits.proofs.Rows.{up_to, and_right, first-number, number-first, number-none, number-high}
 use Rattle.blocks.proofs.Numbers.{fault-le}
-use Rattle.contents.specs.declared.Moved.{Moved}
+use Rattle.contents.specs.Moved.{Moved}
 use Rattle.contents.specs.File.{is_picture, block_at, content_of, length_right, size_fits, file_judged, block_count}
 use Rattle.contents.specs.Content.{answered, read_answer, target_fits, content_fits, read_rows, write_rows}
 use Rattle.contents.proofs.FileLaws.{file-stands, size-le}

@@ -1,20 +1,22 @@
 -- Laws of judging a file: what each block and each test settles, what a file that stands has, and how its content is gathered. Assumes nothing.
 use mathlib.Core.Path.{◌≡◌, refl, sym, ap, ap₂, ◌∙◌}
-use mathlib.Core.Bool.{Bool, true, false, cond, not, ◌&&◌}
+use mathlib.Core.Bool.{Bool, true, false, cond, not, ◌&&◌, ◌||◌}
+use Rattle.std.proofs.lemmas.Bool.{false≢true}
 use mathlib.Core.List.{List, []}
 use Prim.Native.Nat.{ℕ, zero, suc, ◌+◌, ◌-◌, ◌*◌, ◌/◌, ◌%◌, ◌<◌, ◌≤◌}
 use native.Mathlib.Numerals.{add-one}
 use native.Mathlib.Decide.{dec_lt, ℕ_discrete}
 use native.Mathlib.Omega.{arith}
 use lib.Dec.{eqb, leb, ltb}
-use lib.ListN.{length, take, drop, length-drop, length-append}
-use lib.Seq.{length-take-le, take-length, take-append-le}
+use lib.ListN.{length, take, drop, get_or, length-drop, length-append}
+use lib.Seq.{length-take-le, take-length, take-append-le, drop-drop}
+use Rattle.std.specs.Simd.{first_chunks}
 use borrow.Author.Tests.{ne_eqb, eqb-true, eqb-false, leb-true, ltb-true}
 use Rattle.blocks.specs.Sums.{at}
 use Rattle.blocks.specs.Block.{two_at, fault, payload_of}
 use Rattle.bits.proofs.ByteLaws.{part_bytes}
 use Rattle.bits.proofs.Rows.{and_left, and_right}
-use Rattle.contents.specs.File.{done, refused, block_at, gathered, content_of, Verdict, good, bad, verdict, next, blocks_judged, kind_right, length_right, size_fits, settled, file_judged}
+use Rattle.contents.specs.File.{done, refused, block_at, gathered, content_of, Verdict, good, bad, verdict, next, blocks_judged, is_picture, kind_right, length_right, size_fits, settled, file_judged}
 
 -- ---- blocks of a file, and their content
 
@@ -22,6 +24,14 @@ pub block-part : (bytes : List ℕ) (i : ℕ) → take (512 * i + 512 - 512 * i)
 block-part bytes i =
     let e : 512 * i + 512 - 512 * i ≡ 512 = omega arith in
     ap (λ (k : ℕ). take k (drop (512 * i) bytes)) e
+
+-- the first k blocks, cut off one after the other
+pub chunk_is : (k : ℕ) (bytes : List ℕ) (i : ℕ) (d : List ℕ) → i < k → get_or (first_chunks 512 k bytes) i d ≡ block_at bytes i
+chunk_is zero bytes i d h = absurd (omega arith)
+chunk_is (suc k) bytes zero d h = refl
+chunk_is (suc k) bytes (suc i) d h =
+    let e : 512 * i + 512 ≡ 512 * suc i = omega arith in
+    chunk_is k (drop 512 bytes) i d (omega arith) ∙ ap (take 512) (drop-drop (512 * i) 512 bytes ∙ ap (λ (j : ℕ). drop j bytes) (omega arith))
 
 pub block-len : (bytes : List ℕ) (i : ℕ) → 512 * i + 512 ≤ length bytes → length (block_at bytes i) ≡ 512
 block-len bytes i h = length-take-le 512 (drop (512 * i) bytes) (omega (arith, length-drop (512 * i) bytes))
@@ -200,6 +210,30 @@ size-le kind size e = go (eqb kind 1) (eqb kind 4) (eqb kind 2) e
 pub kind-le : (kind : ℕ) → kind_right kind ≡ true → kind ≤ 4
 unfolding kind_right
 kind-le kind e = leb-true kind 4 (and_right (ltb 0 kind) (leb kind 4) e)
+
+-- what the size's test by a kind says of the kind's number
+pub asked_fits : {n kind : ℕ} {r t : Bool} (size : ℕ) → r ≡ size_fits n size → n ≡ kind → r ≡ t → size_fits kind size ≡ t
+asked_fits size f e b = sym (f ∙ ap (λ (k : ℕ). size_fits k size) e) ∙ b
+
+-- no number but 1 to 4 is that of a kind
+pub kind_none : (kind : ℕ) → (0 < kind → kind ≤ 4 → ⊥) → kind_right kind ≡ false
+unfolding kind_right
+kind_none kind u = go (ltb 0 kind) (leb kind 4) refl refl
+  where
+    go : (s t : Bool) → ltb 0 kind ≡ s → leb kind 4 ≡ t → (s && t) ≡ false
+    go true true es et = absurd (u (ltb-true 0 kind es) (leb-true kind 4 et))
+    go true false es et = refl
+    go false t es et = refl
+
+-- so none of a picture either
+pub picture_none : (kind : ℕ) → kind_right kind ≡ false → is_picture kind ≡ false
+unfolding kind_right
+picture_none kind h = go (eqb kind 1) (eqb kind 4) refl refl
+  where
+    go : (s t : Bool) → eqb kind 1 ≡ s → eqb kind 4 ≡ t → (s || t) ≡ false
+    go true t es et = absurd (false≢true (sym h ∙ ap (λ (k : ℕ). ltb 0 k && leb k 4) (eqb-true kind 1 es)))
+    go false true es et = absurd (false≢true (sym h ∙ ap (λ (k : ℕ). ltb 0 k && leb k 4) (eqb-true kind 4 et)))
+    go false false es et = refl
 
 pub whole : (n : ℕ) → length_right n ≡ true → n % 512 ≡ 0
 unfolding length_right

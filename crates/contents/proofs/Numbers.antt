@@ -11,7 +11,7 @@ use Rattle.bits.specs.Rows.{Row, number_of, NoRow, FirstRow}
 use Rattle.bits.proofs.Rows.{numbered, none_number, number-none, number-first}
 use Rattle.blocks.specs.Block.{fault}
 use Rattle.blocks.proofs.Numbers.{fault-first, first-fault}
-use Rattle.contents.specs.declared.Moved.{Moved}
+use Rattle.contents.specs.Moved.{Moved}
 use Rattle.contents.specs.File.{done, refused, block_at, content_of, size_fits}
 use Rattle.contents.specs.Content.{answered, read_answer}
 use Rattle.contents.specs.Numbers.{Answers, Sound, ReadRefused, by_kind, by_length, by-block, by_size, by_row}

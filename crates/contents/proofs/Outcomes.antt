@@ -11,7 +11,7 @@ use lib.ListN.{length}
 use Rattle.bits.specs.Rows.{Row, number_of, FirstRow}
 use Rattle.bits.proofs.Rows.{number-first}
 use Rattle.blocks.specs.Block.{fault}
-use Rattle.contents.specs.declared.Moved.{Moved}
+use Rattle.contents.specs.Moved.{Moved}
 use Rattle.contents.specs.File.{done, refused, block_at, content_of, Verdict, good, bad, verdict, next, blocks_judged, kind_right, length_right, size_fits, file_judged}
 use Rattle.contents.specs.Content.{answered, read_answer}
 use Rattle.contents.specs.Numbers.{GoodBelow}

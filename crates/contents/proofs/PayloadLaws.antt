@@ -2,15 +2,15 @@
 use mathlib.Core.Path.{◌≡◌, refl, sym, ap, ap₂, ◌∙◌}
 use mathlib.Core.List.{List, ◌++◌}
 use Prim.Native.Nat.{ℕ, ◌+◌, ◌-◌, ◌*◌, ◌/◌, ◌%◌, ◌<◌, ◌≤◌, min}
-use native.Mathlib.Nat.{add-zero, zero-add}
+use native.Mathlib.Nat.{zero-add}
 use native.Mathlib.Omega.{arith}
 use lib.ListN.{length, take, drop, get_or, length-append, length-drop, length-take, get_or-append}
 use lib.Seq.{drop_at, take_all, length-take-le, get_or-take, get_or-drop, get_or-append-add, ext_get_or}
-use borrow.Rule.Slice.PartMut.{mid_of, put_mid, mid_len}
+use borrow.Rule.Slice.PartMut.{put_mid}
 use Rattle.bits.specs.Bits.{listed}
 use Rattle.bits.specs.Steps.{written}
 use Rattle.bits.proofs.Items.{length-listed, get_d-listed, listed-ext, listed-is, part-more}
-use Rattle.bits.proofs.Puts.{part-put, put_front, put_written}
+use Rattle.bits.proofs.Puts.{part-put, put_written}
 use Rattle.bits.proofs.Writes.{length-written, written_same, written_at, written-off, written-ext, written_then}
 use Rattle.contents.specs.File.{block_at, content_of, block_count, first_blocks, blocks_of}
 use Rattle.contents.specs.Content.{over}
@@ -29,37 +29,17 @@ piece-at q piece j h l =
     let lo : (q + j) % 496 ≡ q % 496 + j = omega arith in
     omega arith
 
--- where number q of a content stands: in block i, of whose payload `room` bytes are left from there on
-pub record Here (q i room : ℕ) : Type 0 where
-  pub block : i ≡ q / 496
-  pub left : room ≡ 496 - q % 496
-
-pub here-first : (at : ℕ) → Here (at + 0) (at / 496) (496 - at % 496)
-here-first at = record { block = ap (λ (q : ℕ). q / 496) (sym (add-zero at)); left = ap (λ (q : ℕ). 496 - q % 496) (sym (add-zero at)) }
-
 -- the piece from number k on of a part of n bytes, which goes from number `at` of its content on
-module _ (at k n i room piece : ℕ) (h : Here (at + k) i room) (es : piece ≡ min room (n - k)) where
-  abbrev start : ℕ
-  start = 512 * i + (508 - room)
-
+module _ (at k n start piece : ℕ) (es : start ≡ payload_at (at + k)) (el : piece ≤ 496 - (at + k) % 496) where
   -- where number k + j of the part stands
   place_at : (j : ℕ) → j < piece → start + j ≡ payload_at (at + (k + j))
   place_at j l =
-      let first : start ≡ payload_at (at + k) = omega (arith, h.block, h.left) in
       let e : at + k + j ≡ at + (k + j) = omega arith in
-      ap (λ (x : ℕ). x + j) first ∙ piece-at (at + k) piece j (omega (arith, h.left)) l ∙ ap payload_at e
+      ap (λ (x : ℕ). x + j) es ∙ piece-at (at + k) piece j el l ∙ ap payload_at e
 
   -- it stands in the blocks that hold the part
-  pub piece_inside : k < n → start + piece ≤ 512 * block_count (at + n)
-  piece_inside l = omega (arith, h.block, h.left)
-
-  -- less is left after it
-  pub piece-less : k < n → n - (k + piece) < n - k
-  piece-less l = omega (arith, h.left)
-
-  -- and what is left goes on in the next block
-  pub here-next : k + piece < n → Here (at + (k + piece)) (i + 1) 496
-  here-next l = record { block = omega (arith, h.block, h.left); left = omega (arith, h.block, h.left) }
+  pub piece_inside : k + piece ≤ n → 496 * ((at + k) / 496) < at + n → start + piece ≤ 512 * block_count (at + n)
+  piece_inside l m = omega (arith, es, el)
 
   -- read
   pub part-read : (bytes part ys : List ℕ) → start + piece ≤ length bytes → k + piece ≤ length part → take k part ≡ payloads bytes at k
@@ -195,14 +175,11 @@ payloads-room kind bytes s n h = omega (arith, size_is kind bytes s, count-is ki
 
 -- its payloads read into a lent part put the content over a target
 pub content-read : (kind : ℕ) (bytes : List ℕ) → Stands kind bytes → (target ys : List ℕ) (size : ℕ) → size ≡ length (content_of bytes) → size ≤ length target
-    → ys ≡ payloads bytes 0 (length (mid_of 0 (size - 0) target)) → put_mid 0 (size - 0) target ys ≡ over (content_of bytes) target
+    → ys ≡ payloads bytes 0 (length (take size target)) → ys ++ drop size target ≡ over (content_of bytes) target
 content-read kind bytes s target ys size es h e =
     let content = content_of bytes in
-    let m : length (mid_of 0 (size - 0) target) ≡ size = mid_len 0 size target h ∙ omega arith in
-    let ec : ys ≡ content = e ∙ ap (payloads bytes 0) m ∙ payloads-content kind bytes s 0 size (omega arith) ∙ take_all size content (omega arith) in
-    part-put 0 size target ys (ap length ec ∙ omega arith)
-    ∙ put_front ys target
-    ∙ ap (λ (l : List ℕ). over l target) ec
+    ap₂ (λ (l : List ℕ) (k : ℕ). l ++ drop k target)
+    (e ∙ ap (payloads bytes 0) (length-take-le size target h) ∙ payloads-content kind bytes s 0 size (omega arith) ∙ take_all size content (omega arith)) es
 
 -- ---- a file that stands, copied over an output
 

@@ -2,7 +2,7 @@
 -- The answers serve every kind; what reading and writing a list or items leaves stands here, a picture in pictures/specs/Picture and Conversion.
 use Rattle.std.specs.Prelude.{Bool, cond, not, ◌&&◌, List, [], ◌∷◌, ◌++◌, ℕ, ◌*◌, eqb, leb, ltb, length, drop}
 use Rattle.bits.specs.Rows.{Row, row, number_of}
-use Rattle.contents.specs.declared.Moved.{Moved}
+use Rattle.contents.specs.Moved.{Moved}
 use Rattle.blocks.specs.Block.{block_bytes}
 use Rattle.contents.specs.File.{is_picture, done, refused, content_of, kind_right, size_fits, file_judged, block_count, blocks_of}
 

@@ -1,7 +1,7 @@
 -- A file of blocks: what is found when it is judged, the content that it holds, and the blocks that a content is written as. Document 01, Blocks on disk; document 02, Eight.
 use Rattle.std.specs.Prelude.{Bool, cond, not, ◌&&◌, ◌||◌, List, [], ◌++◌, ℕ, zero, suc, ◌+◌, ◌*◌, ◌/◌, ◌%◌, max, eqb, leb, ltb, length, take, drop}
 use Rattle.blocks.specs.Block.{block_bytes, payload_bytes, block, fault, payload_of}
-use Rattle.contents.specs.declared.Moved.{Moved}
+use Rattle.contents.specs.Moved.{Moved}
 
 -- The kinds: a picture of the words, M, X and Y; a list; items; and a picture that has the mode registers too.
 abbrev pub picture_kind : ℕ

@@ -2,7 +2,7 @@
 use Rattle.std.specs.Prelude.{◌≡◌, true, false, List, ℕ, ◌/◌, ◌<◌, length}
 use Rattle.bits.specs.Rows.{Row, FirstRow}
 use Rattle.blocks.specs.Block.{block_bytes, block_rows, fault}
-use Rattle.contents.specs.declared.Moved.{Moved}
+use Rattle.contents.specs.Moved.{Moved}
 use Rattle.contents.specs.File.{block_at, content_of, kind_right, length_right, size_fits}
 
 -- Number n, at place k.

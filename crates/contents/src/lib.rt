@@ -5,24 +5,19 @@
 // in pictures. The other functions are inner ones.
 #![tactic(auto)]
 
-ghost use Rattle.std.specs.Prelude.{◌≡◌, ◌+◌, ◌*◌, ◌<◌, ◌≤◌, min, length};
-ghost use Rattle.blocks.specs.Block.{block_bytes};
+ghost use Rattle.std.specs.Prelude.{◌≡◌, ◌+◌, ◌*◌, ◌/◌, ◌^◌, ◌<◌, ◌≤◌, max, min, length};
+ghost use Rattle.blocks.specs.Block.{block_bytes, payload_bytes};
 ghost use Rattle.contents.specs.File.{most_content, block_count, blocks_of};
-ghost use Rattle.contents.specs.File.{is_picture, done, refused, kind_right, length_right, size_fits, file_judged};
+ghost use Rattle.contents.specs.File.{is_picture, length_right, size_fits, file_judged};
+ghost use Rattle.contents.specs.Moved.{moved_of};
+ghost use Rattle.contents.specs.Kinds.{number_of_kind, KindOf};
 ghost use Rattle.contents.specs.Content.{over, content_read, content_written};
-ghost use Rattle.contents.specs.Payloads.{payloads, laid};
+ghost use Rattle.contents.specs.Payloads.{payload_at, payloads, laid};
 
-use blocks::{BLOCK_BYTES, PAYLOAD_BYTES};
+use bits::refusals::Refusal;
+use blocks::{BLOCK_BYTES, HEAD_BYTES, PAYLOAD_BYTES};
 
-// The kinds, and the sizes of what they hold.
-pub const PICTURE: usize = 1;
-
-pub const LIST: usize = 2;
-
-pub const ITEMS: usize = 3;
-
-pub const MODES_PICTURE: usize = 4;
-
+// The sizes of what the kinds hold.
 pub const PICTURE_BYTES: usize = 8288;
 
 pub const MODES_PICTURE_BYTES: usize = 8292;
@@ -31,160 +26,171 @@ const MOST_CONTENT: usize = 32768;
 
 const MOST_FILE: usize = 34304;
 
-// A refusal has its number, its place and 0 bytes; success has 0, 0 and the number of bytes put out.
-#[derive(Clone, Copy)]
-pub struct Moved {
-    pub number: u8,
+// The kinds of content. A picture of the one kind has the mode registers too.
+#[derive(Clone, Copy, Debug, PartialEq, Eq)]
+pub enum Kind {
+    Picture = 1,
+    List = 2,
+    Items = 3,
+    ModesPicture = 4,
+}
+
+impl Kind {
+    // Its number in the head of a block.
+    // No From for usize: it would be this line under a name that does not say what it is.
+    pub fn number(self) -> usize
+        ensures { result ≡ number_of_kind self }
+    {
+        self as usize
+    }
+
+    // Is this the size of a content of this kind?
+    fn size_fits(self, size: usize) -> bool
+        ensures { result ≡ size_fits (number_of_kind self) size }
+    {
+        match self {
+            Kind::Picture => size == PICTURE_BYTES,
+            Kind::ModesPicture => size == MODES_PICTURE_BYTES,
+            Kind::List => size % 8 == 0 && size <= MOST_CONTENT,
+            Kind::Items => size % 32 == 0 && size <= MOST_CONTENT,
+        }
+    }
+}
+
+// The kind that has a number: refused with 22 where none has it.
+impl TryFrom<usize> for Kind {
+    type Error = Refusal;
+
+    ghost try_from_gives = { KindOf };
+
+    fn try_from(number: usize) -> Result<Kind, Refusal> {
+        match number {
+            1 => Ok(Kind::Picture),
+            2 => Ok(Kind::List),
+            3 => Ok(Kind::Items),
+            4 => Ok(Kind::ModesPicture),
+            _ => Err(Refusal::BlockKind),
+        }
+    }
+}
+
+// Why a file, a content or a target is refused, and the place of the block for 21 to 24, else 0.
+// No Option: the answer has a 0 there (`moved_of`).
+#[derive(Clone, Copy, Debug, PartialEq, Eq)]
+pub struct Refused {
+    pub why: Refusal,
     pub place: usize,
-    pub bytes: usize,
 }
 
-pub fn refused(number: u8, place: usize) -> Moved
-    ensures { result ≡ refused number place }
-{
-    Moved {
-        number,
-        place,
-        bytes: 0,
-    }
-}
+impl From<Refusal> for Refused {
+    ghost from_gives = { λ why refused. refused ≡ record { why = why; place = 0 } };
 
-pub fn done(bytes: usize) -> Moved
-    ensures { result ≡ done bytes }
-{
-    Moved {
-        number: 0,
-        place: 0,
-        bytes,
-    }
-}
-
-pub fn kind_right(kind: usize) -> bool
-    ensures { result ≡ kind_right kind }
-{
-    if 0 < kind {
-        kind <= MODES_PICTURE
-    } else {
-        false
+    fn from(why: Refusal) -> Refused {
+        Refused { why, place: 0 }
     }
 }
 
 fn length_right(n: usize) -> bool
     ensures { result ≡ length_right n }
 {
-    if 0 < n {
-        if n % BLOCK_BYTES == 0 {
-            return n <= MOST_FILE;
-        }
-    }
-    false
+    0 < n && n % BLOCK_BYTES == 0 && n <= MOST_FILE
 }
 
+// Is this the number of a kind of picture?
+// A number, as in each public entry here and in pictures: docs/CONTRACTS.md names them, C hands on any, and a `Kind` would ask more of callers.
 pub fn is_picture(kind: usize) -> bool
     ensures { result ≡ is_picture kind }
 {
-    (kind == PICTURE) | (kind == MODES_PICTURE)
-}
-
-fn size_fits(kind: usize, size: usize) -> bool
-    ensures { result ≡ size_fits kind size }
-{
-    if kind == PICTURE {
-        return size == PICTURE_BYTES;
-    }
-    if kind == MODES_PICTURE {
-        return size == MODES_PICTURE_BYTES;
-    }
-    if kind == LIST {
-        if size % 8 == 0 {
-            return size <= MOST_CONTENT;
-        }
-        return false;
-    }
-    if size % 32 == 0 {
-        return size <= MOST_CONTENT;
-    }
-    false
+    matches!(Kind::try_from(kind), Ok(Kind::Picture | Kind::ModesPicture))
 }
 
 // A file judged by itself, before any target is looked at: its refusal, or the size of its content.
-pub fn judge_file(kind: usize, bytes: &[u8]) -> Moved
-    ensures { result ≡ file_judged kind bytes.now }
+pub fn judge_file(kind: usize, bytes: &[u8]) -> Result<usize, Refused>
+    ensures { moved_of result ≡ file_judged kind bytes.now }
 {
-    if !kind_right(kind) {
-        return refused(22, 0);
+    let asked = Kind::try_from(kind)?;
+    if !length_right(bytes.len()) {
+        return Err(Refusal::FileLength.into());
     }
-    let len = bytes.len();
-    if !length_right(len) {
-        return refused(20, 0);
-    }
-    let count = len / BLOCK_BYTES;
+    let (all, _) = bytes.as_chunks::<BLOCK_BYTES>();
+    let count = all.len();
     let mut size: usize = 0;
-    let mut i: usize = 0;
-    while i < count {
-        let found = blocks::fault(
-            &bytes[BLOCK_BYTES * i..BLOCK_BYTES * i + BLOCK_BYTES],
-            kind,
-            i,
-            count,
-        );
-        if found != 0 {
-            return refused(found, i);
+    for (place, block) in all.iter().enumerate() {
+        if let Err(why) = blocks::fault(block, kind, place, count) {
+            return Err(Refused { why, place });
         }
-        size += blocks::two_at(&bytes[BLOCK_BYTES * i..BLOCK_BYTES * i + BLOCK_BYTES], 6);
-        i += 1;
+        size += blocks::two_at(block, 6);
     }
-    if size_fits(kind, size) {
-        return done(size);
+    if !asked.size_fits(size) {
+        return Err(Refusal::ContentSize.into());
     }
-    refused(25, 0)
+    Ok(size)
 }
 
-fn lesser(a: usize, b: usize) -> usize
-    ensures { result ≡ min a b }
+// What block i has of a part of a content: where it stands in the file and in the part, and how many bytes it is.
+// No Range: two places go with one length.
+#[derive(Clone, Copy)]
+struct Piece {
+    in_file: usize,
+    in_part: usize,
+    bytes: usize,
+}
+
+// The piece of a part, which goes from number `at` up to `end` of its content, that block i's payload has.
+fn piece_in(i: usize, at: usize, end: usize) -> Piece
+    requires { (at < payload_bytes * i + payload_bytes) × (at ≤ end) × (payload_bytes * i ≤ end) × (block_bytes * block_count end < 2 ^ 64) }
+    ensures begins { at + result.in_part ≡ max at (payload_bytes * i) }
+    ensures stands { result.in_file ≡ payload_at (at + result.in_part) }
+    ensures ends { at + result.in_part + result.bytes ≡ min end (payload_bytes * i + payload_bytes) }
 {
-    if a < b { a } else { b }
+    let first = PAYLOAD_BYTES * i;
+    let from = at.max(first);
+    Piece {
+        in_file: BLOCK_BYTES * i + HEAD_BYTES + (from - first),
+        in_part: from - at,
+        bytes: end.min(first + PAYLOAD_BYTES) - from,
+    }
 }
 
-// A part of a content, from number `at` on, out of the payloads that it stands in, piece by piece: what block i's payload has
-// of it, of which `room` bytes are left, is handed on as a part of the lent blocks.
+// All of one slice into another of the same length, byte by byte: `copy_from_slice` calls C's memmove, which takes 72 bytes of the stack that the header gives those who read and write (include/staran.h).
+#[inline(never)]
+fn copy(from: &[u8], to: &mut [u8])
+    requires { length from.now ≡ length to.old }
+    ensures { to.new ≡ from.now }
+{
+    for i in 0..from.len() {
+        to[i] = from[i];
+    }
+}
+
+// A part of a content, from number `at` on, out of the payloads that it stands in, piece by piece.
+// `at` is a number of the content, as in the definition `payloads`, and no place to go on at. Not one with put_part, which copies the other way: what they share is piece_in.
+#[inline(never)]
 pub fn part_of(bytes: &[u8], at: usize, part: &mut [u8])
     requires { block_bytes * block_count (at + length part.old) ≤ length bytes.now }
     ensures { part.new ≡ payloads bytes.now at (length part.old) }
 {
-    let n = part.len();
-    let mut i = at / PAYLOAD_BYTES;
-    let mut room = PAYLOAD_BYTES - at % PAYLOAD_BYTES;
-    let mut k: usize = 0;
-    while k < n {
-        let piece = lesser(room, n - k);
-        let from = BLOCK_BYTES * i + (508 - room);
-        bits::copies::copy(&bytes[from..from + piece], &mut part[k..k + piece]);
-        k += piece;
-        i += 1;
-        room = PAYLOAD_BYTES;
+    let end = at + part.len();
+    for i in at / PAYLOAD_BYTES..end.div_ceil(PAYLOAD_BYTES) {
+        let p = piece_in(i, at, end);
+        copy(
+            &bytes[p.in_file..p.in_file + p.bytes],
+            &mut part[p.in_part..p.in_part + p.bytes],
+        );
     }
 }
 
 // Reads the blocks of a list or of items into a target, whose bytes past the content stay.
-pub fn read_content(kind: usize, bytes: &[u8], target: &mut [u8]) -> Moved
-    ensures { record { answer = result; buffer = target.new }
+pub fn read_content(kind: usize, bytes: &[u8], target: &mut [u8]) -> Result<usize, Refused>
+    ensures { record { answer = moved_of result; buffer = target.new }
         ≡ content_read kind bytes.now target.old }
 {
-    let found = judge_file(kind, bytes);
-    let number = found.number;
-    if number != 0 {
-        return found;
+    let size = judge_file(kind, bytes)?;
+    if is_picture(kind) || target.len() < size {
+        return Err(Refusal::LentLength.into());
     }
-    let size = found.bytes;
-    if is_picture(kind) {
-        return refused(26, 0);
-    }
-    if target.len() < size {
-        return refused(26, 0);
-    }
-    part_of(bytes, 0, &mut target[0..size]);
-    found
+    part_of(bytes, 0, &mut target[..size]);
+    Ok(size)
 }
 
 // A part of a content, from number `at` on, into the payloads that it is to stand in, piece by piece.
@@ -193,17 +199,13 @@ pub fn put_part(part: &[u8], at: usize, out: &mut [u8])
     requires { block_bytes * block_count (at + length part.now) ≤ length out.old }
     ensures { out.new ≡ laid part.now at out.old }
 {
-    let n = part.len();
-    let mut i = at / PAYLOAD_BYTES;
-    let mut room = PAYLOAD_BYTES - at % PAYLOAD_BYTES;
-    let mut k: usize = 0;
-    while k < n {
-        let piece = lesser(room, n - k);
-        let to = BLOCK_BYTES * i + (508 - room);
-        bits::copies::copy(&part[k..k + piece], &mut out[to..to + piece]);
-        k += piece;
-        i += 1;
-        room = PAYLOAD_BYTES;
+    let end = at + part.len();
+    for i in at / PAYLOAD_BYTES..end.div_ceil(PAYLOAD_BYTES) {
+        let p = piece_in(i, at, end);
+        copy(
+            &part[p.in_part..p.in_part + p.bytes],
+            &mut out[p.in_file..p.in_file + p.bytes],
+        );
     }
 }
 
@@ -213,12 +215,10 @@ pub fn seal_all(kind: usize, size: usize, count: usize, out: &mut [u8])
         × (block_bytes * count ≤ length out.old) }
     ensures { out.new ≡ over (blocks_of kind (payloads out.old 0 size)) out.old }
 {
-    let mut i: usize = 0;
-    while i < count {
-        let used = lesser(PAYLOAD_BYTES, size - PAYLOAD_BYTES * i);
+    for i in 0..count {
+        let used = PAYLOAD_BYTES.min(size - PAYLOAD_BYTES * i);
         let from = BLOCK_BYTES * i;
         blocks::seal(kind, i, count, used, &mut out[from..from + BLOCK_BYTES]);
-        i += 1;
     }
 }
 
@@ -227,32 +227,24 @@ fn block_count(size: usize) -> usize
     requires { size ≤ most_content }
     ensures { result ≡ block_count size }
 {
-    if size == 0 {
-        return 1;
-    }
-    (size + 495) / PAYLOAD_BYTES
+    size.div_ceil(PAYLOAD_BYTES).max(1)
 }
 
 // Writes a list or items as blocks to the start of an output, whose bytes past the blocks stay.
-pub fn write_content(kind: usize, content: &[u8], out: &mut [u8]) -> Moved
-    ensures { record { answer = result; buffer = out.new }
+pub fn write_content(kind: usize, content: &[u8], out: &mut [u8]) -> Result<usize, Refused>
+    ensures { record { answer = moved_of result; buffer = out.new }
         ≡ content_written kind content.now out.old }
 {
     let size = content.len();
-    if !kind_right(kind) {
-        return refused(22, 0);
-    }
-    if is_picture(kind) {
-        return refused(26, 0);
-    }
-    if !size_fits(kind, size) {
-        return refused(26, 0);
+    let asked = Kind::try_from(kind)?;
+    if is_picture(kind) || !asked.size_fits(size) {
+        return Err(Refusal::LentLength.into());
     }
     let count = block_count(size);
     if out.len() < BLOCK_BYTES * count {
-        return refused(27, 0);
+        return Err(Refusal::OutputTooShort.into());
     }
     put_part(content, 0, out);
     seal_all(kind, size, count, out);
-    done(BLOCK_BYTES * count)
+    Ok(BLOCK_BYTES * count)
 }

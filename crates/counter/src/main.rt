@@ -2,30 +2,24 @@
 // Where none is asked for, nothing is done and written. What the calls leave is written out, so that no compiler finds them idle; `vectors` holds the answers.
 #![tactic(auto)]
 
-ghost use Rattle.std.specs.Prelude.{◌≡◌, ◌≤◌, length};
+ghost use Rattle.std.specs.Prelude.{◌≤◌, length};
 
 use std::io::{Read, Write};
 
 // One call of the memory, and the item after it.
-fn access<'a>(
-    mem: &mut [u8],
-    what: u8,
-    mode: u8,
-    addr: u8,
-    item: &'a [u8; 32],
-    mask: &'a [u8; 32],
-) -> [u8; 32]
-    requires { length mem.old ≡ 8192 }
-{
-    if what == 1 {
-        memory::store(mem, mode, addr, item);
-        return *item;
+fn access(mem: &mut [u8; 8192], call: [u8; 3], item: &[u8; 32], mask: &[u8; 32]) -> [u8; 32] {
+    let [what, mode, addr] = call;
+    match what {
+        1 => {
+            memory::store(mem, mode, addr, item);
+            *item
+        }
+        2 => {
+            memory::store_masked(mem, mode, addr, item, mask);
+            *item
+        }
+        _ => memory::load(mem, mode, addr),
     }
-    if what == 2 {
-        memory::store_masked(mem, mode, addr, item, mask);
-        return *item;
-    }
-    memory::load(mem, mode, addr)
 }
 
 // Reads until the buffer is full, the input ends or a read fails: how many bytes there are.
@@ -33,6 +27,7 @@ fn read_full(input: &mut impl Read, buffer: &mut [u8]) -> usize
     ensures { result ≤ length buffer.new }
 {
     let mut done: usize = 0;
+    // A `while`: the count moves by what a read gives.
     while done < buffer.len() {
         match input.read(&mut buffer[done..]) {
             Err(_) | Ok(0) => return done,
@@ -40,11 +35,6 @@ fn read_full(input: &mut impl Read, buffer: &mut [u8]) -> usize
         }
     }
     done
-}
-
-// An item written out.
-fn show(output: &mut impl Write, item: &[u8; 32]) {
-    let _ = output.write_all(item);
 }
 
 fn main(rt: HostRuntime) {
@@ -57,18 +47,10 @@ fn main(rt: HostRuntime) {
     if got == 0 {
         return;
     }
-    let mut at: usize = 0;
-    while at + 3 <= got {
-        item = access(
-            &mut mem,
-            steps[at],
-            steps[at + 1],
-            steps[at + 2],
-            &item,
-            &mask,
-        );
-        at += 3;
+    let (calls, _) = steps[..got].as_chunks::<3>();
+    for call in calls {
+        item = access(&mut mem, *call, &item, &mask);
     }
-    show(&mut output, &item);
+    let _ = output.write_all(&item);
     let _ = output.write_all(&mem);
 }

@@ -14,8 +14,8 @@ use Rattle.module.specs.Act.{acted}
 use Rattle.module.specs.Run.{Lent, begun, ran_by}
 use Rattle.builders.specs.Lists.{encoded, Each}
 use Rattle.builders.specs.Word.{folded, taken_by}
-use Rattle.builders.specs.declared.Built.{Built}
-use Rattle.builders.specs.declared.BuiltTwo.{BuiltTwo}
+use Rattle.builders.specs.Building.{Built}
+use Rattle.builders.specs.Building.{BuiltTwo}
 use Rattle.builders.specs.Building.{built_with, BuiltTwoLeft, built_two}
 use Rattle.fields.specs.Value.{list_of, run_of}
 use Rattle.fields.specs.Marks.{list_of_two, items_of_two, lent_with, run_of_two}

@@ -12,7 +12,7 @@ use Rattle.registers.specs.Logic.{new_y}
 use Rattle.registers.specs.Modes.{modes_of, wrong_modes}
 use Rattle.registers.specs.Rows.{registers_of}
 use Rattle.judge.specs.declared.Instruction.{Instruction}
-use Rattle.judge.specs.declared.Answer.{Answer}
+use Rattle.judge.specs.Answers.{Answer}
 use Rattle.judge.specs.Judge.{unfit}
 use Rattle.judge.proofs.FormLaws.{formed-by}
 use Rattle.module.specs.Act.{State, acted}

@@ -17,7 +17,7 @@ use Rattle.registers.specs.declared.Registers.{Registers}
 use Rattle.registers.specs.Modes.{modes_of}
 use Rattle.registers.specs.Rows.{registers_of}
 use Rattle.judge.specs.declared.Instruction.{Instruction}
-use Rattle.judge.specs.declared.Answer.{Answer}
+use Rattle.judge.specs.Answers.{Answer}
 use Rattle.judge.specs.Instructions.{instruction_at, touches, gives}
 use Rattle.judge.specs.Modes.{modes_after, mode_of}
 use Rattle.judge.specs.Judge.{idle_tag, idle_mode, instruction_rows, fault_of, fault_at}

@@ -14,7 +14,7 @@ use Rattle.registers.specs.Modes.{modes_of, wrong_modes}
 use Rattle.registers.specs.Rows.{registers_of, bytes_of, with_m, with_modes}
 use Rattle.registers.proofs.RowLaws.{registers-bytes}
 use Rattle.judge.specs.declared.Instruction.{Instruction}
-use Rattle.judge.specs.declared.Answer.{Answer}
+use Rattle.judge.specs.Answers.{Answer}
 use Rattle.judge.specs.Modes.{modes_by, mode_of}
 use Rattle.judge.specs.Judge.{unfit}
 use Rattle.module.specs.Act.{State, passed_by, regs_after, mem_after, acted}

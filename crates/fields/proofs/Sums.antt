@@ -16,7 +16,7 @@ use Rattle.registers.specs.Modes.{modes_of, wrong_modes}
 use Rattle.registers.specs.Rows.{registers_of, bytes_of}
 use Rattle.registers.proofs.RowLaws.{bytes-registers}
 use Rattle.judge.specs.declared.Instruction.{Instruction}
-use Rattle.judge.specs.declared.Answer.{Answer}
+use Rattle.judge.specs.Answers.{Answer}
 use Rattle.judge.specs.Judge.{unfit}
 use Rattle.module.specs.Act.{State, acted}
 use Rattle.module.specs.Run.{Lent, Left, begun}

@@ -4,7 +4,7 @@ use Rattle.bits.specs.Bits.{Bytes}
 use Rattle.bits.specs.Search.{Numbered}
 use Rattle.registers.specs.Rows.{registers_of}
 use Rattle.judge.specs.declared.Instruction.{Instruction}
-use Rattle.judge.specs.declared.Answer.{Answer}
+use Rattle.judge.specs.Answers.{Answer}
 use Rattle.module.specs.Act.{State}
 use Rattle.module.specs.Run.{Lent, Left, begun, ran_by}
 use Rattle.builders.specs.Building.{BuiltTwoLeft}

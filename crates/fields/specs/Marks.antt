@@ -2,7 +2,7 @@
 use Rattle.std.specs.Prelude.{◌≡◌, List, ◌++◌, ◌↔◌, ℕ, ◌<◌, ◌≤◌, take}
 use Rattle.bits.specs.Bits.{Bytes, bit_of}
 use Rattle.registers.specs.Rows.{registers_of}
-use Rattle.judge.specs.declared.Answer.{Answer}
+use Rattle.judge.specs.Answers.{Answer}
 use Rattle.module.specs.Run.{Lent, Left}
 use Rattle.builders.specs.Building.{BuiltTwoLeft}
 use Rattle.builders.specs.Searches.{equal_built, less_built, greatest_built}

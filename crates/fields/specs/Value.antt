@@ -4,7 +4,7 @@ use Rattle.bits.specs.Bits.{Bytes, bit_of, digits_of}
 use Rattle.memory.specs.Table.{table}
 use Rattle.memory.specs.Memory.{cell}
 use Rattle.registers.specs.Rows.{registers_of}
-use Rattle.judge.specs.declared.Answer.{Answer}
+use Rattle.judge.specs.Answers.{Answer}
 use Rattle.module.specs.Run.{Lent, Left, ran}
 use Rattle.builders.specs.Sums.{sum_built, difference_built}
 use Rattle.builders.specs.Building.{BuiltLeft}

@@ -8,7 +8,11 @@ use native.Mathlib.Decide.{ℕ_discrete, dec_lt}
 use native.Mathlib.Omega.{arith}
 use lib.Dec.{eqb}
 use lib.ListN.{length}
-use borrow.Author.Tests.{ne_eqb, lt-ltb, le-ltb}
+use borrow.Author.Tests.{eqb-false, ne_eqb, lt-ltb, le-ltb}
+use Rattle.std.specs.Prelude.{Result, Ok, Err}
+use Rattle.std.specs.Result.{IsErrAnd}
+use Rattle.bits.specs.Refusals.{number_of_refusal}
+use Rattle.bits.proofs.RefusalLaws.{number-injective, number-never-zero}
 use Rattle.bits.specs.Rows.{Row, number_of, NoRow}
 use Rattle.bits.proofs.Rows.{none_number, number-none, first-number, number-first, row-off}
 use Rattle.bits.proofs.Search.{found, found_none, found_at, found-le, none_found}
@@ -17,9 +21,23 @@ use Rattle.registers.specs.Modes.{modes_of}
 use Rattle.judge.proofs.RowLaws.{fit-size}
 use Rattle.fields.specs.Isolation.{breaks_at, Keeps, first_breaking, isolated}
 use Rattle.fields.proofs.Isolation.{isolated-keeps, keeps-isolated}
-use Rattle.isolation.specs.declared.Isolation.{Isolation}
-use Rattle.isolation.specs.Isolation.{ask_rows, broken_at, isolation_of}
+use Rattle.isolation.specs.declared.Refused.{Refused}
+use Rattle.isolation.specs.Isolation.{Isolation, isolation_given, ask_rows, broken_at, isolation_of}
 use Rattle.isolation.specs.Numbers.{Answered, by-lent, by-instruction}
+
+-- ---- what a result of the code tells of the answer
+
+pub given-err : (r : Result (Unit {0}) Refused) (e : Refused) → IsErrAnd r (λ x. x ≡ e) → isolation_given r ≡ record { number = number_of_refusal e.why; place = e.place }
+given-err (Ok x) e h = absurd h
+given-err (Err x) e h = ap (λ (y : Refused). record { number = number_of_refusal y.why; place = y.place }) h
+
+pub isolation_given-injective : (r s : Result (Unit {0}) Refused) → isolation_given r ≡ isolation_given s → r ≡ s
+isolation_given-injective (Ok x) (Ok y) p = refl
+isolation_given-injective (Ok x) (Err g) p = absurd (eqb-false (number_of_refusal g.why) 0 (number-never-zero g.why) (sym (ap (λ (f : Isolation). f.number) p)))
+isolation_given-injective (Err f) (Ok y) p = absurd (eqb-false (number_of_refusal f.why) 0 (number-never-zero f.why) (ap (λ (f : Isolation). f.number) p))
+isolation_given-injective (Err f) (Err g) p =
+    let q = number-injective f.why g.why (ap (λ (f : Isolation). f.number) p) in
+    λ j. Err (record { why = q j; place = (p j).place })
 
 -- ---- the three outcomes, as code comes to them: `wrong` is the number of what is lent, and k the first instruction that breaks the condition
 

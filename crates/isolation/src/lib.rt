@@ -3,28 +3,39 @@
 
 ghost use Rattle.std.specs.Prelude.{◌≡◌};
 ghost use Rattle.bits.specs.Rows.{number_of};
+ghost use Rattle.bits.specs.Refusals.{number_given};
 ghost use Rattle.fields.specs.Isolation.{holds_zero, mode_zero, breaks, first_breaking};
-ghost use Rattle.isolation.specs.Isolation.{ask_rows, isolation_of};
+ghost use Rattle.isolation.specs.Isolation.{ask_rows, isolation_given, isolation_of};
 
-use bits::choices::number_or;
+use bits::refusals::Refusal;
 use judge::kinds::{MASKED_STORE, MEMORY, SET_MODE, STORE, TAG_A, TAG_B, TAG_GIVEN};
 use judge::modes::settle;
 use judge::{Instruction, REGISTER_BYTES, decode, unfit};
 use registers::mode_bytes::{modes_of, wrong_modes};
 use registers::{ModeRegister, Modes};
 
-// What is answered: 0, 2, 3 or 15, or 40 with the instruction's place.
-#[derive(Clone, Copy)]
-pub struct Isolation {
-    pub number: u8,
+// A list that is not answered with a yes: why, and where it is the list itself the place of the instruction.
+// Place 0 where it is not, as the answer has it (`isolation_given`), so it is no Option.
+#[derive(Clone, Copy, Debug, PartialEq, Eq)]
+pub struct Refused {
+    pub why: Refusal,
     pub place: usize,
+}
+
+// What is lent is refused without an instruction.
+impl From<Refusal> for Refused {
+    ghost from_gives = { λ why r. r ≡ record { why = why; place = 0 } };
+
+    fn from(why: Refusal) -> Refused {
+        Refused { why, place: 0 }
+    }
 }
 
 // Is it set, and to mode 0?
 fn holds_zero(register: ModeRegister) -> bool
     ensures { result ≡ holds_zero register }
 {
-    (register.set == 1) & (register.mode == 0)
+    register.mode_if_set() == Some(0)
 }
 
 // Has its access mode 0, given or in a register? Most are given.
@@ -34,9 +45,7 @@ fn mode_zero(m: Modes, i: Instruction) -> bool
     if i.tag == TAG_GIVEN {
         return i.mode == 0;
     }
-    let a = m.a;
-    let b = m.b;
-    ((i.tag == TAG_A) & holds_zero(a)) | ((i.tag == TAG_B) & holds_zero(b))
+    ((i.tag == TAG_A) & holds_zero(m.a)) | ((i.tag == TAG_B) & holds_zero(m.b))
 }
 
 // Does it break the condition, by the mode registers before it? Its move first, then its kind, and of a kind that stays its access, if it has one.
@@ -47,63 +56,59 @@ fn breaks(m: Modes, i: Instruction) -> bool
         return true;
     }
     if i.kind > MASKED_STORE {
-        return !(i.kind == SET_MODE);
+        return i.kind != SET_MODE;
     }
-    if (i.kind < STORE) & !(i.source == MEMORY) {
+    if (i.kind < STORE) & (i.source != MEMORY) {
         return false;
     }
     !mode_zero(m, i)
 }
 
 // The first instruction that does, or how many there are; the mode registers are carried along as a run would.
+// A number for none, as `first_breaking` of specs/Isolation says it.
 fn first_breaking(m: Modes, list: &[u8]) -> usize
     ensures { result ≡ first_breaking m list.now }
 {
     let n = list.len() / 8;
     let mut modes = m;
-    let mut k: usize = 0;
-    while k < n {
+    for k in 0..n {
         let i = decode(list, k);
         if breaks(modes, i) {
             return k;
         }
-        let settled = settle(i, modes);
-        modes = settled.modes;
-        k += 1;
+        modes = settle(i, modes).modes;
     }
     n
 }
 
-// The number of what is lent: 2, 3 and 15, in a run's order.
-fn ask_fault(m: Modes, list: &[u8], registers: usize) -> u8
-    ensures { result ≡ number_of (ask_rows registers m list.now) }
+// What is wrong with what is lent: 2, 3 and 15, in a run's order.
+fn ask_lent(m: Modes, list: &[u8], registers: usize) -> Result<(), Refusal>
+    ensures { number_given result ≡ number_of (ask_rows registers m list.now) }
 {
-    let from15 = number_or(wrong_modes(m), 15, 0);
-    let from3 = number_or(unfit(8, list.len()), 3, from15);
-    number_or(!(registers == REGISTER_BYTES), 2, from3)
-}
-
-fn answered(number: u8, place: usize) -> Isolation
-    ensures { result ≡ record { number = number; place = place } }
-{
-    Isolation {
-        number: number,
-        place: place,
+    if registers != REGISTER_BYTES {
+        return Err(Refusal::RegistersLength);
     }
+    if unfit(8, list.len()) {
+        return Err(Refusal::ListLength);
+    }
+    if wrong_modes(m) {
+        return Err(Refusal::ModeRegisters);
+    }
+    Ok(())
 }
 
-// Is it such a list, for a run that starts with these registers?
-pub fn isolated(list: &[u8], registers: &[u8]) -> Isolation
-    ensures { result ≡ isolation_of list.now registers.now }
+// Is it such a list, for a run that starts with these registers? Else 2, 3 or 15, or 40 with the place of the first instruction that breaks the condition.
+pub fn isolated(list: &[u8], registers: &[u8]) -> Result<(), Refused>
+    ensures { isolation_given result ≡ isolation_of list.now registers.now }
 {
     let m = modes_of(registers);
-    let wrong = ask_fault(m, list, registers.len());
-    if wrong != 0 {
-        return answered(wrong, 0);
-    }
+    ask_lent(m, list, registers.len())?;
     let place = first_breaking(m, list);
     if place < list.len() / 8 {
-        return answered(40, place);
+        return Err(Refused {
+            why: Refusal::NotIsolated,
+            place,
+        });
     }
-    answered(0, 0)
+    Ok(())
 }

@@ -10,8 +10,8 @@ use Rattle.bits.proofs.Rows.{up_to, first-number, number-high}
 use Rattle.bits.proofs.Search.{count-le}
 use Rattle.registers.specs.declared.Modes.{Modes}
 use Rattle.judge.specs.declared.Lengths.{Lengths}
-use Rattle.judge.specs.declared.Fault.{Fault}
-use Rattle.judge.specs.declared.Answer.{Answer}
+use Rattle.judge.specs.Answers.{Fault}
+use Rattle.judge.specs.Answers.{Answer}
 use Rattle.judge.specs.Instructions.{instruction_at, takes, gives}
 use Rattle.judge.specs.Modes.{modes_after}
 use Rattle.judge.specs.Judge.{run_rows, step_rows, refusal, done, judged, judged_step}

@@ -9,8 +9,13 @@ use lib.Dec.{eqb, leb, ltb}
 use borrow.Author.Tests.{eq-eqb, eqb-false, leb-true, ltb-true, not-true}
 use Rattle.bits.specs.Rows.{Row, row, NoRow, FirstRow}
 use Rattle.bits.proofs.Rows.{numbered, up_to, among, and_left, and_right, or_right, taken, row_at, row-off}
-use Rattle.judge.specs.declared.Fault.{Fault}
-use Rattle.judge.specs.ByteRows.{ByteRow, fault_by, fault_in, Rising, InOrder, NoByteRow, FirstByteRow}
+use Rattle.std.specs.Prelude.{Result, Ok, Err}
+use Rattle.std.specs.Result.{IsErrAnd}
+use Rattle.bits.specs.Refusals.{number_of_refusal}
+use Rattle.bits.proofs.RefusalLaws.{number-never-zero}
+use Rattle.judge.specs.declared.Fault.{Fault as Wrong}
+use Rattle.judge.specs.Answers.{Fault, fault_given}
+use Rattle.judge.specs.ByteRows.{ByteRow, fault_by, fault_before, fault_in, Rising, InOrder, NoByteRow, FirstByteRow}
 
 -- ---- one row
 
@@ -49,6 +54,17 @@ first-fault [] n b f = absurd f
 first-fault (r ∷ rows) n b (inl (e, f)) =
     first_by r.number (fault_in rows) r.conditions b f ∙ ap (λ (x : ℕ). record { number = x; byte = b }) e
 first-fault (r ∷ rows) n b (inr (t, f)) = none-by r.number (fault_in rows) r.conditions t ∙ first-fault rows n b f
+
+-- before what stands behind it a table that holds gives its own, and one that does not what is behind
+pub none-before : (rows : List ByteRow) (behind : Fault) → NoByteRow rows → fault_before rows behind ≡ behind
+none-before [] behind t = refl
+none-before (r ∷ rows) behind t = none-by r.number (fault_before rows behind) r.conditions t.0 ∙ none-before rows behind t.1
+
+pub first-before : (rows : List ByteRow) (behind : Fault) (n b : ℕ) → FirstByteRow rows n b → fault_before rows behind ≡ record { number = n; byte = b }
+first-before [] behind n b f = absurd f
+first-before (r ∷ rows) behind n b (inl (e, f)) =
+    first_by r.number (fault_before rows behind) r.conditions b f ∙ ap (λ (x : ℕ). record { number = x; byte = b }) e
+first-before (r ∷ rows) behind n b (inr (t, f)) = none-by r.number (fault_before rows behind) r.conditions t ∙ first-before rows behind n b f
 
 -- no row holds, or one is the first
 none-or-first : (rows : List ByteRow) → NoByteRow rows ⊎ ((n : ℕ) × (b : ℕ) × FirstByteRow rows n b)
@@ -186,3 +202,19 @@ none-append-by (c ∷ cs) x y = go (not c.holds) (none-append-by cs x y)
 pub none-append : (rows more : List ByteRow) → no_byte_row (rows ++ more) ≡ (no_byte_row rows && no_byte_row more)
 none-append [] more = refl
 none-append (r ∷ rows) more = ap (none_of r.conditions) (none-append rows more) ∙ none-append-by r.conditions (no_byte_row rows) (no_byte_row more)
+
+-- ---- a result of the code, as what a table gives
+
+-- a refusal by a table is one by that table and those behind it
+pub given-first : {A : Type 0} (rows : List ByteRow) (behind : Fault) (r : Result A Wrong) (f : Wrong) → IsErrAnd r (λ e. e ≡ f)
+    → record { number = number_of_refusal f.why; byte = f.byte } ≡ fault_in rows → fault_given r ≡ fault_before rows behind
+given-first rows behind (Ok x) f h e = absurd h
+given-first rows behind (Err x) f h e =
+    ap (λ (y : Wrong). record { number = number_of_refusal y.why; byte = y.byte }) h
+    ∙ e
+    ∙ sym (first-before rows behind (fault_in rows).number (fault_in rows).byte
+    (fault-first rows (λ z. eqb-false (number_of_refusal f.why) 0 (number-never-zero f.why) (ap (λ (x : Fault). x.number) e ∙ z))))
+
+-- and where it refuses nothing those behind it are asked
+pub given-none : (rows : List ByteRow) (behind : Fault) → numbered (heads rows) ≡ true → record { number = 0; byte = 0 } ≡ fault_in rows → fault_before rows behind ≡ behind
+given-none rows behind n e = none-before rows behind (fault-none rows n (sym (ap (λ (x : Fault). x.number) e)))

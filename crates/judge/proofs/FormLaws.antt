@@ -12,7 +12,7 @@ use Rattle.network.specs.Unlisted.{wide_group, not_below, code_rows}
 use Rattle.network.proofs.TableRules.{none-permitted, listed-exactly, listed-none}
 use Rattle.registers.specs.declared.Modes.{Modes}
 use Rattle.judge.specs.declared.Instruction.{Instruction}
-use Rattle.judge.specs.declared.Fault.{Fault}
+use Rattle.judge.specs.Answers.{Fault}
 use Rattle.judge.specs.ByteRows.{fault_before, about_byte}
 use Rattle.judge.specs.Instructions.{stores}
 use Rattle.judge.specs.Judge.{wrong_kind, wrong_source, lacks_tag, wrong_tag, idle_tag, idle_mode, idle_address, unset_mode, barred_flip, barred_shift, wrong_logic, access_rows, move_rows, logic_rows, instruction_rows, fault_of}

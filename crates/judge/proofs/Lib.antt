@@ -6,5 +6,6 @@ pub mod ModeLaws
 pub mod Numbers
 pub mod Accepted
 pub mod Shortage
+pub mod Given
 pub mod Bounds
 pub mod Examples

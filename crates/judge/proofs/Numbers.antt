@@ -16,12 +16,12 @@ use Rattle.bits.proofs.Search.{NoneBelow, found, found_none, found_at, none_foun
 use Rattle.registers.specs.declared.Modes.{Modes}
 use Rattle.judge.specs.declared.Instruction.{Instruction}
 use Rattle.judge.specs.declared.Lengths.{Lengths}
-use Rattle.judge.specs.declared.Fault.{Fault}
-use Rattle.judge.specs.declared.Answer.{Answer}
+use Rattle.judge.specs.Answers.{Fault}
+use Rattle.judge.specs.Answers.{Answer}
 use Rattle.judge.specs.ByteRows.{NoByteRow, FirstByteRow, InOrder}
 use Rattle.judge.specs.Instructions.{instruction_at, takes, gives}
 use Rattle.judge.specs.Modes.{modes_after}
-use Rattle.judge.specs.Judge.{lacks, instruction_rows, fault_of, rows_at, fault_at, faulty, refusal, judged_alone, done, judged_needs, judged_list, judged_by}
+use Rattle.judge.specs.Judge.{lacks, instruction_rows, fault_of, rows_at, fault_at, faulty, refusal, or_else, judged_alone, done, judged_needs, judged_list, judged_by}
 use Rattle.judge.specs.Numbers.{Gives, Formed, Has, Served, Lacks, Refused, by-lent, by-instruction, by-item, by-room, Unrefused}
 use Rattle.judge.proofs.ByteRowLaws as laws
 use Rattle.judge.proofs.RowLaws.{and_both, both-and}
@@ -36,6 +36,10 @@ in_order m i = laws.in_order (instruction_rows m i) refl
 pub unfaulted : (m : Modes) (i : Instruction) → ((fault_of m i).number ≡ 0) ↔ NoByteRow (instruction_rows m i)
 unfolding fault_of
 unfaulted m i = (laws.fault-none (instruction_rows m i) refl, λ r. ap (λ (f : Fault). f.number) (laws.none-fault (instruction_rows m i) r))
+
+pub unfaulted-is : (m : Modes) (i : Instruction) → (fault_of m i).number ≡ 0 → fault_of m i ≡ record { number = 0; byte = 0 }
+unfolding fault_of
+unfaulted-is m i z = laws.none-fault (instruction_rows m i) ((unfaulted m i).0 z)
 
 fault-first : (m : Modes) (i : Instruction) → ((fault_of m i).number ≡ 0 → ⊥) → FirstByteRow (instruction_rows m i) (fault_of m i).number (fault_of m i).byte
 unfolding fault_of
@@ -101,12 +105,21 @@ module _ (l : Lengths) (modes : Modes) (list : List ℕ) where
   abbrev pub room_at : ℕ
   room_at = first (lacks gives list l.out) 0 size
 
-  pub list-bad : bad_at < size → judged_list l modes list ≡ refused_at modes list bad_at
+  -- an instruction has a number, whatever is asked of the list after it
+  pub alone-bad : (rest : Answer) → bad_at < size → or_else (judged_alone modes list) rest ≡ refused_at modes list bad_at
   unfolding judged_alone
-  list-bad h =
+  alone-bad rest h =
       simp (lt-ltb bad_at size h, ne_eqb (fault_at modes list bad_at).number 0 (some-fault modes list bad_at (found_at (faulty modes list) size h)))
 
+  pub list-bad : bad_at < size → judged_list l modes list ≡ refused_at modes list bad_at
+  list-bad h = alone-bad (judged_needs l list) h
+
   module _ (formed : size ≤ bad_at) where
+    -- none has
+    pub alone-formed : (rest : Answer) → or_else (judged_alone modes list) rest ≡ rest
+    unfolding judged_alone
+    alone-formed rest = simp (le-ltb bad_at size formed)
+
     pub list-item : item_at < size → judged_list l modes list ≡ refusal 12 item_at 0
     unfolding judged_alone judged_needs
     list-item h = simp (le-ltb bad_at size formed, lt-ltb item_at size h)

@@ -1,7 +1,7 @@
 -- A table whose rows say which byte is wrong. Document 02, Six: "the offending byte, 0 to 7, the first one wrong by the number given".
 use Rattle.std.specs.Prelude.{◌≡◌, Bool, cond, List, [], ◌∷◌, ◌⊎◌, ℕ, ◌<◌}
 use Rattle.bits.specs.Rows.{Row, row, NoRow, FirstRow}
-use Rattle.judge.specs.declared.Fault.{Fault}
+use Rattle.judge.specs.Answers.{Fault}
 
 -- A row: the number that it gives, and its conditions, each about one byte, in the order of the bytes (`InOrder`). It holds where one of them does. A condition is a row in its turn, and its number is the byte.
 pub record ByteRow : Type 0 where

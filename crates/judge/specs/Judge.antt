@@ -7,8 +7,8 @@ use Rattle.registers.specs.declared.Modes.{Modes}
 use Rattle.registers.specs.Modes.{wrong_modes}
 use Rattle.judge.specs.declared.Instruction.{Instruction}
 use Rattle.judge.specs.declared.Lengths.{Lengths}
-use Rattle.judge.specs.declared.Fault.{Fault}
-use Rattle.judge.specs.declared.Answer.{Answer}
+use Rattle.judge.specs.Answers.{Fault}
+use Rattle.judge.specs.Answers.{Answer}
 use Rattle.judge.specs.ByteRows.{ByteRow, byte_row, byte, fault_in, about_byte}
 use Rattle.judge.specs.Kinds.{memory_bytes, register_bytes, most_bytes, logic, resolve, set_mode, in_memory, outside, tag_given, tag_a, tag_b}
 use Rattle.judge.specs.Instructions.{instruction_at, stores, touches, takes, gives}

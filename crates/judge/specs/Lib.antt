@@ -2,6 +2,7 @@
 pub mod Kinds
 pub mod Instructions
 pub mod Modes
+pub mod Answers
 pub mod ByteRows
 pub mod Judge
 pub mod Numbers

@@ -5,7 +5,7 @@ use Rattle.bits.specs.Search.{count}
 use Rattle.registers.specs.declared.Modes.{Modes}
 use Rattle.judge.specs.declared.Instruction.{Instruction}
 use Rattle.judge.specs.declared.Lengths.{Lengths}
-use Rattle.judge.specs.declared.Answer.{Answer}
+use Rattle.judge.specs.Answers.{Answer}
 use Rattle.judge.specs.ByteRows.{NoByteRow, FirstByteRow}
 use Rattle.judge.specs.Instructions.{instruction_at, takes, gives}
 use Rattle.judge.specs.Judge.{rows_at}

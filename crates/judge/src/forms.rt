@@ -7,11 +7,13 @@ ghost use Rattle.judge.specs.Judge.{fault_of};
 ghost use Rattle.judge.specs.Steps.{idle, moded, fits, passes};
 
 use crate::kinds::{
-    LOGIC, MASKED_STORE, MEMORY, OUTSIDE, RESOLVE, SET_MODE, STORE, TAG_A, TAG_B, TAG_GIVEN,
+    DELIVER, LOGIC, MASKED_STORE, MEMORY, OUTSIDE, RESOLVE, SET_MODE, STORE, TAG_A, TAG_B,
+    TAG_GIVEN,
 };
 use registers::Modes;
 
 // Are tag, mode and address 0?
+// By index, in all of this file: a test reads one to three of the eight bytes where they stand in the list, and no others (docs/DECISIONS.md, One walk, and a quick test).
 fn idle(list: &[u8], k: usize) -> bool
     requires { 8 * k + 8 ≤ length list.now }
     ensures { result ≡ idle (instruction_at list.now k) }
@@ -27,20 +29,16 @@ fn mode_fits(m: Modes, list: &[u8], k: usize) -> bool
 {
     let at = 8 * k;
     let tag = list[at + 2];
-    if tag == TAG_GIVEN {
-        return true;
+    match tag {
+        TAG_GIVEN => true,
+        TAG_A => (list[at + 3] == 0) & (m.a.set == 1),
+        TAG_B => (list[at + 3] == 0) & (m.b.set == 1),
+        _ => false,
     }
-    let unused = list[at + 3] == 0;
-    if tag == TAG_A {
-        return unused & (m.a.set == 1);
-    }
-    if tag == TAG_B {
-        return unused & (m.b.set == 1);
-    }
-    false
 }
 
 // Rows 5 to 9 and 14 for kinds 0, 1 and 4: memory with a mode, or another source with none.
+// What is asked of the kind, here and below: which test is called goes by the kind, so that each is called with its own.
 fn source_fits(m: Modes, list: &[u8], k: usize) -> bool
     requires k_in_bounds { 8 * k + 8 ≤ length list.now }
     requires k_bound { (instruction_at list.now k).kind ≤ 4 }
@@ -62,7 +60,7 @@ fn store_fits(m: Modes, list: &[u8], k: usize) -> bool
     ensures { result ≡ fits m (instruction_at list.now k) }
 {
     let source = list[8 * k + 1];
-    !(source == MEMORY) & !(source > OUTSIDE) & mode_fits(m, list, k)
+    (source != MEMORY) & !(source > OUTSIDE) & mode_fits(m, list, k)
 }
 
 // Rows 5 to 9 and 14 for kind 5: no source and no mode, whatever the mode registers are.
@@ -104,25 +102,23 @@ fn pass_fits(list: &[u8], k: usize) -> bool
 }
 
 // All rows for kinds over 4, which have no move and no function.
-pub fn still_fits(m: Modes, list: &[u8], k: usize) -> bool
+fn still_fits(m: Modes, list: &[u8], k: usize) -> bool
     requires k_in_bounds { 8 * k + 8 ≤ length list.now }
     requires bound { 4 < (instruction_at list.now k).kind }
     ensures { result ≡ eqb (fault_of m (instruction_at list.now k)).number 0 }
 {
     let at = 8 * k;
-    let kind = list[at];
     let still = (list[at + 5] == 0) & (list[at + 6] == 0) & (list[at + 7] == 0);
-    if kind == RESOLVE {
-        return still & resolve_fits(list, k);
+    let kind = list[at];
+    match kind {
+        RESOLVE => still & resolve_fits(list, k),
+        SET_MODE => still & set_fits(list, k),
+        _ => false,
     }
-    if kind == SET_MODE {
-        return still & set_fits(list, k);
-    }
-    false
 }
 
 // All rows for kinds up to 4: the pass, byte 7, then the rest by kind.
-pub fn moving_fits(m: Modes, list: &[u8], k: usize) -> bool
+fn moving_fits(m: Modes, list: &[u8], k: usize) -> bool
     requires k_in_bounds { 8 * k + 8 ≤ length list.now }
     requires k_bound { (instruction_at list.now k).kind ≤ 4 }
     ensures { result ≡ eqb (fault_of m (instruction_at list.now k)).number 0 }
@@ -145,4 +141,15 @@ pub fn moving_fits(m: Modes, list: &[u8], k: usize) -> bool
         return store_fits(m, list, k);
     }
     source_fits(m, list, k)
+}
+
+// All rows. Kinds up to 4 leave the mode registers as they are and are asked apart, so that a list that uses no mode register does not pay for them.
+pub fn stands(m: Modes, list: &[u8], k: usize) -> bool
+    requires { 8 * k + 8 ≤ length list.now }
+    ensures { result ≡ eqb (fault_of m (instruction_at list.now k)).number 0 }
+{
+    if list[8 * k] > DELIVER {
+        return still_fits(m, list, k);
+    }
+    moving_fits(m, list, k)
 }

@@ -1,4 +1,5 @@
 // The kinds of instructions, their sources and mode tags, under the documents' names.
+// Numbers and no enum: a list is lent, any byte may stand in it, `decode` keeps each as it is, and the rows of specs/Judge speak of bytes.
 pub const LOGIC: u8 = 0;
 
 pub const SET_M: u8 = 1;

@@ -9,11 +9,13 @@ pub mod searches;
 
 ghost use Rattle.std.specs.Prelude.{◌≡◌, ◌+◌, ◌*◌, ◌<◌, ◌≤◌, length};
 ghost use Rattle.bits.specs.Rows.{number_of};
+ghost use Rattle.bits.specs.Refusals.{number_given};
+ghost use Rattle.judge.specs.Answers.{answer_of};
 ghost use Rattle.judge.specs.Kinds.{most_bytes};
 ghost use Rattle.judge.specs.Instructions.{instruction_at};
-ghost use Rattle.judge.specs.Judge.{unfit, run_rows, step_rows, refusal, or_else, judged_list, judged, judged_step};
+ghost use Rattle.judge.specs.Judge.{unfit, run_rows, step_rows, judged_list, judged, judged_step};
 
-use bits::choices::number_or;
+use bits::refusals::Refusal;
 use registers::Modes;
 use registers::mode_bytes::wrong_modes;
 
@@ -25,6 +27,7 @@ pub const REGISTER_BYTES: usize = 100;
 pub const MOST_BYTES: usize = 32768;
 
 // An instruction, its eight bytes in order.
+// Numbers, for the reason that stands in kinds.
 #[derive(Clone, Copy)]
 pub struct Instruction {
     pub kind: u8,
@@ -46,34 +49,58 @@ pub struct Lengths {
     pub out: usize,
 }
 
-// What is wrong with an instruction: a number, 0 for nothing, and the first byte that is wrong by it.
-#[derive(Clone, Copy)]
+// What is wrong with an instruction: why it is refused, and the first byte that is wrong by that.
+#[derive(Clone, Copy, Debug, PartialEq, Eq)]
 pub struct Fault {
-    pub number: u8,
+    pub why: Refusal,
     pub byte: u8,
 }
 
-// What a run gives back.
-#[derive(Clone, Copy)]
-pub struct Answer {
-    pub number: u8,
-    pub place: usize,
-    pub byte: u8,
+impl Fault {
+    // The refusal of a list whose instruction `place` it is wrong with.
+    pub fn at(self, place: usize) -> Refused
+        ensures { result ≡ record { why = self.why; place = place; byte = self.byte } }
+    {
+        Refused {
+            why: self.why,
+            place,
+            byte: self.byte,
+        }
+    }
+}
+
+// A run that is done: how many instructions there are, and how many of them take an item and give one.
+#[derive(Clone, Copy, Debug, PartialEq, Eq)]
+pub struct Done {
     pub steps: usize,
     pub taken: usize,
     pub given: usize,
 }
 
-// The first instruction that has a number, how many before it take an item and give one, and the mode registers before it.
-#[derive(Clone, Copy)]
-pub struct Tally {
+// One that is refused: why, by which instruction, and for which of its bytes.
+// Place and byte are 0 where no instruction is refused, as document 01 gives them back, so they are no Option.
+#[derive(Clone, Copy, Debug, PartialEq, Eq)]
+pub struct Refused {
+    pub why: Refusal,
     pub place: usize,
-    pub taken: usize,
-    pub given: usize,
-    pub modes: Modes,
+    pub byte: u8,
+}
+
+// What is lent is refused without an instruction.
+impl From<Refusal> for Refused {
+    ghost from_gives = { λ why r. r ≡ record { why = why; place = 0; byte = 0 } };
+
+    fn from(why: Refusal) -> Refused {
+        Refused {
+            why,
+            place: 0,
+            byte: 0,
+        }
+    }
 }
 
 // Instruction `k` of a list.
+// A list and a number, here and wherever instructions are walked (`8 * k + 8 ≤ length list`): `instruction_at` is of both, and a chunk of 8 would have to be joined to it by a law at each use.
 pub fn decode(list: &[u8], k: usize) -> Instruction
     requires { 8 * k + 8 ≤ length list.now }
     ensures { result ≡ instruction_at list.now k }
@@ -96,94 +123,87 @@ pub fn unfit(unit: usize, size: usize) -> bool
     requires { 0 < unit }
     ensures { result ≡ unfit unit size }
 {
-    !(size % unit == 0) | (size > MOST_BYTES)
+    (size % unit != 0) | (size > MOST_BYTES)
 }
 
-// The number of what a run is lent, 1 to 4, and 15: 0 where nothing is wrong.
-fn run_fault(l: Lengths, m: Modes, list: &[u8]) -> u8
-    ensures { result ≡ number_of (run_rows l m list.now) }
+// What is wrong with what a run is lent: 1 to 4, and 15.
+fn run_lent(l: Lengths, m: Modes, list: &[u8]) -> Result<(), Refusal>
+    ensures { number_given result ≡ number_of (run_rows l m list.now) }
 {
-    let from15 = number_or(wrong_modes(m), 15, 0);
-    let from4 = number_or(unfit(32, l.items), 4, from15);
-    let from3 = number_or(unfit(8, list.len()), 3, from4);
-    let from2 = number_or(!(l.registers == REGISTER_BYTES), 2, from3);
-    number_or(!(l.memory == MEMORY_BYTES), 1, from2)
-}
-
-// The number of what a step is lent.
-fn step_fault(l: Lengths, m: Modes, instruction: &[u8]) -> u8
-    ensures { result ≡ number_of (step_rows l m instruction.now) }
-{
-    let from15 = number_or(wrong_modes(m), 15, 0);
-    let from4 = number_or(unfit(32, l.items), 4, from15);
-    let from3 = number_or(!(instruction.len() == 8), 3, from4);
-    number_or(!(l.memory == MEMORY_BYTES), 1, from3)
-}
-
-fn refused(number: u8, place: usize, byte: u8) -> Answer
-    ensures { result ≡ refusal number place byte }
-{
-    Answer {
-        number: number,
-        place: place,
-        byte: byte,
-        steps: 0,
-        taken: 0,
-        given: 0,
+    if l.memory != MEMORY_BYTES {
+        return Err(Refusal::MemoryLength);
     }
+    if l.registers != REGISTER_BYTES {
+        return Err(Refusal::RegistersLength);
+    }
+    if unfit(8, list.len()) {
+        return Err(Refusal::ListLength);
+    }
+    if unfit(32, l.items) {
+        return Err(Refusal::ItemsLength);
+    }
+    if wrong_modes(m) {
+        return Err(Refusal::ModeRegisters);
+    }
+    Ok(())
+}
+
+// What is wrong with what a step is lent.
+// Not one with run_lent, nor with what reach and isolation ask: each asks the rows of its own definition (run_rows, step_rows, reach_rows, ask_rows), all of them and in their order.
+fn step_lent(l: Lengths, m: Modes, instruction: &[u8]) -> Result<(), Refusal>
+    ensures { number_given result ≡ number_of (step_rows l m instruction.now) }
+{
+    if l.memory != MEMORY_BYTES {
+        return Err(Refusal::MemoryLength);
+    }
+    if instruction.len() != 8 {
+        return Err(Refusal::ListLength);
+    }
+    if unfit(32, l.items) {
+        return Err(Refusal::ItemsLength);
+    }
+    if wrong_modes(m) {
+        return Err(Refusal::ModeRegisters);
+    }
+    Ok(())
 }
 
 // Each instruction in turn; then 12; then 13. A list that stands is walked once: what all of it takes and gives is there exactly if each instruction
 // finds its own, so that only a list that lacks some is searched for the instruction.
-fn judge_list(l: Lengths, m: Modes, list: &[u8]) -> Answer
+fn judge_list(l: Lengths, m: Modes, list: &[u8]) -> Result<Done, Refused>
     requires { length list.now ≤ most_bytes }
-    ensures { result ≡ judged_list l m list.now }
+    ensures { answer_of result ≡ judged_list l m list.now }
 {
-    let n = list.len() / 8;
-    let tally = searches::tally(m, list);
-    let bad = tally.place;
-    if bad < n {
-        let before = tally.modes;
-        let fault = rows::fault(before, decode(list, bad));
-        return refused(fault.number, bad, fault.byte);
+    let done = searches::tally(m, list)?;
+    if l.items < 32 * done.taken {
+        return Err(Refused {
+            why: Refusal::ItemsTooFew,
+            place: searches::shortage(|i| rows::takes(i), list, l.items),
+            byte: 0,
+        });
     }
-    if l.items < 32 * tally.taken {
-        return refused(12, searches::shortage(false, list, l.items), 0);
+    if l.out < 32 * done.given {
+        return Err(Refused {
+            why: Refusal::OutTooShort,
+            place: searches::shortage(|i| rows::gives(i), list, l.out),
+            byte: 0,
+        });
     }
-    if l.out < 32 * tally.given {
-        return refused(13, searches::shortage(true, list, l.out), 0);
-    }
-    Answer {
-        number: 0,
-        place: 0,
-        byte: 0,
-        steps: n,
-        taken: tally.taken,
-        given: tally.given,
-    }
-}
-
-// What is lent first, whose number is `wrong`; then the list.
-fn judge_by(wrong: u8, l: Lengths, m: Modes, list: &[u8]) -> Answer
-    requires { wrong ≡ 0 → length list.now ≤ most_bytes }
-    ensures { result ≡ or_else (refusal wrong 0 0) (judged_list l m list.now) }
-{
-    if wrong != 0 {
-        return refused(wrong, 0, 0);
-    }
-    judge_list(l, m, list)
+    Ok(done)
 }
 
 // What a run gives back, by the mode registers at its start.
-pub fn judge(l: Lengths, m: Modes, list: &[u8]) -> Answer
-    ensures { result ≡ judged l m list.now }
+pub fn judge(l: Lengths, m: Modes, list: &[u8]) -> Result<Done, Refused>
+    ensures { answer_of result ≡ judged l m list.now }
 {
-    judge_by(run_fault(l, m, list), l, m, list)
+    run_lent(l, m, list)?;
+    judge_list(l, m, list)
 }
 
 // What a step gives back: a run's answer for its one instruction, which is exactly 8 bytes, else 3.
-pub fn judge_step(l: Lengths, m: Modes, instruction: &[u8]) -> Answer
-    ensures { result ≡ judged_step l m instruction.now }
+pub fn judge_step(l: Lengths, m: Modes, instruction: &[u8]) -> Result<Done, Refused>
+    ensures { answer_of result ≡ judged_step l m instruction.now }
 {
-    judge_by(step_fault(l, m, instruction), l, m, instruction)
+    step_lent(l, m, instruction)?;
+    judge_list(l, m, instruction)
 }

@@ -25,28 +25,22 @@ pub(crate) fn modes_by(i: Instruction, m: Modes) -> Modes
         set: 1,
         mode: i.mode,
     };
-    let a = m.a;
-    let b = m.b;
-    if i.tag == TAG_A {
-        return Modes { a: register, b: b };
+    match i.tag {
+        TAG_A => Modes { a: register, ..m },
+        TAG_B => Modes { b: register, ..m },
+        _ => m,
     }
-    if i.tag == TAG_B {
-        return Modes { a: a, b: register };
-    }
-    m
 }
 
 // The mode under which an instruction accesses memory.
 fn mode_of(m: Modes, i: Instruction) -> u8
     ensures { result ≡ mode_of m i }
 {
-    if i.tag == TAG_A {
-        return m.a.mode;
+    match i.tag {
+        TAG_A => m.a.mode,
+        TAG_B => m.b.mode,
+        _ => i.mode,
     }
-    if i.tag == TAG_B {
-        return m.b.mode;
-    }
-    i.mode
 }
 
 // Both of these. Most instructions name no register.
@@ -59,17 +53,16 @@ pub fn settle(i: Instruction, m: Modes) -> Settled
             modes: m,
         };
     }
-    let mode = mode_of(m, i);
-    let modes = modes_by(i, m);
     Settled {
-        mode: mode,
-        modes: modes,
+        mode: mode_of(m, i),
+        modes: modes_by(i, m),
     }
 }
 
 // Is its tag that of a register which is not set?
+// The flags are tested as bytes, here and in forms, as `unset` and `moded` word it.
 pub fn unset(m: Modes, i: Instruction) -> bool
     ensures { result ≡ unset m i }
 {
-    ((i.tag == TAG_A) & !(m.a.set == 1)) | ((i.tag == TAG_B) & !(m.b.set == 1))
+    ((i.tag == TAG_A) & (m.a.set != 1)) | ((i.tag == TAG_B) & (m.b.set != 1))
 }

@@ -1,9 +1,10 @@
 // The rows of the table that look at one instruction, condition by condition as the documents word them, each with the byte that it is about.
-ghost use Rattle.std.specs.Prelude.{◌≡◌, cond};
+ghost use Rattle.std.specs.Prelude.{◌≡◌, Err};
 ghost use Rattle.network.specs.Unlisted.{code_rows};
-ghost use Rattle.judge.specs.ByteRows.{fault_before, about_byte};
+ghost use Rattle.judge.specs.Answers.{fault_given};
+ghost use Rattle.judge.specs.ByteRows.{fault_in, about_byte};
 ghost use Rattle.judge.specs.Instructions.{stores, touches, takes, gives};
-ghost use Rattle.judge.specs.Judge.{wrong_kind, wrong_source, tagged, lacks_tag, wrong_tag, idle_tag, idle_mode, idle_address, unset_mode, barred_flip, barred_shift, wrong_logic, fault_of};
+ghost use Rattle.judge.specs.Judge.{wrong_kind, wrong_source, tagged, lacks_tag, wrong_tag, idle_tag, idle_mode, idle_address, unset_mode, barred_flip, barred_shift, wrong_logic, access_rows, move_rows, fault_of};
 
 use crate::kinds::{
     DELIVER, LOGIC, MASKED_STORE, MEMORY, OUTSIDE, RESOLVE, SET_M, SET_MODE, STORE, TAG_A, TAG_B,
@@ -11,6 +12,7 @@ use crate::kinds::{
 };
 use crate::modes::unset;
 use crate::{Fault, Instruction};
+use bits::refusals::Refusal;
 use registers::Modes;
 
 // Does it store?
@@ -48,7 +50,7 @@ fn wrong_source(i: Instruction) -> bool
 {
     (i.source > OUTSIDE)
         | (stores(i) & (i.source == MEMORY))
-        | (((i.kind == RESOLVE) | (i.kind == SET_MODE)) & !(i.source == 0))
+        | (((i.kind == RESOLVE) | (i.kind == SET_MODE)) & (i.source != 0))
 }
 
 // 7: a tag needed, and 0
@@ -69,21 +71,21 @@ fn wrong_tag(i: Instruction) -> bool
 fn idle_tag(i: Instruction) -> bool
     ensures { result ≡ idle_tag i }
 {
-    !tagged(i) & !(i.tag == 0)
+    !tagged(i) & (i.tag != 0)
 }
 
 // 9, of byte 3: no tag needed, or memory touched under the mode of a register, and not 0
 fn idle_mode(i: Instruction) -> bool
     ensures { result ≡ idle_mode i }
 {
-    (!tagged(i) | (touches(i) & ((i.tag == TAG_A) | (i.tag == TAG_B)))) & !(i.mode == 0)
+    (!tagged(i) | (touches(i) & ((i.tag == TAG_A) | (i.tag == TAG_B)))) & (i.mode != 0)
 }
 
 // 9, of byte 4: memory not touched, and not 0
 fn idle_address(i: Instruction) -> bool
     ensures { result ≡ idle_address i }
 {
-    !touches(i) & !(i.addr == 0)
+    !touches(i) & (i.addr != 0)
 }
 
 // 14: memory touched under the mode of a register that is not set
@@ -97,66 +99,99 @@ fn unset_mode(m: Modes, i: Instruction) -> bool
 fn barred_flip(i: Instruction) -> bool
     ensures { result ≡ barred_flip i }
 {
-    ((i.kind == RESOLVE) | (i.kind == SET_MODE)) & !(i.flip == 0)
+    ((i.kind == RESOLVE) | (i.kind == SET_MODE)) & (i.flip != 0)
 }
 
 // 18, of byte 6: a store, a resolve or kind 6 that shifts
 fn barred_shift(i: Instruction) -> bool
     ensures { result ≡ barred_shift i }
 {
-    (stores(i) | (i.kind == RESOLVE) | (i.kind == SET_MODE)) & !(i.code == 0)
+    (stores(i) | (i.kind == RESOLVE) | (i.kind == SET_MODE)) & (i.code != 0)
 }
 
 // 11: choice over 4 in logic; byte 7 not 0 in another kind
 fn wrong_logic(i: Instruction) -> bool
     ensures { result ≡ wrong_logic i }
 {
-    ((i.kind == LOGIC) & (i.logic / 16 > 4)) | (!(i.kind == LOGIC) & !(i.logic == 0))
+    ((i.kind == LOGIC) & (i.logic / 16 > 4)) | ((i.kind != LOGIC) & (i.logic != 0))
 }
 
-// A condition about a byte: its row's number and the byte where it holds, else what is behind it.
-fn fault_or(holds: bool, number: u8, byte: u8, behind: Fault) -> Fault
-    ensures { result ≡ cond holds (record { number = number; byte = byte }) behind }
+// The refusal of an instruction for one of its bytes.
+fn refused(why: Refusal, byte: u8) -> Result<(), Fault>
+    ensures { result ≡ Err (record { why = why; byte = byte }) }
 {
-    if holds {
-        return Fault {
-            number: number,
-            byte: byte,
-        };
-    }
-    behind
+    Err(Fault { why, byte })
 }
 
 // 16 and 17: byte 6 is searched among the 37, and only one that is not found is split.
-fn shift_fault(code: u8, behind: Fault) -> Fault
-    ensures { result ≡ fault_before (about_byte 6 (code_rows code)) behind }
+fn shift_fault(code: u8) -> Result<(), Fault>
+    ensures { fault_given result ≡ fault_in (about_byte 6 (code_rows code)) }
 {
     if network::codes::is_code(code) {
-        return behind;
+        return Ok(());
     }
-    Fault {
-        number: network::codes::unlisted(code),
+    Err(Fault {
+        why: network::codes::unlisted(code),
         byte: 6,
-    }
+    })
 }
 
-// The number and the byte of an instruction, by the mode registers before it: 0 and 0 where it has none. The conditions stand from the
-// last of the table to the first: `from9_3` is what the table gives from row 9's condition about byte 3 on.
-pub fn fault(m: Modes, i: Instruction) -> Fault
-    ensures { result ≡ fault_of m i }
+// What is wrong with what an instruction accesses: 5 to 9, and then 14.
+#[tactic(auto, unfolding(crate::specs::Judge::access_rows))]
+fn access_fault(m: Modes, i: Instruction) -> Result<(), Fault>
+    ensures { fault_given result ≡ fault_in (access_rows m i) }
 {
-    let from11 = fault_or(wrong_logic(i), 11, 7, Fault { number: 0, byte: 0 });
-    let from16 = shift_fault(i.code, from11);
-    let from18_6 = fault_or(barred_shift(i), 18, 6, from16);
-    let from18 = fault_or(barred_flip(i), 18, 5, from18_6);
-    let from14 = fault_or(unset_mode(m, i), 14, 2, from18);
-    let from9_4 = fault_or(idle_address(i), 9, 4, from14);
-    let from9_3 = fault_or(idle_mode(i), 9, 3, from9_4);
-    let from9 = fault_or(idle_tag(i), 9, 2, from9_3);
-    let from8 = fault_or(wrong_tag(i), 8, 2, from9);
-    let from7 = fault_or(lacks_tag(i), 7, 2, from8);
-    let from6 = fault_or(wrong_source(i), 6, 1, from7);
-    fault_or(wrong_kind(i), 5, 0, from6)
+    if wrong_kind(i) {
+        return refused(Refusal::Kind, 0);
+    }
+    if wrong_source(i) {
+        return refused(Refusal::Source, 1);
+    }
+    if lacks_tag(i) {
+        return refused(Refusal::NoMode, 2);
+    }
+    if wrong_tag(i) {
+        return refused(Refusal::ModeTag, 2);
+    }
+    if idle_tag(i) {
+        return refused(Refusal::ModeUnused, 2);
+    }
+    if idle_mode(i) {
+        return refused(Refusal::ModeUnused, 3);
+    }
+    if idle_address(i) {
+        return refused(Refusal::ModeUnused, 4);
+    }
+    if unset_mode(m, i) {
+        return refused(Refusal::ModeUnset, 2);
+    }
+    Ok(())
+}
+
+// What is wrong with its move: 18, and then 16 and 17.
+#[tactic(auto, unfolding(crate::specs::Judge::move_rows))]
+fn move_fault(i: Instruction) -> Result<(), Fault>
+    ensures { fault_given result ≡ fault_in (move_rows i) }
+{
+    if barred_flip(i) {
+        return refused(Refusal::MoveBarred, 5);
+    }
+    if barred_shift(i) {
+        return refused(Refusal::MoveBarred, 6);
+    }
+    shift_fault(i.code)
+}
+
+// What is wrong with an instruction, by the mode registers before it: the first of the table's conditions that holds, with its byte.
+pub fn fault(m: Modes, i: Instruction) -> Result<(), Fault>
+    ensures { fault_given result ≡ fault_of m i }
+{
+    access_fault(m, i)?;
+    move_fault(i)?;
+    if wrong_logic(i) {
+        return refused(Refusal::Logic, 7);
+    }
+    Ok(())
 }
 
 // Does it take an item?

@@ -1,70 +1,67 @@
 // The searches through a list: for the first instruction that has a number, and for the first that lacks its item or its room.
-ghost use Rattle.std.specs.Prelude.{◌≡◌, ◌/◌, ◌≤◌, length};
+ghost use Rattle.std.specs.Prelude.{◌≡◌, Bool, ◌+◌, ◌*◌, ◌/◌, ◌≤◌, length};
 ghost use Rattle.bits.specs.Search.{first};
+ghost use Rattle.judge.specs.declared.Instruction.{Instruction};
 ghost use Rattle.judge.specs.Kinds.{most_bytes};
-ghost use Rattle.judge.specs.Judge.{lacks, uses};
-ghost use Rattle.judge.specs.Steps.{tally_of};
+ghost use Rattle.judge.specs.Answers.{answer_of, fault_given};
+ghost use Rattle.judge.specs.Instructions.{instruction_at};
+ghost use Rattle.judge.specs.Judge.{lacks, fault_of, judged_alone, done, or_else};
 
-use crate::kinds::DELIVER;
 use crate::modes::modes_by;
-use crate::{Instruction, Tally, decode, forms, rows};
-use bits::choices::one_if;
+use crate::{Done, Fault, Instruction, Refused, decode, forms, rows};
 use registers::Modes;
 
-// The first instruction that has a number, or how many there are, what those before it take and give, and what they make of the mode registers.
-// Kinds up to 4 leave those as they are and are asked apart, so that a list that uses no mode register does not pay for them.
-pub fn tally(m: Modes, list: &[u8]) -> Tally
-    ensures { result ≡ tally_of m list.now }
+// What is wrong with instruction `k`, if anything. Most stand, which the quick test says by itself.
+fn fault_at(m: Modes, list: &[u8], k: usize) -> Result<(), Fault>
+    requires { 8 * k + 8 ≤ length list.now }
+    ensures { fault_given result ≡ fault_of m (instruction_at list.now k) }
+{
+    if forms::stands(m, list, k) {
+        return Ok(());
+    }
+    rows::fault(m, decode(list, k))
+}
+
+// Each instruction in turn: the first that has a number refuses the list; what a list without one takes and gives is counted. The mode registers are carried along as a run would.
+pub fn tally(m: Modes, list: &[u8]) -> Result<Done, Refused>
+    ensures { answer_of result ≡ or_else (judged_alone m list.now) (done list.now) }
 {
     let n = list.len() / 8;
     let mut modes = m;
     let mut taken: usize = 0;
     let mut given: usize = 0;
-    let mut k: usize = 0;
-    while k < n {
-        if list[8 * k] > DELIVER {
-            if !forms::still_fits(modes, list, k) {
-                break;
-            }
-            modes = modes_by(decode(list, k), modes);
-        } else if !forms::moving_fits(modes, list, k) {
-            break;
+    for k in 0..n {
+        if let Err(fault) = fault_at(modes, list, k) {
+            return Err(fault.at(k));
         }
         let i = decode(list, k);
-        taken += one_if(rows::takes(i));
-        given += one_if(rows::gives(i));
-        k += 1;
+        modes = modes_by(i, modes);
+        taken += usize::from(rows::takes(i));
+        given += usize::from(rows::gives(i));
     }
-    Tally {
-        place: k,
-        taken: taken,
-        given: given,
-        modes: modes,
-    }
+    Ok(Done {
+        steps: n,
+        taken,
+        given,
+    })
 }
 
-// What an instruction uses: room in the out buffer, or an item.
-fn uses(room: bool, i: Instruction) -> bool
-    ensures { result ≡ uses room i }
-{
-    if room { rows::gives(i) } else { rows::takes(i) }
-}
-
-// The first instruction that lacks its room, or its item, in a buffer of `have` bytes, or how many there are.
-pub fn shortage(room: bool, list: &[u8], have: usize) -> usize
-    requires { length list.now ≤ most_bytes }
-    ensures { result ≡ first (lacks (uses room) list.now have) 0 (length list.now / 8) }
+// The first instruction that wants its room, or its item, and lacks it in a buffer of `have` bytes, or how many there are.
+// How many there are for none, as `first` of specs/Search says it: it is called only where there is one.
+pub fn shortage<F: Fn(Instruction) -> bool>(wants: F, list: &[u8], have: usize) -> usize
+    requires callable { F.IsAlwaysCallable wants }
+    requires size { length list.now ≤ most_bytes }
+    ensures { (uses : Instruction → Bool) → ((i : Instruction) (w : Bool) → F.post wants i w → w ≡ uses i) →
+        result ≡ first (lacks uses list.now have) 0 (length list.now / 8) }
 {
     let n = list.len() / 8;
     let mut used: usize = 0;
-    let mut k: usize = 0;
-    while k < n {
-        let u = uses(room, decode(list, k));
+    for k in 0..n {
+        let u = wants(decode(list, k));
         if u & (have < 32 * used + 32) {
             return k;
         }
-        used += one_if(u);
-        k += 1;
+        used += usize::from(u);
     }
     n
 }

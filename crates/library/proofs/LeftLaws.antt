@@ -6,11 +6,11 @@ use mathlib.Core.List.{List, [], ◌∷◌}
 use Prim.Native.Nat.{ℕ, ◌≤◌}
 use native.Mathlib.Omega.{arith}
 use lib.ListN.{length}
-use Rattle.network.specs.declared.Passed.{Passed}
+use Rattle.network.specs.Answer.{Passed}
 use Rattle.network.specs.Answer.{answer}
 use Rattle.registers.specs.declared.Registers.{Registers}
 use Rattle.registers.specs.Modes.{modes_of}
-use Rattle.judge.specs.declared.Answer.{Answer as Verdict}
+use Rattle.judge.specs.Answers.{Answer as Verdict}
 use Rattle.judge.proofs.Bounds.{Bounded as Bounded6, judged-bounds, step-bounds}
 use Rattle.module.specs.Run.{Lent, Left, run_lengths, step_lengths, ran, stepped}
 use Rattle.module.proofs.RunLaws.{ran-answer}
@@ -21,19 +21,21 @@ use Rattle.closing.specs.Closing.{closing_built, spreading_built}
 use Rattle.builders.specs.Building.{BuiltLeft as Buffer, BuiltTwoLeft as Buffers}
 use Rattle.builders.proofs.Bounds.{Bounded as Bounded2, BoundedTwo, sum-bounds, difference-bounds, search-bounds, greatest-bounds}
 use Rattle.closing.proofs.Bounds.{closing-bounds, spreading-bounds}
-use Rattle.isolation.specs.declared.Isolation.{Isolation}
-use Rattle.isolation.specs.Isolation.{isolation_of}
-use Rattle.reach.specs.declared.Reached.{Reached}
-use Rattle.reach.specs.Reach.{reach_answer, reach_out}
+use Rattle.isolation.specs.Isolation.{Isolation, isolation_of}
+use Rattle.reach.specs.Reach.{Reached, reached_of, reach_answer, reach_out}
 use Rattle.reach.proofs.Answers.{reach_few}
-use Rattle.text.specs.declared.Shown.{Shown}
+use Rattle.std.specs.Prelude.{Result, Ok, Err}
+use Rattle.bits.specs.declared.refusals.Refusal.{Refusal}
+use Rattle.builders.specs.Results.{built_of}
+use Rattle.text.specs.Results.{shown_of}
+use Rattle.text.specs.Show.{Shown}
 use Rattle.text.specs.Show.{shown_answer, shown_out}
 use Rattle.text.proofs.RoundTrip.{shown-few}
-use Rattle.assembly.specs.declared.Assembled.{Assembled}
+use Rattle.assembly.specs.Assembly.{Assembled}
 use Rattle.assembly.specs.Assembly.{assembled_answer, assembled_list, assembled_items}
 use Rattle.assembly.proofs.Bounds.{Bounded as Bounded5, assembled-bounds}
 use Rattle.isolation.proofs.Answers.{place-few}
-use Rattle.contents.specs.declared.Moved.{Moved}
+use Rattle.contents.specs.Moved.{Moved}
 use Rattle.contents.specs.File.{content_of}
 use Rattle.contents.specs.Content.{ContentLeft, content_read, content_written}
 use Rattle.contents.proofs.Bounds.{Bounded as Bounded3, answered-bounds, read-bounds, size_small, read-content-bounds, write-content-bounds}
@@ -77,10 +79,11 @@ module _ (l : Lent Registers) (u : Left Registers Verdict) where
 
 -- ---- the network
 
-pub pass-left : (item : List ℕ) (flip code : ℕ) (r : Passed) → r ≡ answer item flip code
-    → ◌≡◌ {A = PassLeft} (record { passed = r.item; answer = r.number ∷ [] }) (pass_left item flip code)
+pub pass-left : (item : List ℕ) (flip code : ℕ) (r : Passed) (passed w : List ℕ) → r ≡ answer item flip code → passed ≡ r.item → w ≡ r.number ∷ []
+    → ◌≡◌ {A = PassLeft} (record { passed = passed; answer = w }) (pass_left item flip code)
 unfolding pass_left
-pass-left item flip code r e = ap (λ (x : Passed). record { passed = x.item; answer = x.number ∷ [] }) e
+pass-left item flip code r passed w e p d =
+    ap₂ (λ (x y : List ℕ). record { passed = x; answer = y }) p d ∙ ap (λ (x : Passed). record { passed = x.item; answer = x.number ∷ [] }) e
 
 -- ---- lists
 
@@ -88,12 +91,12 @@ built-left : (b c : Buffer) (w : List ℕ) → b ≡ c → w ≡ b.answer.number
     → ◌≡◌ {A = BufferLeft} (record { buffer = b.list; answer = w }) (built_left c)
 built-left b c w e d = ap (λ (x : List ℕ). record { buffer = b.list; answer = x }) d ∙ ap built_left e
 
--- 5,640 bytes are the most of any list
-small-built : (last most : ℕ) → most ≤ 5640 → (b c : Buffer) → b ≡ c → Bounded2 last most c.answer → b.answer.count ≤ 5640
+-- 5,640 bytes are the most of any list, and a text may have 786,432
+small-built : (last most : ℕ) → most ≤ 5640 → (b c : Buffer) → b ≡ c → Bounded2 last most c.answer → b.answer.count ≤ 786432
 small-built last most m b c e h = let s = (subst (λ (x : Buffer). Bounded2 last most x.answer) (sym e) h).count in omega arith
 
 module _ (a b s n : ℕ) (list : List ℕ) (l : Buffer) where
-  pub sum-small : l ≡ sum_built a b s n list → l.answer.count ≤ 5640
+  pub sum-small : l ≡ sum_built a b s n list → l.answer.count ≤ 786432
   sum-small e = small-built 33 2576 (omega arith) l _ e (sum-bounds a b s n list)
 
   pub sum-left : (w : List ℕ) → l ≡ sum_built a b s n list → w ≡ l.answer.number ∷ l.answer.count ∷ []
@@ -101,7 +104,7 @@ module _ (a b s n : ℕ) (list : List ℕ) (l : Buffer) where
   unfolding sum_left
   sum-left w e d = built-left l (sum_built a b s n list) w e d
 
-  pub difference-small : l ≡ difference_built a b s n list → l.answer.count ≤ 5640
+  pub difference-small : l ≡ difference_built a b s n list → l.answer.count ≤ 786432
   difference-small e = small-built 33 2576 (omega arith) l _ e (difference-bounds a b s n list)
 
   pub difference-left : (w : List ℕ) → l ≡ difference_built a b s n list → w ≡ l.answer.number ∷ l.answer.count ∷ []
@@ -110,7 +113,7 @@ module _ (a b s n : ℕ) (list : List ℕ) (l : Buffer) where
   difference-left w e d = built-left l (difference_built a b s n list) w e d
 
 module _ (a n : ℕ) (list : List ℕ) (l : Buffer) where
-  pub greatest-small : l ≡ greatest_built a n list → l.answer.count ≤ 5640
+  pub greatest-small : l ≡ greatest_built a n list → l.answer.count ≤ 786432
   greatest-small e = small-built 33 5640 (omega arith) l _ e (greatest-bounds a n list)
 
   pub greatest-left : (w : List ℕ) → l ≡ greatest_built a n list → w ≡ l.answer.number ∷ l.answer.count ∷ []
@@ -138,6 +141,23 @@ module _ (a : Reached) (registers list : List ℕ) where
       → ◌≡◌ {A = BufferLeft} (record { buffer = out'; answer = w }) (reach_left registers list out)
   unfolding reach_left
   reach-left out out' w e o d = ap₂ (λ (x y : List ℕ). record { buffer = x; answer = y }) o (d ∙ ap (λ (x : Reached). x.number ∷ x.count ∷ []) e)
+
+-- a number and a count: of what reach answers, of showing and of a builder alike
+pub count-reached : (r : Result ℕ Refusal) → (built_of r).count ≡ (reached_of r).count
+count-reached (Ok n) = refl
+count-reached (Err e) = refl
+
+pub numbers-reached : (r : Result ℕ Refusal) → (built_of r).number ∷ (built_of r).count ∷ [] ≡ (reached_of r).number ∷ (reached_of r).count ∷ []
+numbers-reached (Ok n) = refl
+numbers-reached (Err e) = refl
+
+pub count-shown : (r : Result ℕ Refusal) → (built_of r).count ≡ (shown_of r).count
+count-shown (Ok n) = refl
+count-shown (Err e) = refl
+
+pub numbers-shown : (r : Result ℕ Refusal) → (built_of r).number ∷ (built_of r).count ∷ [] ≡ (shown_of r).number ∷ (shown_of r).count ∷ []
+numbers-shown (Ok n) = refl
+numbers-shown (Err e) = refl
 
 module _ (a : Shown) (list : List ℕ) where
   pub show-small : (room : ℕ) → a ≡ shown_answer list room → a.count ≤ 786432

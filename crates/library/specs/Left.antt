@@ -2,7 +2,7 @@
 use Rattle.std.specs.Prelude.{List, [], ◌∷◌, ℕ, ◌+◌, ◌*◌, length}
 use Rattle.network.specs.Answer.{answer}
 use Rattle.registers.specs.declared.Registers.{Registers}
-use Rattle.judge.specs.declared.Answer.{Answer as Verdict}
+use Rattle.judge.specs.Answers.{Answer as Verdict}
 use Rattle.module.specs.Run.{Lent, Left, ran, stepped}
 use Rattle.builders.specs.Sums.{sum_built, difference_built}
 use Rattle.builders.specs.Searches.{equal_built, less_built, greatest_built}
@@ -11,9 +11,9 @@ use Rattle.builders.specs.Building.{BuiltLeft as Built, BuiltTwoLeft as BuiltTwo
 use Rattle.isolation.specs.Isolation.{isolation_of}
 use Rattle.reach.specs.Reach.{reach_answer, reach_out}
 use Rattle.text.specs.Show.{shown_answer, shown_out}
-use Rattle.assembly.specs.declared.Assembled.{Assembled}
+use Rattle.assembly.specs.Assembly.{Assembled}
 use Rattle.assembly.specs.Assembly.{assembled_answer, assembled_list, assembled_items}
-use Rattle.contents.specs.declared.Moved.{Moved}
+use Rattle.contents.specs.Moved.{Moved}
 use Rattle.contents.specs.Content.{ContentLeft, content_read, content_written}
 use Rattle.pictures.specs.Picture.{picture_read, picture_written}
 use Rattle.pictures.specs.Conversion.{to_new, to_old}

@@ -3,6 +3,7 @@
 // `library_c` exports each function under its name. No function asks anything of its bytes and lengths.
 #![tactic(auto)]
 
+// One function for each C name, even where two bodies differ in one name: each name has its own clause (specs/Left), and library_c exports it.
 mod answers;
 
 ghost use Rattle.std.specs.Prelude.{◌≡◌};
@@ -52,10 +53,7 @@ pub fn staran_pass<'a>(
 )
     ensures { record { passed = passed.exit.now; answer = answer.new } ≡ pass_left item.now flip code }
 {
-    let r = network::pass(item, flip, code);
-    let out = r.item;
-    *passed = out;
-    *answer = [r.number as u32];
+    answers::put_pass(network::pass(item, flip, code), passed, answer);
 }
 
 // The same pass in wired form.
@@ -68,10 +66,7 @@ pub fn staran_wired_pass<'a>(
 )
     ensures { record { passed = passed.exit.now; answer = answer.new } ≡ pass_left item.now flip code }
 {
-    let r = network::wired_pass(item, flip, code);
-    let out = r.item;
-    *passed = out;
-    *answer = [r.number as u32];
+    answers::put_pass(network::wired_pass(item, flip, code), passed, answer);
 }
 
 // The list that adds two fields.
@@ -79,7 +74,7 @@ pub fn staran_sum_list(a: u32, b: u32, s: u32, n: u32, list: &mut [u8], answer: 
     ensures { record { buffer = list.new; answer = answer.new } ≡ sum_left a b s n list.old }
 {
     let r = builders::sums::sum_list(a, b, s, n, list);
-    *answer = answers::two(r);
+    *answer = answers::number_and_count(r);
 }
 
 // The list that takes a field off another.
@@ -94,7 +89,7 @@ pub fn staran_difference_list(
     ensures { record { buffer = list.new; answer = answer.new } ≡ difference_left a b s n list.old }
 {
     let r = builders::sums::difference_list(a, b, s, n, list);
-    *answer = answers::two(r);
+    *answer = answers::number_and_count(r);
 }
 
 // The list that marks the words whose field equals a number, with its items.
@@ -134,7 +129,7 @@ pub fn staran_greatest_list(start: u32, n: u32, list: &mut [u8], answer: &mut [u
     ensures { record { buffer = list.new; answer = answer.new } ≡ greatest_left start n list.old }
 {
     let r = builders::searches::greatest_list(start, n, list);
-    *answer = answers::two(r);
+    *answer = answers::number_and_count(r);
 }
 
 // The list that closes up a field of the marked words, with its items.
@@ -185,7 +180,7 @@ pub fn staran_reach(registers: &[u8], list: &[u8], out: &mut [u8], answer: &mut 
         ≡ reach_left registers.now list.now out.old }
 {
     let r = reach::reach(registers, list, out);
-    *answer = answers::number_and_count(r.number, r.count);
+    *answer = answers::number_and_count(r);
 }
 
 // The text of a list.
@@ -194,7 +189,7 @@ pub fn staran_show(list: &[u8], text: &mut [u8], answer: &mut [u32; 2])
         ≡ show_left list.now text.old }
 {
     let r = text::showing::show(list, text);
-    *answer = answers::number_and_count(r.number, r.count);
+    *answer = answers::number_and_count(r);
 }
 
 // The list of a text, with its items.

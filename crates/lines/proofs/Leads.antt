@@ -10,7 +10,7 @@ use Rattle.spelling.specs.Tables.{refused_word, byte_word}
 use Rattle.spelling.specs.Words.{plain, decimal, hex_pair, extended, visible, spelled_in, spelled, goods, extended_by}
 use Rattle.spelling.proofs.Tests.{pair-hex, hex-plain, decimal-plain}
 use Rattle.judge.specs.declared.Instruction.{Instruction}
-use Rattle.judge.specs.declared.Fault.{Fault}
+use Rattle.judge.specs.Answers.{Fault}
 use Rattle.lines.specs.declared.Line.{Line}
 use Rattle.lines.specs.declared.Phase.TheVariants.{Head, Byte}
 use Rattle.lines.specs.Said.{in_bytes}

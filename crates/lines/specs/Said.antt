@@ -4,7 +4,7 @@ use Rattle.spelling.specs.Tables.{heads, choices, functions, sources, mode_regis
 use Rattle.spelling.specs.Words.{when, decimal, hex_pair}
 use Rattle.registers.specs.declared.Modes.{Modes}
 use Rattle.judge.specs.declared.Instruction.{Instruction}
-use Rattle.judge.specs.declared.Fault.{Fault}
+use Rattle.judge.specs.Answers.{Fault}
 use Rattle.judge.specs.Kinds.{logic, set_mode, tag_given}
 use Rattle.judge.specs.Modes.{mode_of, unset}
 use Rattle.reach.specs.Reach.{reach_of}

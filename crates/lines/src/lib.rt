@@ -5,8 +5,10 @@ pub mod saying;
 pub mod wording;
 
 ghost use Rattle.std.specs.Prelude.{◌≡◌};
+ghost use Rattle.judge.specs.Answers.{fault_given};
 ghost use Rattle.lines.specs.Alone.{of_kind, stores, touches, both_set, fault_alone};
 
+use bits::refusals::Refusal;
 use judge::{Fault, Instruction};
 use registers::{ModeRegister, Modes};
 
@@ -48,8 +50,18 @@ pub enum Phase {
     Whole,
     // a comment
     Comment,
-    // what comes does not matter: the line was refused, with this number
-    Refused(u8),
+    // what comes does not matter: the line was refused, for this reason
+    Refused(Refusal),
+}
+
+// What the end of a line finds there: the line ends too early, or it holds no instruction yet, a whole one, a comment behind one, or a refusal.
+#[derive(Clone, Copy, Debug, PartialEq, Eq)]
+pub enum Sort {
+    TooEarly,
+    Nothing,
+    Whole,
+    Comment,
+    Refused,
 }
 
 // An instruction so far, and what its line may go on with.
@@ -60,11 +72,11 @@ pub struct Line {
 }
 
 // An instruction with only its kind.
-pub(crate) fn of_kind(kind: u8) -> Instruction
+pub fn of_kind(kind: u8) -> Instruction
     ensures { result ≡ of_kind kind }
 {
     Instruction {
-        kind: kind,
+        kind,
         source: 0,
         tag: 0,
         mode: 0,
@@ -76,6 +88,7 @@ pub(crate) fn of_kind(kind: u8) -> Instruction
 }
 
 // Do instructions of this kind store?
+#[tactic(auto, unfolding(crate::specs::Alone::stores))]
 pub(crate) fn stores(kind: u8) -> bool
     ensures { result ≡ stores kind }
 {
@@ -83,6 +96,7 @@ pub(crate) fn stores(kind: u8) -> bool
 }
 
 // Does it touch memory?
+#[tactic(auto, unfolding(crate::specs::Alone::touches))]
 pub(crate) fn touches(i: Instruction) -> bool
     ensures { result ≡ touches i }
 {
@@ -90,6 +104,7 @@ pub(crate) fn touches(i: Instruction) -> bool
 }
 
 // Both mode registers set.
+// Not one with `none_set` of text and of assembly, where neither is set: one literal each.
 fn both_set() -> Modes
     ensures { result ≡ both_set }
 {
@@ -100,9 +115,10 @@ fn both_set() -> Modes
     }
 }
 
-// The number and the byte that the judge gives an instruction by itself.
-pub(crate) fn fault_alone(i: Instruction) -> Fault
-    ensures { result ≡ fault_alone i }
+// What is wrong with an instruction by itself, if anything is.
+#[tactic(auto, unfolding(crate::specs::Alone::fault_alone))]
+pub(crate) fn fault_alone(i: Instruction) -> Result<(), Fault>
+    ensures { fault_given result ≡ fault_alone i }
 {
     judge::rows::fault(both_set(), i)
 }

@@ -1,61 +1,29 @@
 // Words as an instruction: what each word makes of a line.
-ghost use Rattle.std.specs.Prelude.{◌≡◌};
-ghost use Rattle.lines.specs.Worded.{line, with_source, with_mode, with_addr, with_flip, with_code, with_logic, with_byte, after_place, after_byte, after_head, head_word, choice_word, function_word, place_word, source_word, register_word, which_word, set_number, mode_number, address_number, flip_number, only, amount_word, group_word, shift_head, moves_word, byte_word, worded, sort_of};
+ghost use Rattle.std.specs.Prelude.{◌≡◌, ◌<◌, ◌&&◌, cond, ltb};
+ghost use Rattle.bits.specs.Search.{index_of};
+ghost use Rattle.spelling.specs.Tables.{sources, mode_registers};
+ghost use Rattle.spelling.specs.Words.{number};
+ghost use Rattle.lines.specs.Worded.{line, with_mode, with_function, register_tag, with_byte, after_place, after_byte, after_head, head_word, choice_word, function_word, place_word, source_word, register_word, which_word, set_number, mode_number, address_number, flip_number, only, amount_word, group_word, shift_head, moves_word, byte_word, worded, sort_of};
+ghost use Rattle.lines.specs.Sorts.{number_of_sort};
 
-use crate::{Line, Phase, of_kind, stores};
+use crate::{Line, Phase, Sort, of_kind, stores};
+use bits::refusals::Refusal;
 use judge::Instruction;
+use judge::kinds::{LOGIC, RESOLVE, SET_MODE, TAG_GIVEN};
 use spelling::tables::*;
+use spelling::{find, number, pair_value};
 
 fn line(phase: Phase, got: Instruction) -> Line
     ensures { result ≡ line phase got }
 {
-    Line {
-        phase: phase,
-        got: got,
-    }
+    Line { phase, got }
 }
 
-fn with_source(mut i: Instruction, x: u8) -> Instruction
-    ensures { result ≡ with_source i x }
+// A mode, and the tag that says whose it is.
+fn with_mode(i: Instruction, tag: u8, mode: u8) -> Instruction
+    ensures { result ≡ with_mode i tag mode }
 {
-    i.source = x;
-    i
-}
-
-fn with_mode(mut i: Instruction, t: u8, x: u8) -> Instruction
-    ensures { result ≡ with_mode i t x }
-{
-    i.tag = t;
-    i.mode = x;
-    i
-}
-
-fn with_addr(mut i: Instruction, x: u8) -> Instruction
-    ensures { result ≡ with_addr i x }
-{
-    i.addr = x;
-    i
-}
-
-fn with_flip(mut i: Instruction, x: u8) -> Instruction
-    ensures { result ≡ with_flip i x }
-{
-    i.flip = x;
-    i
-}
-
-fn with_code(mut i: Instruction, x: u8) -> Instruction
-    ensures { result ≡ with_code i x }
-{
-    i.code = x;
-    i
-}
-
-fn with_logic(mut i: Instruction, x: u8) -> Instruction
-    ensures { result ≡ with_logic i x }
-{
-    i.logic = x;
-    i
+    Instruction { tag, mode, ..i }
 }
 
 // The bytes moved up by one, and `x` as the last.
@@ -74,152 +42,171 @@ fn with_byte(i: Instruction, x: u8) -> Instruction
     }
 }
 
+// The number below 256 that a word says.
+fn byte_number(w: u64) -> Option<u8>
+    ensures { result ≡ cond (ltb (number w) 256) (Some (number w)) None }
+{
+    u8::try_from(number(w)).ok()
+}
+
+// The source that a word names: a register or outside.
+// Not one with register_tag: another table, and another range of it.
+#[tactic(auto, using(spelling::proofs::FindLaws::index_of_found))]
+fn direct_source(w: u64) -> Option<u8>
+    ensures { result ≡ cond (ltb 0 (index_of w sources) && ltb (index_of w sources) 5) (Some (index_of w sources)) None }
+{
+    match find(&SOURCES, w) {
+        Some(k @ 1..=4) => Some(k as u8),
+        _ => None,
+    }
+}
+
+// The tag of the mode register that a word names.
+#[tactic(auto, using(spelling::proofs::FindLaws::index_of_found))]
+fn register_tag(w: u64) -> Option<u8>
+    ensures { result ≡ cond (register_tag (index_of w mode_registers)) (Some (index_of w mode_registers)) None }
+{
+    match find(&MODE_REGISTERS, w) {
+        Some(k @ 2..=3) => Some(k as u8),
+        _ => None,
+    }
+}
+
 fn after_head(kind: u8) -> Phase
     ensures { result ≡ after_head kind }
 {
-    if kind == 0 {
-        return Phase::Choice;
+    match kind {
+        LOGIC => Phase::Choice,
+        _ if stores(kind) => Phase::Place,
+        RESOLVE => Phase::End,
+        SET_MODE => Phase::SetWhich,
+        _ => Phase::Source,
     }
-    if stores(kind) {
-        return Phase::Place;
-    }
-    if kind == 5 {
-        return Phase::End;
-    }
-    if kind == 6 {
-        return Phase::SetWhich;
-    }
-    Phase::Source
 }
 
 // The name of an instruction.
+#[tactic(auto, using(spelling::proofs::FindLaws::index_of_found), unfolding(crate::specs::Worded::head_word))]
 fn head(w: u64) -> Line
     ensures { result ≡ head_word w }
 {
-    let table = HEADS;
-    let k = spelling::find(&table, w);
-    if k < 7 {
-        return line(after_head(k as u8), of_kind(k as u8));
+    match find(&HEADS, w) {
+        Some(7) => line(Phase::Byte(0), of_kind(0)),
+        Some(k) => line(after_head(k as u8), of_kind(k as u8)),
+        None => line(Phase::Refused(Refusal::TextName), of_kind(0)),
     }
-    if k == 7 {
-        return line(Phase::Byte(0), of_kind(0));
-    }
-    line(Phase::Refused(60), of_kind(0))
 }
 
 // Logic's choice.
+#[tactic(auto, using(spelling::proofs::FindLaws::index_of_found), unfolding(crate::specs::Worded::choice_word))]
 fn choice(i: Instruction, w: u64) -> Line
     ensures { result ≡ choice_word i w }
 {
-    let table = CHOICES;
-    let k = spelling::find(&table, w);
-    if k < 5 {
-        return line(Phase::Function, with_logic(i, 16 * (k as u8)));
+    match find(&CHOICES, w) {
+        Some(k) => line(
+            Phase::Function,
+            Instruction {
+                logic: 16 * k as u8,
+                ..i
+            },
+        ),
+        None => line(Phase::Refused(Refusal::TextChoice), i),
     }
-    line(Phase::Refused(61), i)
+}
+
+// The function `f` beside the choice that stands.
+fn with_function(i: Instruction, f: u8) -> Line
+    requires { f < 16 }
+    ensures { result ≡ with_function i f }
+{
+    line(
+        Phase::Source,
+        Instruction {
+            logic: 16 * (i.logic / 16) + f,
+            ..i
+        },
+    )
 }
 
 // Logic's function: a name, or a number below 16.
+#[tactic(auto, using(spelling::proofs::FindLaws::index_of_found), unfolding(crate::specs::Worded::function_word))]
 fn function(i: Instruction, w: u64) -> Line
     ensures { result ≡ function_word i w }
 {
-    let table = FUNCTIONS;
-    let k = spelling::find(&table, w);
-    if k < 16 {
-        return line(
-            Phase::Source,
-            with_logic(i, 16 * (i.logic / 16) + (k as u8)),
-        );
+    match (find(&FUNCTIONS, w), number(w)) {
+        (Some(k), _) => with_function(i, k as u8),
+        (None, n @ 0..=15) => with_function(i, n as u8),
+        (None, _) => line(Phase::Refused(Refusal::TextFunction), i),
     }
-    let n = spelling::number(w);
-    if n < 16 {
-        return line(
-            Phase::Source,
-            with_logic(i, 16 * (i.logic / 16) + (n as u8)),
-        );
-    }
-    line(Phase::Refused(62), i)
 }
 
 // The first word of a place in memory.
+#[tactic(auto, using(spelling::proofs::FindLaws::index_of_found), unfolding(crate::specs::Worded::place_word))]
 fn place(i: Instruction, w: u64) -> Line
     ensures { result ≡ place_word i w }
 {
-    let table = PLACES;
-    let k = spelling::find(&table, w);
-    if k == 0 {
-        return line(Phase::Address, with_mode(i, 1, 0));
+    match find(&PLACES, w) {
+        Some(0) => line(Phase::Address, with_mode(i, TAG_GIVEN, 0)),
+        Some(1) => line(Phase::Address, with_mode(i, TAG_GIVEN, 255)),
+        Some(2) => line(Phase::Mode, with_mode(i, TAG_GIVEN, 0)),
+        _ => line(Phase::Refused(Refusal::TextSource), i),
     }
-    if k == 1 {
-        return line(Phase::Address, with_mode(i, 1, 255));
-    }
-    if k == 2 {
-        return line(Phase::Mode, with_mode(i, 1, 0));
-    }
-    line(Phase::Refused(63), i)
 }
 
 // A register, outside, or the first word of a place.
+// Not one with those below that look alike: each puts another field, goes on to another phase and is refused for another reason, which a function of all three would be handed.
+#[tactic(auto, unfolding(crate::specs::Worded::source_word))]
 fn source(i: Instruction, w: u64) -> Line
     ensures { result ≡ source_word i w }
 {
-    let table = SOURCES;
-    let k = spelling::find(&table, w);
-    if (0 < k) & (k < 5) {
-        return line(Phase::Moves, with_source(i, k as u8));
+    match direct_source(w) {
+        Some(source) => line(Phase::Moves, Instruction { source, ..i }),
+        None => place(i, w),
     }
-    place(i, w)
 }
 
 // A register or outside.
+#[tactic(auto, unfolding(crate::specs::Worded::register_word))]
 fn register(i: Instruction, w: u64) -> Line
     ensures { result ≡ register_word i w }
 {
-    let table = SOURCES;
-    let k = spelling::find(&table, w);
-    if (0 < k) & (k < 5) {
-        return line(Phase::Moves, with_source(i, k as u8));
+    match direct_source(w) {
+        Some(source) => line(Phase::Moves, Instruction { source, ..i }),
+        None => line(Phase::Refused(Refusal::TextSource), i),
     }
-    line(Phase::Refused(63), i)
 }
 
 // The mode register that is set.
+#[tactic(auto, unfolding(crate::specs::Worded::which_word))]
 fn which(i: Instruction, w: u64) -> Line
     ensures { result ≡ which_word i w }
 {
-    let table = MODE_REGISTERS;
-    let k = spelling::find(&table, w);
-    if (1 < k) & (k < 4) {
-        return line(Phase::SetTo, with_mode(i, k as u8, 0));
+    match register_tag(w) {
+        Some(tag) => line(Phase::SetTo, with_mode(i, tag, 0)),
+        None => line(Phase::Refused(Refusal::TextSource), i),
     }
-    line(Phase::Refused(63), i)
 }
 
 // The mode that it is set to.
+#[tactic(auto, unfolding(crate::specs::Worded::set_number))]
 fn set_to(i: Instruction, w: u64) -> Line
     ensures { result ≡ set_number i w }
 {
-    let n = spelling::number(w);
-    if n < 256 {
-        return line(Phase::End, with_mode(i, i.tag, n as u8));
+    match byte_number(w) {
+        Some(mode) => line(Phase::End, Instruction { mode, ..i }),
+        None => line(Phase::Refused(Refusal::TextNumber), i),
     }
-    line(Phase::Refused(64), i)
 }
 
 // A mode's number, or a mode register.
+#[tactic(auto, unfolding(crate::specs::Worded::mode_number))]
 fn mode(i: Instruction, w: u64) -> Line
     ensures { result ≡ mode_number i w }
 {
-    let table = MODE_REGISTERS;
-    let k = spelling::find(&table, w);
-    if (1 < k) & (k < 4) {
-        return line(Phase::AddressWord, with_mode(i, k as u8, 0));
+    match (register_tag(w), byte_number(w)) {
+        (Some(tag), _) => line(Phase::AddressWord, with_mode(i, tag, 0)),
+        (None, Some(mode)) => line(Phase::AddressWord, with_mode(i, TAG_GIVEN, mode)),
+        (None, None) => line(Phase::Refused(Refusal::TextNumber), i),
     }
-    let n = spelling::number(w);
-    if n < 256 {
-        return line(Phase::AddressWord, with_mode(i, 1, n as u8));
-    }
-    line(Phase::Refused(64), i)
 }
 
 // What follows a place: in a store its source, else moves.
@@ -227,89 +214,98 @@ fn after_place(kind: u8) -> Phase
     ensures { result ≡ after_place kind }
 {
     if stores(kind) {
-        return Phase::From;
+        Phase::From
+    } else {
+        Phase::Moves
     }
-    Phase::Moves
 }
 
 // An address's number.
+#[tactic(auto, unfolding(crate::specs::Worded::address_number))]
 fn address(i: Instruction, w: u64) -> Line
     ensures { result ≡ address_number i w }
 {
-    let n = spelling::number(w);
-    if n < 256 {
-        return line(after_place(i.kind), with_addr(i, n as u8));
+    match byte_number(w) {
+        Some(addr) => line(after_place(i.kind), Instruction { addr, ..i }),
+        None => line(Phase::Refused(Refusal::TextNumber), i),
     }
-    line(Phase::Refused(64), i)
 }
 
 // A flip's number.
+#[tactic(auto, unfolding(crate::specs::Worded::flip_number))]
 fn flip(i: Instruction, w: u64) -> Line
     ensures { result ≡ flip_number i w }
 {
-    let n = spelling::number(w);
-    if n < 256 {
-        return line(Phase::AfterFlip, with_flip(i, n as u8));
+    match byte_number(w) {
+        Some(flip) => line(Phase::AfterFlip, Instruction { flip, ..i }),
+        None => line(Phase::Refused(Refusal::TextNumber), i),
     }
-    line(Phase::Refused(64), i)
 }
 
 // One word alone.
+#[tactic(auto, unfolding(crate::specs::Worded::only))]
 fn only(word: u64, phase: Phase, i: Instruction, w: u64) -> Line
     ensures { result ≡ only word phase i w }
 {
     if w == word {
-        return line(phase, i);
+        line(phase, i)
+    } else {
+        line(Phase::Refused(Refusal::TextWord), i)
     }
-    line(Phase::Refused(65), i)
 }
 
 // A shift's 2^m.
+#[tactic(auto, using(spelling::proofs::FindLaws::index_of_found), unfolding(crate::specs::Worded::amount_word))]
 fn amount(i: Instruction, w: u64) -> Line
     ensures { result ≡ amount_word i w }
 {
-    let table = POWERS;
-    let k = spelling::find(&table, w);
-    if k < 8 {
-        return line(Phase::Modulo, with_code(i, k as u8));
+    match find(&POWERS, w) {
+        Some(k @ 0..=7) => line(Phase::Modulo, Instruction { code: k as u8, ..i }),
+        _ => line(Phase::Refused(Refusal::TextShift), i),
     }
-    line(Phase::Refused(66), i)
 }
 
 // A shift's 2^p, m < p.
+#[tactic(auto, using(spelling::proofs::FindLaws::index_of_found), unfolding(crate::specs::Worded::group_word))]
 fn group(i: Instruction, w: u64) -> Line
     ensures { result ≡ group_word i w }
 {
-    let table = POWERS;
-    let k = spelling::find(&table, w);
-    let m = i.code as usize;
-    if m < k {
-        if k < 9 {
-            return line(Phase::End, with_code(i, (16 * k + m) as u8));
+    match find(&POWERS, w) {
+        Some(k) if usize::from(i.code) < k => {
+            line(
+                Phase::End,
+                Instruction {
+                    code: 16 * k as u8 + i.code,
+                    ..i
+                },
+            )
         }
-        return line(Phase::Refused(66), i);
+        _ => line(Phase::Refused(Refusal::TextShift), i),
     }
-    line(Phase::Refused(66), i)
 }
 
 // A shift or nothing.
+#[tactic(auto, unfolding(crate::specs::Worded::shift_head))]
 fn shift(i: Instruction, w: u64) -> Line
     ensures { result ≡ shift_head i w }
 {
     if (w == SHIFT) & !stores(i.kind) {
-        return line(Phase::Amount, i);
+        line(Phase::Amount, i)
+    } else {
+        line(Phase::Refused(Refusal::TextTooMuch), i)
     }
-    line(Phase::Refused(67), i)
 }
 
 // A flip, or a shift or nothing.
+#[tactic(auto, unfolding(crate::specs::Worded::moves_word))]
 fn moves(i: Instruction, w: u64) -> Line
     ensures { result ≡ moves_word i w }
 {
     if w == FLIP {
-        return line(Phase::Flip, i);
+        line(Phase::Flip, i)
+    } else {
+        shift(i, w)
     }
-    shift(i, w)
 }
 
 // What follows byte `n` of eight.
@@ -317,29 +313,30 @@ fn after_byte(n: u8) -> Phase
     ensures { result ≡ after_byte n }
 {
     if n < 7 {
-        return Phase::Byte(n + 1);
+        Phase::Byte(n + 1)
+    } else {
+        Phase::Whole
     }
-    Phase::Whole
 }
 
 // Byte `n` of eight, in hex.
+#[tactic(auto, unfolding(crate::specs::Worded::byte_word))]
 fn byte(i: Instruction, n: u8, w: u64) -> Line
     ensures { result ≡ byte_word i n w }
 {
-    let v = spelling::pair_value(w);
-    if v < 256 {
-        return line(after_byte(n), with_byte(i, v as u8));
+    match u8::try_from(pair_value(w)) {
+        Ok(v) => line(after_byte(n), with_byte(i, v)),
+        Err(_) => line(Phase::Refused(Refusal::TextByte), i),
     }
-    line(Phase::Refused(68), i)
 }
 
 // What the word `w` makes of a line.
+#[tactic(auto, unfolding(crate::specs::Worded::worded))]
 pub fn worded(l: Line, w: u64) -> Line
     ensures { result ≡ worded l w }
 {
-    let phase = l.phase;
     let i = l.got;
-    match phase {
+    match l.phase {
         Phase::Head => head(w),
         Phase::Choice => choice(i, w),
         Phase::Function => function(i, w),
@@ -358,41 +355,22 @@ pub fn worded(l: Line, w: u64) -> Line
         Phase::Group => group(i, w),
         Phase::SetWhich => which(i, w),
         Phase::SetTo => set_to(i, w),
-        Phase::End => line(Phase::Refused(67), i),
+        Phase::End => line(Phase::Refused(Refusal::TextTooMuch), i),
+        Phase::Whole => line(Phase::Refused(Refusal::TextTooMuch), i),
         Phase::Byte(n) => byte(i, n, w),
-        Phase::Whole => line(Phase::Refused(67), i),
-        Phase::Comment => line(Phase::Comment, i),
-        Phase::Refused(n) => line(Phase::Refused(n), i),
+        Phase::Comment | Phase::Refused(_) => l,
     }
 }
 
-// What the end of a line finds there: 0 too early; 1 no instruction yet; 2 a whole one; 3 a comment; 4 a refusal.
-pub fn sort(p: Phase) -> u8
-    ensures { result ≡ sort_of p }
+// What the end of a line finds there.
+pub fn sort(p: Phase) -> Sort
+    ensures { number_of_sort result ≡ sort_of p }
 {
     match p {
-        Phase::Head => 1,
-        Phase::Choice => 0,
-        Phase::Function => 0,
-        Phase::Source => 0,
-        Phase::Place => 0,
-        Phase::Mode => 0,
-        Phase::AddressWord => 0,
-        Phase::Address => 0,
-        Phase::From => 0,
-        Phase::Register => 0,
-        Phase::Moves => 2,
-        Phase::Flip => 0,
-        Phase::AfterFlip => 2,
-        Phase::Amount => 0,
-        Phase::Modulo => 0,
-        Phase::Group => 0,
-        Phase::SetWhich => 0,
-        Phase::SetTo => 0,
-        Phase::End => 2,
-        Phase::Byte(_) => 0,
-        Phase::Whole => 2,
-        Phase::Comment => 3,
-        Phase::Refused(_) => 4,
+        Phase::Head => Sort::Nothing,
+        Phase::Moves | Phase::AfterFlip | Phase::End | Phase::Whole => Sort::Whole,
+        Phase::Comment => Sort::Comment,
+        Phase::Refused(_) => Sort::Refused,
+        _ => Sort::TooEarly,
     }
 }

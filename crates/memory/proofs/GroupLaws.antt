@@ -3,11 +3,10 @@ use mathlib.Core.Path.{◌≡◌, sym, ap, ap₂, ◌∙◌}
 use mathlib.Core.List.{List}
 use Prim.Native.Nat.{ℕ, ◌+◌, ◌-◌, ◌*◌, ◌/◌, ◌%◌, ◌^◌, ◌<◌, ◌≤◌}
 use native.Mathlib.Nat.{lt_of_le_of_lt, mul_comm, mod-eq_of_lt}
-use native.Mathlib.Decide.{ℕ_discrete}
 use native.Mathlib.Omega.{arith}
 use lib.Bits.{bit_and, bit_or, bit_xor, xor_lt, xor_zero_r, xor_block, and_le_r, and_comm, and_mask, and_block}
 use lib.ListN.{length, get_or, set, take, drop}
-use lib.Seq.{get_or-take, get_or-drop, get_or-set_same, get_or-set_other}
+use lib.Seq.{get_or-take, get_or-drop}
 use borrow.Rule.Slice.PartMut.{mid_of, put_mid, mid_len, set_mid_at}
 use Rattle.bits.specs.Bits.{digit, bit_of, listed, digits_of, byte_of, item}
 use Rattle.bits.specs.Steps.{written}
@@ -245,16 +244,6 @@ lane-more lane t w out ys h size ew e ey =
         let hi : (32 * w + i) / 32 ≡ t = omega arith in
         sym (ap₂ lane lo hi)
 
--- ---- the loop that makes the first byte of each lane
-
-pub first_more : (φ : ℕ → ℕ) (out : List ℕ) (t k v : ℕ) → 32 * t < length out → k ≡ 32 * t → v ≡ φ t → ((s : ℕ) → s < t → get_or out (32 * s) 0 ≡ φ s)
-    → (s : ℕ) → s < t + 1 → get_or (set out k v) (32 * s) 0 ≡ φ s
-first_more φ out t k v size ek ev h s hs = ap (λ (x : ℕ). get_or (set out x v) (32 * s) 0) ek ∙ go (ℕ_discrete s t)
-  where
-    go : Dec (s ≡ t) → get_or (set out (32 * t) v) (32 * s) 0 ≡ φ s
-    go (yes e) = ap (λ (x : ℕ). get_or (set out (32 * t) v) (32 * x) 0) e ∙ get_or-set_same out (32 * t) v 0 size ∙ ev ∙ sym (ap φ e)
-    go (no u) = get_or-set_other out (32 * t) (32 * s) v 0 (λ e. u (omega arith)) ∙ h s (omega arith)
-
 -- ---- the chip writer, seen from the whole memory
 
 pub chip-written : (v : ℕ → ℕ) (l : List ℕ) (c at : ℕ) (ys : List ℕ) → 32 * c + 32 ≤ length l → at < 32
@@ -269,3 +258,7 @@ chip-written v l c at ys h ha e =
     ap (put_mid (32 * c) k l) e
     ∙ set_mid_at (32 * c) k at l (v (get_or part at 0)) (omega arith)
     ∙ ap (λ (x : ℕ). set l (32 * c + at) (v x)) old
+
+-- lanes that are not turned over
+pub as-they-are : (φ : ℕ → ℕ) (n : ℕ) → listed (λ i. bit_xor (φ i) 0) n ≡ listed φ n
+as-they-are φ n = listed-ext (λ i. bit_xor (φ i) 0) φ n (λ i h. xor_zero_r (φ i))

@@ -3,18 +3,13 @@ ghost use Rattle.std.specs.Prelude.{◌≡◌, ◌%◌, ◌<◌};
 ghost use Rattle.std.specs.Int.Bits.{bit_xor};
 ghost use Rattle.memory.specs.Groups.{group_of, byte_at, place_of, spot_from};
 
-pub(crate) fn wide(x: u8) -> usize
-    ensures { result ≡ x }
-{
-    x as usize
-}
-
 // The group of chips that the lines 8i to 8i+7 meet.
+// Groups, bytes and chips are numbers with a bound, here and in the loops: each comes out of a range that has the bound, and the definitions add and xor them.
 pub(crate) fn group_of(addr: u8, i: usize) -> usize
     requires { i < 32 }
     ensures { (result ≡ group_of addr i) × (result < 32) }
 {
-    wide(addr / 8) ^ i
+    usize::from(addr / 8) ^ i
 }
 
 // The byte at which the chips of group k are read.
@@ -22,7 +17,7 @@ pub(crate) fn byte_at(mode: u8, addr: u8, k: usize) -> usize
     requires { k < 32 }
     ensures { (result ≡ byte_at mode addr k) × (result < 32) }
 {
-    wide(addr / 8) ^ (wide(mode / 8) & k)
+    usize::from(addr / 8) ^ (usize::from(mode / 8) & k)
 }
 
 // The bit of that byte for chip t of the group.
@@ -46,5 +41,5 @@ pub(crate) fn spot_from(first: usize, mode: u8, i: usize) -> usize
     requires { i < 32 }
     ensures { result ≡ spot_from first mode i }
 {
-    first ^ ((257 * i) & (7936 + wide(mode / 8)))
+    first ^ ((257 * i) & (7936 + usize::from(mode / 8)))
 }

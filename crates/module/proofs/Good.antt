@@ -25,7 +25,7 @@ use Rattle.registers.specs.Rows.{registers_of, bytes_of, with_m, with_modes}
 use Rattle.registers.proofs.LogicLaws.{new_x-bit, new_y-bit}
 use Rattle.registers.proofs.RowLaws.{length-bytes, registers-bytes}
 use Rattle.judge.specs.declared.Instruction.{Instruction}
-use Rattle.judge.specs.declared.Answer.{Answer}
+use Rattle.judge.specs.Answers.{Answer}
 use Rattle.judge.specs.Instructions.{instruction_at}
 use Rattle.judge.specs.Modes.{modes_by, mode_of}
 use Rattle.judge.proofs.Accepted.{run-accepted, run-registers}

@@ -15,7 +15,7 @@ use Rattle.registers.specs.declared.Registers.{Registers}
 use Rattle.registers.specs.Modes.{modes_of, wrong_modes}
 use Rattle.registers.specs.Rows.{registers_of, bytes_of}
 use Rattle.judge.specs.declared.Instruction.{Instruction}
-use Rattle.judge.specs.declared.Answer.{Answer}
+use Rattle.judge.specs.Answers.{Answer}
 use Rattle.judge.specs.Instructions.{instruction_at, takes, gives}
 use Rattle.judge.specs.Modes.{modes_by, modes_after}
 use Rattle.judge.specs.Judge.{fault_of, run_rows, judged}

@@ -10,7 +10,12 @@ use lib.ListN.{length}
 use borrow.Author.Tests.{eq-eqb, ne_eqb}
 use Rattle.registers.specs.declared.Registers.{Registers}
 use Rattle.registers.specs.Rows.{bytes_of}
-use Rattle.judge.specs.declared.Answer.{Answer}
+use Rattle.std.specs.Prelude.{Result, Ok, Err}
+use Rattle.std.specs.Result.{IsErrAnd}
+use Rattle.judge.specs.declared.Refused.{Refused}
+use Rattle.judge.specs.Answers.{Answer, answer_of}
+use Rattle.module.specs.declared.Stepped.{Stepped}
+use Rattle.module.specs.Left.{left_by}
 use Rattle.judge.specs.Judge.{refusal, judged, judged_step}
 use Rattle.judge.specs.Steps.{Accepted}
 use Rattle.judge.proofs.Accepted.{step-accepted, step-as-run, step-unlike}
@@ -95,3 +100,10 @@ module _ (l : Lent Registers) where
   pub step-not-eight : length l.memory ≡ 8192 → (length l.list ≡ 8 → ⊥) → stepped l ≡ unmoved l (refusal 3 0 0)
   step-not-eight e u =
       sym (stepped-refused l (refusal 3 0 0) (sym (step-unlike (step_lengths l) l.registers.modes l.list e u)) (λ z. omega arith))
+
+-- ---- what a step by value leaves, where it is refused
+
+pub left-refused : (r : Registers) (u : Result Stepped Refused) (e : Refused) (mem out : List ℕ) → IsErrAnd u (λ x. x ≡ e)
+    → left_by r u mem out ≡ record { memory = mem; registers = r; out = out; answer = answer_of (Err e) }
+left-refused r (Ok s) e mem out h = absurd h
+left-refused r (Err x) e mem out h = ap (λ (y : Refused). record { memory = mem; registers = r; out = out; answer = answer_of (Err y) }) h

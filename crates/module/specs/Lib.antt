@@ -2,3 +2,4 @@
 pub mod Act
 pub mod Ready
 pub mod Run
+pub mod Left

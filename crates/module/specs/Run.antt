@@ -4,7 +4,7 @@ use Rattle.registers.specs.declared.Registers.{Registers}
 use Rattle.registers.specs.Modes.{modes_of}
 use Rattle.registers.specs.Rows.{registers_of, bytes_of}
 use Rattle.judge.specs.declared.Lengths.{Lengths}
-use Rattle.judge.specs.declared.Answer.{Answer}
+use Rattle.judge.specs.Answers.{Answer}
 use Rattle.judge.specs.Kinds.{register_bytes}
 use Rattle.judge.specs.Instructions.{instruction_at}
 use Rattle.judge.specs.Judge.{judged, judged_step}

@@ -11,8 +11,6 @@ ghost use Rattle.judge.specs.Steps.{settled_by};
 ghost use Rattle.module.specs.Act.{held, mem_after, put_part, acted};
 ghost use Rattle.module.specs.Ready.{Ready, passed_under};
 
-use bits::choices::one_if;
-use bits::copies::copy;
 use judge::Instruction;
 use judge::kinds::{DELIVER, LOGIC, M, MASKED_STORE, MEMORY, RESOLVE, SET_M, STORE, X};
 use registers::Registers;
@@ -26,35 +24,28 @@ pub struct Acted {
 }
 
 // The item that the module itself holds: of memory, M, X or Y.
-fn held_item(mem: &[u8], r: Registers, i: Instruction, mode: u8) -> [u8; 32]
-    requires { (length mem.now ≡ memory_bytes) × (i.source < 4) }
+fn held_item(mem: &[u8; 8192], r: Registers, i: Instruction, mode: u8) -> [u8; 32]
+    requires { i.source < 4 }
     ensures { result ≡ held i.source mode i.addr mem.now r }
 {
-    if i.source == MEMORY {
-        return memory::load(mem, mode, i.addr);
+    match i.source {
+        MEMORY => memory::load(mem, mode, i.addr),
+        M => r.m,
+        X => r.x,
+        _ => r.y,
     }
-    if i.source == M {
-        let m = r.m;
-        return m;
-    }
-    if i.source == X {
-        let x = r.x;
-        return x;
-    }
-    let y = r.y;
-    y
 }
 
 // The source item, passed. An outside item is handed to the pass as the part of the lent items that it is. Most instructions move no line: a call of the pass, which has the same test for its other callers, would cost them more than the copy.
 fn passed_item(
-    mem: &[u8],
+    mem: &[u8; 8192],
     r: Registers,
     i: Instruction,
     mode: u8,
     items: &[u8],
     taken: usize,
 ) -> [u8; 32]
-    requires { (length mem.now ≡ memory_bytes) × (i.source ≤ 4) × (permitted i.code ≡ true) × (takes i ≡ true → 32 * taken + 32 ≤ length items.now) }
+    requires { (i.source ≤ 4) × (permitted i.code ≡ true) × (takes i ≡ true → 32 * taken + 32 ≤ length items.now) }
     ensures { result ≡ passed_under mode i mem.now items.now r taken }
 {
     if judge::rows::takes(i) {
@@ -72,35 +63,31 @@ fn turn(i: Instruction, r: Registers, f: &[u8; 32]) -> Registers
     requires { i.kind ≡ 0 → i.logic < 80 }
     ensures { result ≡ cond (eqb i.kind logic) (logic_of r f.now i.logic) (cond (eqb i.kind set_m) (with_m r f.now) r) }
 {
-    if i.kind == LOGIC {
-        return registers::logic(r, f, i.logic);
+    match i.kind {
+        LOGIC => registers::logic(r, f, i.logic),
+        SET_M => registers::set_m(r, f),
+        _ => r,
     }
-    if i.kind == SET_M {
-        return registers::set_m(r, f);
-    }
-    r
 }
 
 // The memory after it: store and masked store change it. M is the mask as it is: only the item has passed.
-fn keep<'a>(mem: &mut [u8], i: Instruction, mode: u8, m: &'a [u8; 32], f: &'a [u8; 32])
-    requires { length mem.old ≡ memory_bytes }
+fn keep<'a>(mem: &mut [u8; 8192], i: Instruction, mode: u8, m: &'a [u8; 32], f: &'a [u8; 32])
     ensures { mem.new ≡ mem_after i mode mem.old m.now f.now }
 {
-    if i.kind == STORE {
-        memory::store(mem, mode, i.addr, f);
-        return;
-    }
-    if i.kind == MASKED_STORE {
-        memory::store_masked(mem, mode, i.addr, f, m);
+    match i.kind {
+        STORE => memory::store(mem, mode, i.addr, f),
+        MASKED_STORE => memory::store_masked(mem, mode, i.addr, f, m),
+        _ => {}
     }
 }
 
-// An item put out: the next part of the out buffer is lent to the copy.
+// An item put out: the next part of the out buffer takes it.
+// Not one with builders' put_item: neither crate stands on the other, and each line has its own definition, `put_part` and `put_at`.
 fn put_out(out: &mut [u8], given: usize, x: &[u8; 32])
     requires { 32 * given + 32 ≤ length out.old }
     ensures { out.new ≡ put_part out.old given x.now }
 {
-    copy(x, &mut out[32 * given..32 * given + 32]);
+    out[32 * given..32 * given + 32].copy_from_slice(x);
 }
 
 // The out buffer after it: a deliver puts the passed item out.
@@ -122,26 +109,25 @@ fn act_still(r: Registers, i: Instruction, out: &mut [u8], taken: usize, given: 
         ≡ acted i items (record { mem = mem; out = out.old; regs = with_modes r m; taken = taken; given = given }) }
 {
     if i.kind == RESOLVE {
-        let y = r.y;
-        let x = registers::resolver::resolve(&y);
+        let x = registers::resolver::resolve(&r.y);
         put_out(out, given, &x);
-        let put = given + 1;
         return Acted {
             regs: r,
-            taken: taken,
-            given: put,
+            taken,
+            given: given + 1,
         };
     }
     Acted {
         regs: r,
-        taken: taken,
-        given: given,
+        taken,
+        given,
     }
 }
 
 // What an instruction does to a state, and the counts after it. `mode` is that under which it accesses memory, and the record already has the mode registers after it: `judge::modes::settle` says both, before anything else, so that an instruction that names no register pays for one test.
+// The counts go in one by one, as `Ready` and `acted` name them: an `Acted` handed in would be taken apart into the same three.
 pub fn act(
-    mem: &mut [u8],
+    mem: &mut [u8; 8192],
     r: Registers,
     i: Instruction,
     mode: u8,
@@ -160,17 +146,11 @@ pub fn act(
         return act_still(r, i, out, taken, given);
     }
     let f = passed_item(mem, r, i, mode, items, taken);
-    let m = r.m;
-    keep(mem, i, mode, &m, &f);
+    keep(mem, i, mode, &r.m, &f);
     deliver(out, i, given, &f);
-    let t = turn(i, r, &f);
-    let takes = judge::rows::takes(i);
-    let gives = judge::rows::gives(i);
-    let used = taken + one_if(takes);
-    let put = given + one_if(gives);
     Acted {
-        regs: t,
-        taken: used,
-        given: put,
+        regs: turn(i, r, &f),
+        taken: taken + usize::from(judge::rows::takes(i)),
+        given: given + usize::from(judge::rows::gives(i)),
     }
 }

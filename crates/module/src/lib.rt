@@ -4,18 +4,20 @@
 mod acting;
 
 ghost use Rattle.std.specs.Prelude.{◌≡◌};
+ghost use Rattle.judge.specs.Answers.{answer_of};
 ghost use Rattle.judge.specs.Steps.{Accepted};
+ghost use Rattle.module.specs.Left.{left_by};
 ghost use Rattle.module.specs.Run.{Lent, Left, step_lengths, ran_all, ran, stepped};
 
 use acting::Acted;
-use judge::{Answer, Lengths, REGISTER_BYTES};
+use judge::{Done, Lengths, REGISTER_BYTES, Refused};
 use registers::Registers;
 
-// What a step leaves beside the buffers.
+// A step that is done, beside the buffers.
 #[derive(Clone, Copy)]
 pub struct Stepped {
     pub regs: Registers,
-    pub answer: Answer,
+    pub done: Done,
 }
 
 // The instructions of a list that the judge accepts, one after the other.
@@ -29,33 +31,36 @@ fn run_list(mem: &mut [u8], r: Registers, list: &[u8], items: &[u8], out: &mut [
         (record { memory = mem.entry.now; registers = r; list = list.now; items = items.now; out = out.old })
         r }
 {
+    let memory: &mut [u8; 8192] = mem.as_mut_array().unwrap();
     let n = list.len() / 8;
     let mut s = r;
     let mut taken: usize = 0;
     let mut given: usize = 0;
-    let mut k: usize = 0;
-    while k < n {
+    for k in 0..n {
         let i = judge::decode(list, k);
-        let before = s.modes;
-        let t = judge::modes::settle(i, before);
-        let modes = t.modes;
-        let r = registers::with_modes(s, modes);
-        let a = acting::act(mem, r, i, t.mode, items, out, taken, given);
+        let settled = judge::modes::settle(i, s.modes);
+        let r = registers::with_modes(s, settled.modes);
+        let a = acting::act(memory, r, i, settled.mode, items, out, taken, given);
         s = a.regs;
         taken = a.taken;
         given = a.given;
-        k += 1;
     }
     Acted {
         regs: s,
-        taken: taken,
-        given: given,
+        taken,
+        given,
     }
 }
 
 // A run: the whole list is judged before its first instruction acts. Where it is refused, or there is no instruction, it has no steps, and nothing is written, not even the same bytes.
-pub fn run(mem: &mut [u8], regs: &mut [u8], list: &[u8], items: &[u8], out: &mut [u8]) -> Answer
-    ensures { record { memory = mem.new; registers = regs.new; out = out.new; answer = result }
+pub fn run(
+    mem: &mut [u8],
+    regs: &mut [u8],
+    list: &[u8],
+    items: &[u8],
+    out: &mut [u8],
+) -> Result<Done, Refused>
+    ensures { record { memory = mem.new; registers = regs.new; out = out.new; answer = answer_of result }
         ≡ ran (record { memory = mem.old; registers = regs.old; list = list.now; items = items.now; out = out.old }) }
 {
     let lengths = Lengths {
@@ -65,14 +70,13 @@ pub fn run(mem: &mut [u8], regs: &mut [u8], list: &[u8], items: &[u8], out: &mut
         out: out.len(),
     };
     let modes = registers::mode_bytes::modes_of(regs);
-    let verdict = judge::judge(lengths, modes, list);
-    if verdict.steps != 0 {
+    let done = judge::judge(lengths, modes, list)?;
+    if done.steps != 0 {
         let r = registers::rows::registers_of(regs);
-        let d = run_list(mem, r, list, items, out);
-        let t = d.regs;
-        registers::rows::write_registers(regs, t);
+        let left = run_list(mem, r, list, items, out);
+        registers::rows::write_registers(regs, left.regs);
     }
-    verdict
+    Ok(done)
 }
 
 // A step on a register record by value: what `step` does to the record that it is lent.
@@ -82,8 +86,8 @@ pub fn advance(
     instruction: &[u8],
     items: &[u8],
     out: &mut [u8],
-) -> Stepped
-    ensures { record { memory = mem.new; registers = result.regs; out = out.new; answer = result.answer }
+) -> Result<Stepped, Refused>
+    ensures { left_by r result mem.new out.new
         ≡ stepped (record { memory = mem.old; registers = r; list = instruction.now; items = items.now; out = out.old }) }
 {
     let lengths = Lengths {
@@ -92,21 +96,12 @@ pub fn advance(
         items: items.len(),
         out: out.len(),
     };
-    let modes = r.modes;
-    let answer = judge::judge_step(lengths, modes, instruction);
-    if answer.number == 0 {
-        let d = run_list(mem, r, instruction, items, out);
-        let t = d.regs;
-        Stepped {
-            regs: t,
-            answer: answer,
-        }
-    } else {
-        Stepped {
-            regs: r,
-            answer: answer,
-        }
-    }
+    let done = judge::judge_step(lengths, r.modes, instruction)?;
+    let left = run_list(mem, r, instruction, items, out);
+    Ok(Stepped {
+        regs: left.regs,
+        done,
+    })
 }
 
 // A step: an operator's console lends the register record and finds it updated there; a refused step writes nothing to it.
@@ -116,15 +111,11 @@ pub fn step(
     instruction: &[u8],
     items: &[u8],
     out: &mut [u8],
-) -> Answer
-    ensures { record { memory = mem.new; registers = r.new; out = out.new; answer = result }
+) -> Result<Done, Refused>
+    ensures { record { memory = mem.new; registers = r.new; out = out.new; answer = answer_of result }
         ≡ stepped (record { memory = mem.old; registers = r.old; list = instruction.now; items = items.now; out = out.old }) }
 {
-    let old = *r;
-    let done = advance(mem, old, instruction, items, out);
-    let a = done.answer;
-    if a.number == 0 {
-        *r = done.regs;
-    }
-    a
+    let stepped = advance(mem, *r, instruction, items, out)?;
+    *r = stepped.regs;
+    Ok(stepped.done)
 }

@@ -1,13 +1,15 @@
 -- What a pass answers, from where byte 6 stands in the table; the passed item in each form; that there is one answer. Assumes nothing.
-use mathlib.Core.Path.{◌≡◌, refl, sym, ap, ◌∙◌, subst}
+use mathlib.Core.Path.{◌≡◌, refl, sym, ap, ◌∙◌}
 use mathlib.Core.Bool.{Bool, true, false, cond}
 use mathlib.Core.List.{List}
 use mathlib.Core.Logic.{◌↔◌}
-use Prim.Native.Nat.{ℕ, ◌/◌, ◌%◌, ◌≤◌, ◌<◌}
+use Prim.Native.Nat.{ℕ, ◌/◌, ◌%◌, ◌<◌}
 use native.Mathlib.Omega.{arith}
 use lib.Bits.{bit_or, bit_xor, xor_zero_r, xor_lt, or_add_and, and_le_l, and_le_r}
 use lib.ListN.{length, get_or, replicate}
-use borrow.Author.Tests.{lt-ltb, le-ltb}
+use Rattle.std.specs.Prelude.{Result, Ok, Err}
+use Rattle.bits.specs.declared.refusals.Refusal.{Refusal}
+use Rattle.bits.proofs.RefusalLaws.{number-positive, number-injective}
 use Rattle.bits.specs.Bits.{bit_of, byte_of, item, flipped}
 use Rattle.bits.specs.Rows.{number_of, FirstRow}
 use Rattle.bits.proofs.Rows.{none_number, number-none, number-first, first-number}
@@ -20,21 +22,10 @@ use Rattle.network.specs.Shifts.{codes, shift_of, permitted, p_of, m_of}
 use Rattle.network.specs.Unlisted.{code_rows}
 use Rattle.network.specs.Pass.{moved, unshifted, source, passed}
 use Rattle.network.specs.Wired.{wired_item}
-use Rattle.network.specs.Answer.{passed_item, answer}
-use Rattle.network.specs.declared.Passed.{Passed}
+use Rattle.network.specs.Answer.{passed_item, Passed, passed_of, answer}
 use Rattle.network.proofs.PassLaws.{unshifted-lt, unshifted-none, passed-bit, passed-only}
 use Rattle.network.proofs.Agreement.{agree-item}
 use Rattle.network.proofs.TableRules.{none-permitted, listed-none, shift, entry_of}
-
--- ---- whether a code is permitted, from where it was found
-
-pub found-permitted : (c s : ℕ) → s ≡ shift_of c → s < 37 → permitted c ≡ true
-unfolding permitted
-found-permitted c s e h = lt-ltb (shift_of c) 37 (subst (λ (k : ℕ). k < 37) e h)
-
-pub lost-refused : (c s : ℕ) → s ≡ shift_of c → 37 ≤ s → permitted c ≡ false
-unfolding permitted
-lost-refused c s e h = le-ltb (shift_of c) 37 (subst (λ (k : ℕ). 37 ≤ k) e h)
 
 -- ---- the two answers
 
@@ -107,9 +98,8 @@ none-moved l f c e =
     stay_none l f (omega arith) ∙ flip-none l f c (omega arith)
 
 -- eight levels, by the agreement
-pub wired-passed : (l r : List ℕ) (f c s : ℕ) → f < 256 → s ≡ shift_of c → s < 37 → r ≡ wired_item 8 f (p_of s) (m_of s) l → r ≡ passed_item l f c
-wired-passed l r f c s q e h d =
-    let t : permitted c ≡ true = found-permitted c s e h in
+pub wired-passed : (l r : List ℕ) (f c s : ℕ) → f < 256 → permitted c ≡ true → s ≡ shift_of c → r ≡ wired_item 8 f (p_of s) (m_of s) l → r ≡ passed_item l f c
+wired-passed l r f c s q t e d =
     let w = shift c t in
     d
     ∙ ap (λ (k : ℕ). wired_item 8 f (k / 16) (k % 16) l) (ap (λ (k : ℕ). get_or codes k 0) e ∙ entry_of c t)
@@ -143,6 +133,13 @@ flip-undone l f q n b =
     ∙ pack-bit_of l 32 n b
 
 -- ---- one answer
+
+-- what a pass gives back says which result it is of
+pub passed_of-injective : (x y : Result (List ℕ) Refusal) → passed_of x ≡ passed_of y → x ≡ y
+passed_of-injective (Ok l) (Ok m) e = ap (λ (p : Passed). Ok p.item) e
+passed_of-injective (Ok l) (Err s) e = absurd (omega (arith, ap (λ (p : Passed). p.number) e, number-positive s))
+passed_of-injective (Err r) (Ok m) e = absurd (omega (arith, ap (λ (p : Passed). p.number) e, number-positive r))
+passed_of-injective (Err r) (Err s) e = ap Err (number-injective r s (ap (λ (p : Passed). p.number) e))
 
 -- an answer 0 that has each bit of the item at the line where the pass moves it is that one
 pub answer-only : (l : List ℕ) (f c : ℕ) (r : List ℕ) → f < 256 → permitted c ≡ true → length r ≡ 32 → ((i : ℕ) → get_or r i 0 < 256)

@@ -8,12 +8,16 @@ use native.Mathlib.Omega.{arith}
 use lib.Dec.{T, eqb, eqb→eq, leb, ltb, ltb→lt}
 use lib.ListN.{length, get_or}
 use borrow.Author.Tests.{ne_eqb, eqb-true, lt-ltb, le-ltb, lt-leb, ltb-true, ltb-false, leb-false}
+use Rattle.std.specs.Prelude.{Some, None}
+use Rattle.std.specs.Option.{is_some}
+use Rattle.std.proofs.lemmas.List.Recursion.{is_position_or_len}
+use Rattle.std.specs.List.{position_or_len}
 use Rattle.bits.specs.Bits.{listed}
 use Rattle.bits.specs.Rows.{number_of, NoRow}
 use Rattle.bits.specs.Search.{index_of}
 use Rattle.bits.proofs.Find.{found_at}
 use Rattle.bits.proofs.Tests.{all, all-at}
-use Rattle.network.specs.Shifts.{codes_to, codes, p_of, m_of, shift_of, permitted, signal, row, rows, signals, place}
+use Rattle.network.specs.Shifts.{codes_to, codes, p_of, m_of, shift_of, permitted, found, signal, row, rows, signals, place}
 use Rattle.network.specs.Unlisted.{wide_group, not_below, code_rows}
 use Rattle.network.specs.Steps.{SignalsOf}
 
@@ -148,3 +152,32 @@ shift c e = go (permitted-pair c e)
     go : (c ≡ 0) ⊎ ((c % 16 < c / 16) × (c / 16 ≤ 8)) → Shift c
     go (inl z) = record { below = omega arith; within = omega arith }
     go (inr q) = record { below = omega (arith, q.0); within = q.1 }
+
+-- ---- where a code is found, in the library's words
+
+index-position : (x : ℕ) (l : List ℕ) → index_of x l ≡ position_or_len (λ y. eqb y x) l
+unfolding index_of
+index-position x l =
+    is_position_or_len (index_of x) (λ y. eqb y x) refl (λ y ys. ap (λ (n : ℕ). cond (eqb y x) 0 n) (omega arith)) l
+
+pub found-is : (c : ℕ) → found c ≡ cond (permitted c) (Some (shift_of c)) None
+unfolding permitted
+found-is c = ap₂ (λ (k n : ℕ). cond (ltb k n) (Some k) None) (sym (index-position c codes)) codes-length
+
+pub found-some : (c s : ℕ) → found c ≡ Some s → (permitted c ≡ true) × (s ≡ shift_of c) × (s < 37)
+unfolding permitted
+found-some c s e = go (permitted c) refl (sym (found-is c) ∙ e)
+  where
+    go : (b : Bool) → permitted c ≡ b → cond b (Some (shift_of c)) None ≡ Some s → (permitted c ≡ true) × (s ≡ shift_of c) × (s < 37)
+    go true t e = let same : s ≡ shift_of c = cc in (t, same, omega (arith, ltb-true (shift_of c) 37 t))
+    go false t e = cc
+
+pub found_none : (c : ℕ) → found c ≡ None → permitted c ≡ false
+found_none c e = go (permitted c) refl (sym (found-is c) ∙ e)
+  where
+    go : (b : Bool) → permitted c ≡ b → cond b (Some (shift_of c)) None ≡ None → permitted c ≡ false
+    go true t e = cc
+    go false t e = t
+
+pub found-test : (c : ℕ) → is_some (found c) ≡ permitted c
+found-test c = ap is_some (found-is c) ∙ elim (permitted c) as (λ b. is_some (cond b (Some (shift_of c)) None) ≡ b) [ true ↦ refl | false ↦ refl ]

@@ -1,5 +1,5 @@
 -- The 37 shifts and their signals. Document 01, Network; readings A4 and A5 on their order.
-use Rattle.std.specs.Prelude.{Bool, cond, ◌&&◌, List, [], ◌∷◌, ◌++◌, ℕ, zero, suc, ◌+◌, ◌*◌, ◌/◌, ◌%◌, leb, ltb, get_or}
+use Rattle.std.specs.Prelude.{Bool, cond, ◌&&◌, List, [], ◌∷◌, ◌++◌, ℕ, zero, suc, ◌+◌, ◌*◌, ◌/◌, ◌%◌, leb, ltb, get_or, Option, position, ◌==◌}
 use Rattle.bits.specs.Bits.{listed}
 use Rattle.bits.specs.Search.{index_of}
 
@@ -20,6 +20,10 @@ shift_of c = index_of c codes
 
 unfoldable pub permitted : ℕ → Bool
 permitted c = ltb (shift_of c) 37
+
+-- The same number as a search gives it: none where it is none of them (`found-is` of proofs/TableRules.antt).
+abbrev pub found : ℕ → Option ℕ
+found c = position (λ x. x == c) codes
 
 -- Shift number s is that of 2^m modulo 2^p, where entry s of the codes is 16 p + m.
 abbrev pub p_of : ℕ → ℕ

@@ -1,37 +1,35 @@
-// The search through the 37 codes: which byte 6 is permitted, which shift it is, and the number of one that is not found.
+// The search through the 37 codes: which byte 6 is permitted, which shift it is, and why one that is not found is refused.
 ghost use Rattle.std.specs.Prelude.{◌≡◌, false};
+ghost use Rattle.bits.specs.Refusals.{number_of_refusal};
 ghost use Rattle.bits.specs.Rows.{number_of};
-ghost use Rattle.network.specs.Shifts.{shift_of, permitted};
+ghost use Rattle.network.specs.Shifts.{found, permitted};
 ghost use Rattle.network.specs.Unlisted.{code_rows};
 
 use super::tables::code_table;
+use bits::refusals::Refusal;
 
-// The number of the shift that `code`, a byte 6, gives: where it stands among the 37 codes, or 37.
-pub fn find(code: u8) -> usize
-    ensures { result ≡ shift_of code }
+// The number of the shift that `code`, a byte 6, gives: where it stands among the 37 codes, if it does.
+pub fn find(code: u8) -> Option<usize>
+    ensures { result ≡ found code }
 {
-    let table = code_table();
-    let mut i: usize = 0;
-    while i < 37 {
-        if table[i] == code {
-            return i;
-        }
-        i += 1;
-    }
-    i
+    code_table().iter().position(|c| *c == code)
 }
 
 // Whether `code` is one of the 37: what the judge of an instruction asks.
 pub fn is_code(code: u8) -> bool
     ensures { result ≡ permitted code }
 {
-    find(code) < 37
+    find(code).is_some()
 }
 
-// The number of a `code` that the search did not find: 16 for a group over 256 lines, else 17, for m is not below p.
-pub fn unlisted(code: u8) -> u8
+// Why a `code` that the search did not find is refused: 16 for a group over 256 lines, else 17, for m is not below p.
+pub fn unlisted(code: u8) -> Refusal
     requires { permitted code ≡ false }
-    ensures { result ≡ number_of (code_rows code) }
+    ensures { number_of_refusal result ≡ number_of (code_rows code) }
 {
-    if code / 16 > 8 { 16 } else { 17 }
+    if code / 16 > 8 {
+        Refusal::GroupTooWide
+    } else {
+        Refusal::ShiftNotBelow
+    }
 }

@@ -205,27 +205,35 @@ pub fn code_table() -> [u8; 37]
     CODES
 }
 
-// A function of its own: that the table is what the definition computes is one conversion, which `signals_of` cites.
+// A function of its own: that the table is what the definition computes is one conversion, which `Signals::of` cites.
 fn signal_table() -> [[u8; 36]; 37]
     ensures { result ≡ signals }
 {
     SIGNALS
 }
 
-// The 36 signals of shift `s`. Each turn of the loop takes a row that the compiler knows, so that it keeps no table on
-// the stack; for `table[s]` it would.
-pub fn signals_of(s: usize) -> [u8; 36]
-    requires { s < 37 }
-    ensures { SignalsOf s result }
-{
-    let table = signal_table();
-    let mut out = [0u8; 36];
-    let mut i: usize = 0;
-    while i < 37 {
-        if i == s {
-            out = table[i];
+// The 36 signals of a shift, and which of the 37 shifts it is.
+#[derive(Clone, Copy)]
+pub struct Signals {
+    pub shift: usize,
+    pub all: [u8; 36],
+    ghost of_shift: { SignalsOf shift all },
+}
+
+impl Signals {
+    // Those of shift `s`. Each turn of the loop takes a row that the compiler knows, so that it keeps no table on
+    // the stack; for `table[s]` it would.
+    pub fn of(s: usize) -> Self
+        requires { s < 37 }
+        ensures { result.shift ≡ s }
+    {
+        let table = signal_table();
+        let mut all = [0u8; 36];
+        for i in 0..37 {
+            if i == s {
+                all = table[i];
+            }
         }
-        i += 1;
+        Signals { shift: s, all }
     }
-    out
 }

@@ -11,7 +11,7 @@ use Rattle.bits.proofs.Rows.{number-none}
 use Rattle.registers.specs.Modes.{modes_of, mode_bytes, none_set, wrong_modes, any_set}
 use Rattle.registers.proofs.ModeLaws.{modes-behind, modes-last, modes-none, unset-zeros}
 use Rattle.blocks.specs.Sums.{at}
-use Rattle.contents.specs.declared.Moved.{Moved}
+use Rattle.contents.specs.Moved.{Moved}
 use Rattle.contents.specs.File.{is_picture, done, content_of, block_count, blocks_of}
 use Rattle.contents.specs.Content.{over}
 use Rattle.contents.proofs.FileLaws.{Stands, file-stands}

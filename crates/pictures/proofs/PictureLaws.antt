@@ -14,7 +14,7 @@ use Rattle.bits.proofs.ByteLaws.{part_bytes}
 use Rattle.bits.proofs.Puts.{put-nil, put-put, put_all, length-put, put-bytes}
 use Rattle.bits.proofs.Rows.{and_left, and_right}
 use Rattle.words.proofs.PlainLaws.{length-plain, plain-bytes, scrambled-front, plain-scrambled, scrambled-plain}
-use Rattle.contents.specs.declared.Moved.{Moved}
+use Rattle.contents.specs.Moved.{Moved}
 use Rattle.contents.specs.File.{is_picture, done, content_of, kind_right, size_fits, file_judged, block_count, blocks_of}
 use Rattle.contents.specs.Content.{over, changed}
 use Rattle.contents.specs.Payloads.{payloads, laid}
@@ -90,6 +90,9 @@ pub written-judged : (kind : ℕ) (content : List ℕ) → is_picture kind ≡ t
 written-judged kind content p n = trip kind content (picture-right kind p) (size-right kind (length content) p n)
 
 -- ---- what is left, where the answer r is a: on a refusal the buffers as they were, else the new content of both
+
+abbrev pub both-leaving : Moved → List ℕ → List ℕ → PictureLeft
+both-leaving r m g = record { answer = r; memory = m; registers = g }
 
 module _ (r a : Moved) (new old new' old' : List ℕ) where
   abbrev Leaves : List ℕ → List ℕ → Type 0

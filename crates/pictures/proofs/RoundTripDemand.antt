@@ -13,7 +13,7 @@ use Rattle.bits.proofs.Rows.{and_left, and_right, number-none}
 use Rattle.registers.specs.Modes.{modes_of, wrong_modes}
 use Rattle.words.proofs.PlainLaws.{length-scrambled}
 use Rattle.blocks.specs.Sums.{at}
-use Rattle.contents.specs.declared.Moved.{Moved}
+use Rattle.contents.specs.Moved.{Moved}
 use Rattle.contents.specs.File.{is_picture, done, content_of, kind_right, size_fits, file_judged, block_count, blocks_of}
 use Rattle.contents.specs.Content.{answered, read_answer, changed, over, target_fits, content_fits, read_rows, write_rows, content_read, content_written}
 use Rattle.pictures.specs.Picture.{plain_words, picture_registers, picture_of, scrambled, content_modes, picture_fits, picture_read_rows, picture_read, picture_write_rows, picture_written}

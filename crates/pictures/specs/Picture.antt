@@ -4,7 +4,7 @@ use Rattle.std.specs.Prelude.{Bool, cond, not, ◌&&◌, List, [], ◌∷◌, �
 use Rattle.bits.specs.Rows.{Row, row}
 use Rattle.registers.specs.declared.Modes.{Modes}
 use Rattle.registers.specs.Modes.{modes_of, wrong_modes}
-use Rattle.contents.specs.declared.Moved.{Moved}
+use Rattle.contents.specs.Moved.{Moved}
 use Rattle.contents.specs.File.{modes_picture_kind, is_picture, kind_right, content_of, blocks_of}
 use Rattle.contents.specs.Content.{answered, read_answer, changed, over, ContentLeft}
 -- The words of a scrambled memory in plain order, and the scrambled memory of the words that a content begins with.

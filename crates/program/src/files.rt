@@ -5,12 +5,13 @@ use std::io::{Cursor, ErrorKind, Read, Write};
 use std::rt::Files;
 use std::{fs, io, str};
 
+// Something has failed, and the reason has gone to standard error.
+#[derive(Clone, Copy)]
+pub(crate) struct Told;
+
 // A name as the system's calls take it. One that is not UTF-8 is no name to them.
 fn name_of(name: &[u8]) -> io::Result<&str> {
-    match str::from_utf8(name) {
-        Ok(text) => Ok(text),
-        Err(_) => Err(io::Error::from(ErrorKind::InvalidFilename)),
-    }
+    str::from_utf8(name).map_err(|_| io::Error::from(ErrorKind::InvalidFilename))
 }
 
 // A file opened to be read.
@@ -40,139 +41,100 @@ pub(crate) fn remove(rt: &impl Files, name: &[u8]) {
 
 // The system's reason alone, of what an error is shown as: its number stands behind it.
 fn reason(shown: &str) -> &str {
-    match shown.split_once(" (os error ") {
-        Some((words, _)) => words,
-        None => shown,
-    }
+    shown
+        .split_once(" (os error ")
+        .map_or(shown, |(words, _)| words)
 }
 
 // A line to standard error: what failed, a colon and the reason.
-pub(crate) fn fail(rt: &impl Eprint, what: &[u8], error: &io::Error) {
+fn tell(rt: &impl Eprint, what: &[u8], error: &io::Error) -> Told {
     let mut shown = Cursor::new([0u8; 320]);
     let _ = write!(shown, "{error}");
-    let length = shown.position() as usize;
-    let words = reason(str::from_utf8(front(shown.get_ref(), length)).unwrap_or(""));
+    let length = (shown.position() as usize).min(320);
+    let words = reason(str::from_utf8(&shown.get_ref()[..length]).unwrap_or(""));
     let name = str::from_utf8(what).unwrap_or("a name that is no text");
     let _ = eprintln!(rt; "{name}: {words}");
+    Told
+}
+
+// What was tried with a file, or with what else is named: where it failed, the reason goes to standard error.
+pub(crate) fn or_told<T>(rt: &impl Eprint, what: &[u8], tried: io::Result<T>) -> Result<T, Told> {
+    match tried {
+        Ok(value) => Ok(value),
+        Err(error) => Err(tell(rt, what, &error)),
+    }
 }
 
 // Reads an open file to its end, or until the buffer is full: whoever lends one byte more than a file may have sees that it is too long, and reads no further.
-pub(crate) fn fill(
-    rt: &impl Eprint,
-    file: &mut impl Read,
-    name: &[u8],
-    buffer: &mut [u8],
-) -> Found {
+fn fill<'a>(opened: io::Result<impl Read + Drop>, buffer: &'a mut [u8]) -> io::Result<&'a [u8]> {
+    let mut file = opened?;
     let mut done: usize = 0;
+    // A `while`: the count moves by what a read gives.
     while done < buffer.len() {
-        match file.read(&mut buffer[done..]) {
-            Err(error) => {
-                fail(rt, name, &error);
-                return Found::Failed;
-            }
-            Ok(0) => return Found::Bytes(done),
-            Ok(more) => done += more,
+        match file.read(&mut buffer[done..])? {
+            0 => break,
+            more => done += more,
         }
     }
-    Found::Bytes(done)
+    Ok(&buffer[..done])
 }
 
 // Absent is a file of which the system says that there is none. Any other that cannot be opened or read has failed, and the system's reason goes to standard error.
-pub(crate) fn load(rt: &(impl Files + Eprint), name: &[u8], buffer: &mut [u8]) -> Found {
+pub(crate) fn load<'a>(rt: &(impl Files + Eprint), name: &[u8], buffer: &'a mut [u8]) -> Found<'a> {
     match open(rt, name) {
-        Err(error) => {
-            if error.kind() == ErrorKind::NotFound {
-                return Found::Absent;
-            }
-            fail(rt, name, &error);
-            Found::Failed
-        }
-        Ok(mut file) => fill(rt, &mut file, name, buffer),
+        Err(error) if error.kind() == ErrorKind::NotFound => Found::Absent,
+        opened => match or_told(rt, name, fill(opened, buffer)) {
+            Ok(bytes) => Found::Bytes(bytes),
+            Err(Told) => Found::Failed,
+        },
     }
 }
 
 // The bytes of a file that has to be there: where there are none to be had, the reason goes to standard error.
-pub(crate) fn bytes_of(rt: &(impl Files + Eprint), name: &[u8], buffer: &mut [u8]) -> Found {
-    match open(rt, name) {
-        Err(error) => {
-            fail(rt, name, &error);
-            Found::Failed
-        }
-        Ok(mut file) => fill(rt, &mut file, name, buffer),
-    }
+pub(crate) fn bytes_of<'a>(
+    rt: &(impl Files + Eprint),
+    name: &[u8],
+    buffer: &'a mut [u8],
+) -> Result<&'a [u8], Told> {
+    or_told(rt, name, fill(open(rt, name), buffer))
 }
 
-// The first `n` bytes of a buffer, or all of one that has fewer.
-pub(crate) fn front(buffer: &[u8], n: usize) -> &[u8] {
-    if n < buffer.len() {
-        return &buffer[..n];
-    }
-    buffer
-}
-
-// All of the bytes, through to the device.
-fn written(file: &mut (impl Write + OpenFile), bytes: &[u8]) -> io::Result<()> {
+// All of the bytes, through to the device, and then the file is closed; a failure of closing alone std does not tell.
+pub(crate) fn put(mut file: impl Write + OpenFile + Drop, bytes: &[u8]) -> io::Result<()> {
     file.write_all(bytes)?;
     file.sync_all()
 }
 
-// All of the bytes, through to the device, and then the file is closed; `name` is what a failure is told of, but for one of closing alone, which std does not tell.
-pub(crate) fn put(
-    rt: &impl Eprint,
-    mut file: impl Write + OpenFile + Drop,
-    name: &[u8],
-    bytes: &[u8],
-) -> bool {
-    match written(&mut file, bytes) {
-        Ok(()) => true,
-        Err(error) => {
-            fail(rt, name, &error);
-            false
-        }
-    }
-}
-
 // The new file, removed again where it cannot be written whole: a name that is taken stays with the file that has it.
-pub(crate) fn made(rt: &(impl Files + Eprint), name: &[u8], bytes: &[u8]) -> bool {
-    match create(rt, name) {
-        Err(error) => {
-            fail(rt, name, &error);
-            false
-        }
-        Ok(file) => {
-            if put(rt, file, name, bytes) {
-                return true;
-            }
-            remove(rt, name);
-            false
-        }
+pub(crate) fn made(rt: &(impl Files + Eprint), name: &[u8], bytes: &[u8]) -> Result<(), Told> {
+    let file = or_told(rt, name, create(rt, name))?;
+    let written = or_told(rt, name, put(file, bytes));
+    if written.is_err() {
+        remove(rt, name);
     }
+    written
 }
 
-// A space and a number.
-fn print_next(rt: &impl Print, n: usize) -> io::Result<()> {
-    rt.write_all(b" ")?;
-    rt.print(n)
-}
-
-// A line: a letter, and numbers behind it.
-fn print_line(rt: &impl Print, letter: &[u8], numbers: &[usize]) -> io::Result<()> {
+// The line of an answer, a letter and numbers behind it, and a text behind that.
+fn print_answer(rt: &impl Print, letter: &[u8], numbers: &[usize], text: &[u8]) -> io::Result<()> {
     rt.write_all(letter)?;
     for n in numbers {
-        print_next(rt, *n)?;
+        print!(rt; " {n}")?;
     }
-    rt.write_all(b"\n")
-}
-
-// The line of an answer, and a text behind it.
-fn print_answer(rt: &impl Print, letter: &[u8], numbers: &[usize], text: &[u8]) -> io::Result<()> {
-    print_line(rt, letter, numbers)?;
+    rt.write_all(b"\n")?;
     rt.write_all(text)
 }
 
 // The line of an answer, and a text behind it. Where standard output does not take all of it, the reason goes to standard error.
-pub(crate) fn answer(rt: &(impl Print + Eprint), letter: &[u8], numbers: &[usize], text: &[u8]) {
-    if let Err(error) = print_answer(rt, letter, numbers, text) {
-        fail(rt, b"standard output", &error);
-    }
+pub(crate) fn answer(
+    rt: &(impl Print + Eprint),
+    letter: &[u8],
+    numbers: &[usize],
+    text: &[u8],
+) -> Result<(), Told> {
+    or_told(
+        rt,
+        b"standard output",
+        print_answer(rt, letter, numbers, text),
+    )
 }

@@ -8,9 +8,10 @@ mod folder;
 mod lists;
 
 fn main(rt: HostRuntime) {
-    if arguments::arg_count(&rt) > 1 {
-        arguments::asked(&rt);
+    // A failure has been told to standard error: what the program ends with is the same.
+    let _ = if arguments::arg_count(&rt) > 1 {
+        arguments::asked(&rt)
     } else {
-        folder::run(&rt);
-    }
+        folder::run(&rt)
+    };
 }

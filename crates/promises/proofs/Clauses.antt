@@ -33,6 +33,15 @@ use Rattle.pictures.specs.contracts.read_picture as read_picture
 use Rattle.pictures.specs.contracts.write_picture as write_picture
 use Rattle.pictures.specs.contracts.convert.to_new as to_new
 use Rattle.pictures.specs.contracts.convert.to_old as to_old
+use Rattle.network.specs.Answer.{passed_of}
+use Rattle.judge.specs.Answers.{answer_of}
+use Rattle.builders.specs.Results.{built_of, built_two_of}
+use Rattle.module.specs.Left.{left_by}
+use Rattle.isolation.specs.Isolation.{isolation_given}
+use Rattle.reach.specs.Reach.{reached_of}
+use Rattle.text.specs.Results.{made_of, shown_of}
+use Rattle.assembly.specs.Results.{assembled_of}
+use Rattle.contents.specs.Moved.{moved_of}
 use Rattle.library.specs.Left.{sum_left, difference_left, equal_left, less_left, greatest_left, closing_left, spreading_left, reach_left, show_left, make_left, read_left, write_left, write_picture_left, to_new_left, to_old_left}
 use Rattle.library.specs.contracts.staran_run_4 as library_run
 use Rattle.library.specs.contracts.staran_step_5 as library_step
@@ -68,100 +77,100 @@ module _ {M : Type 1} {𝓤 : Ura M} (𝓛 : Logic 𝓤) (memory : Memory → SP
 
   pub run-clauses : Says run.ended (run.clauses 𝓛 memory runs) (λ κs a r e.
       ⌜ Run (record { memory = a.0.now; registers = a.1.0.now; list = a.1.1.0.now; items = a.1.1.1.0.now; out = a.1.1.1.1.0.now })
-      (record { memory = e.0.now; registers = e.1.0.now; out = e.1.1.1.1.0.now; answer = r }) ⌝)
+      (record { memory = e.0.now; registers = e.1.0.now; out = e.1.1.1.1.0.now; answer = answer_of r }) ⌝)
   run-clauses κs a g r e = (refl, refl)
 
   pub step-clauses : Says step.ended (step.clauses 𝓛 memory runs) (λ κs a r e.
       ⌜ Step (record { memory = a.0.now; registers = a.1.0.now; list = a.1.1.0.now; items = a.1.1.1.0.now; out = a.1.1.1.1.0.now })
-      (record { memory = e.0.now; registers = e.1.0.now; out = e.1.1.1.1.0.now; answer = r }) ⌝)
+      (record { memory = e.0.now; registers = e.1.0.now; out = e.1.1.1.1.0.now; answer = answer_of r }) ⌝)
   step-clauses κs a g r e = (refl, refl)
 
   pub advance-clauses : Says advance.ended (advance.clauses 𝓛 memory runs) (λ κs a r e.
       ⌜ Step (record { memory = a.0.now; registers = a.1.0; list = a.1.1.0.now; items = a.1.1.1.0.now; out = a.1.1.1.1.0.now })
-      (record { memory = e.0.now; registers = r.regs; out = e.1.1.1.1.0.now; answer = r.answer }) ⌝)
+      (left_by a.1.0 r e.0.now e.1.1.1.1.0.now) ⌝)
   advance-clauses κs a g r e = (refl, refl)
 
   pub pass-clauses : Says pass.ended (pass.clauses 𝓛 memory runs) (λ κs a r e.
-      ⌜ Pass a.0.now a.1.0 a.1.1.0 r ⌝)
+      ⌜ Pass a.0.now a.1.0 a.1.1.0 (passed_of r) ⌝)
   pass-clauses κs a g r e = (refl, refl)
 
   pub wired-pass-clauses : Says wired_pass.ended (wired_pass.clauses 𝓛 memory runs) (λ κs a r e.
-      ⌜ Pass a.0.now a.1.0 a.1.1.0 r ⌝)
+      ⌜ Pass a.0.now a.1.0 a.1.1.0 (passed_of r) ⌝)
   wired-pass-clauses κs a g r e = (refl, refl)
 
   pub sum-list-clauses : Says sum_list.ended (sum_list.clauses 𝓛 memory runs) (λ κs a r e.
-      ⌜ SumList a.0 a.1.0 a.1.1.0 a.1.1.1.0 a.1.1.1.1.0.now e.1.1.1.1.0.now r ⌝)
+      ⌜ SumList a.0 a.1.0 a.1.1.0 a.1.1.1.0 a.1.1.1.1.0.now e.1.1.1.1.0.now (built_of r) ⌝)
   sum-list-clauses κs a g r e = (refl, refl)
 
   pub difference-list-clauses : Says difference_list.ended (difference_list.clauses 𝓛 memory runs) (λ κs a r e.
-      ⌜ DifferenceList a.0 a.1.0 a.1.1.0 a.1.1.1.0 a.1.1.1.1.0.now e.1.1.1.1.0.now r ⌝)
+      ⌜ DifferenceList a.0 a.1.0 a.1.1.0 a.1.1.1.0 a.1.1.1.1.0.now e.1.1.1.1.0.now (built_of r) ⌝)
   difference-list-clauses κs a g r e = (refl, refl)
 
   pub equal-list-clauses : Says equal_list.ended (equal_list.clauses 𝓛 memory runs) (λ κs a r e.
-      ⌜ EqualList a.0 a.1.0 a.1.1.0 a.1.1.1.0.now a.1.1.1.1.0.now e.1.1.1.0.now e.1.1.1.1.0.now r ⌝)
+      ⌜ EqualList a.0 a.1.0 a.1.1.0 a.1.1.1.0.now a.1.1.1.1.0.now e.1.1.1.0.now e.1.1.1.1.0.now (built_two_of r) ⌝)
   equal-list-clauses κs a g r e = (refl, refl)
 
   pub less-list-clauses : Says less_list.ended (less_list.clauses 𝓛 memory runs) (λ κs a r e.
-      ⌜ LessList a.0 a.1.0 a.1.1.0 a.1.1.1.0.now a.1.1.1.1.0.now e.1.1.1.0.now e.1.1.1.1.0.now r ⌝)
+      ⌜ LessList a.0 a.1.0 a.1.1.0 a.1.1.1.0.now a.1.1.1.1.0.now e.1.1.1.0.now e.1.1.1.1.0.now (built_two_of r) ⌝)
   less-list-clauses κs a g r e = (refl, refl)
 
   pub greatest-list-clauses : Says greatest_list.ended (greatest_list.clauses 𝓛 memory runs) (λ κs a r e.
-      ⌜ GreatestList a.0 a.1.0 a.1.1.0.now e.1.1.0.now r ⌝)
+      ⌜ GreatestList a.0 a.1.0 a.1.1.0.now e.1.1.0.now (built_of r) ⌝)
   greatest-list-clauses κs a g r e = (refl, refl)
 
   pub closing-list-clauses : Says closing_list.ended (closing_list.clauses 𝓛 memory runs) (λ κs a r e.
-      ⌜ ClosingList a.0 a.1.0 a.1.1.0 a.1.1.1.0.now a.1.1.1.1.0.now a.1.1.1.1.1.0.now e.1.1.1.1.0.now e.1.1.1.1.1.0.now r ⌝)
+      ⌜ ClosingList a.0 a.1.0 a.1.1.0 a.1.1.1.0.now a.1.1.1.1.0.now a.1.1.1.1.1.0.now e.1.1.1.1.0.now e.1.1.1.1.1.0.now (built_two_of r) ⌝)
   closing-list-clauses κs a g r e = (refl, refl)
 
   pub spreading-list-clauses : Says spreading_list.ended (spreading_list.clauses 𝓛 memory runs) (λ κs a r e.
-      ⌜ SpreadingList a.0 a.1.0 a.1.1.0 a.1.1.1.0.now a.1.1.1.1.0.now a.1.1.1.1.1.0.now e.1.1.1.1.0.now e.1.1.1.1.1.0.now r ⌝)
+      ⌜ SpreadingList a.0 a.1.0 a.1.1.0 a.1.1.1.0.now a.1.1.1.1.0.now a.1.1.1.1.1.0.now e.1.1.1.1.0.now e.1.1.1.1.1.0.now (built_two_of r) ⌝)
   spreading-list-clauses κs a g r e = (refl, refl)
 
   pub isolated-clauses : Says isolated.ended (isolated.clauses 𝓛 memory runs) (λ κs a r e.
-      ⌜ Isolated a.0.now a.1.0.now r ⌝)
+      ⌜ Isolated a.0.now a.1.0.now (isolation_given r) ⌝)
   isolated-clauses κs a g r e = (refl, refl)
 
   -- of each of several clauses its own
   pub reach-clauses : Says reach.ended (reach.clauses 𝓛 memory runs) (λ κs a r e.
-      ⌜ ReachAnswer a.0.now a.1.0.now a.1.1.0.now r ⌝ ∗ ⌜ ReachBytes a.0.now a.1.0.now a.1.1.0.now e.1.1.0.now ⌝)
+      ⌜ ReachAnswer a.0.now a.1.0.now a.1.1.0.now (reached_of r) ⌝ ∗ ⌜ ReachBytes a.0.now a.1.0.now a.1.1.0.now e.1.1.0.now ⌝)
   reach-clauses κs a g r e = (refl, refl)
 
   pub show-clauses : Says show.ended (show.clauses 𝓛 memory runs) (λ κs a r e.
-      ⌜ ShowAnswer a.0.now a.1.0.now r ⌝ ∗ ⌜ ShowText a.0.now a.1.0.now e.1.0.now ⌝)
+      ⌜ ShowAnswer a.0.now a.1.0.now (shown_of r) ⌝ ∗ ⌜ ShowText a.0.now a.1.0.now e.1.0.now ⌝)
   show-clauses κs a g r e = (refl, refl)
 
   pub make-clauses : Says make.ended (make.clauses 𝓛 memory runs) (λ κs a r e.
-      ⌜ MakeAnswer a.0.now a.1.0.now r ⌝ ∗ ⌜ MakeBytes a.0.now a.1.0.now e.1.0.now ⌝)
+      ⌜ MakeAnswer a.0.now a.1.0.now (made_of r) ⌝ ∗ ⌜ MakeBytes a.0.now a.1.0.now e.1.0.now ⌝)
   make-clauses κs a g r e = (refl, refl)
 
   pub assemble-clauses : Says assemble.ended (assemble.clauses 𝓛 memory runs) (λ κs a r e.
-      ⌜ AssembleAnswer a.0.now a.1.0.now a.1.1.0.now r ⌝
+      ⌜ AssembleAnswer a.0.now a.1.0.now a.1.1.0.now (assembled_of r) ⌝
       ∗ (⌜ AssembleList a.0.now a.1.0.now a.1.1.0.now e.1.0.now ⌝
       ∗ ⌜ AssembleItems a.0.now a.1.0.now a.1.1.0.now e.1.1.0.now ⌝))
   assemble-clauses κs a g r e = (refl, refl)
 
   pub read-content-clauses : Says read_content.ended (read_content.clauses 𝓛 memory runs) (λ κs a r e.
-      ⌜ ReadContent a.0 a.1.0.now a.1.1.0.now e.1.1.0.now r ⌝)
+      ⌜ ReadContent a.0 a.1.0.now a.1.1.0.now e.1.1.0.now (moved_of r) ⌝)
   read-content-clauses κs a g r e = (refl, refl)
 
   pub write-content-clauses : Says write_content.ended (write_content.clauses 𝓛 memory runs) (λ κs a r e.
-      ⌜ WriteContent a.0 a.1.0.now a.1.1.0.now e.1.1.0.now r ⌝)
+      ⌜ WriteContent a.0 a.1.0.now a.1.1.0.now e.1.1.0.now (moved_of r) ⌝)
   write-content-clauses κs a g r e = (refl, refl)
 
   pub read-picture-clauses : Says read_picture.ended (read_picture.clauses 𝓛 memory runs) (λ κs a r e.
-      ⌜ ReadPicture a.0 a.1.0.now a.1.1.0.now a.1.1.1.0.now e.1.1.0.now e.1.1.1.0.now r ⌝)
+      ⌜ ReadPicture a.0 a.1.0.now a.1.1.0.now a.1.1.1.0.now e.1.1.0.now e.1.1.1.0.now (moved_of r) ⌝)
   read-picture-clauses κs a g r e = (refl, refl)
 
   pub write-picture-clauses : Says write_picture.ended (write_picture.clauses 𝓛 memory runs) (λ κs a r e.
-      ⌜ WritePicture a.0 a.1.0.now a.1.1.0.now a.1.1.1.0.now e.1.1.1.0.now r ⌝)
+      ⌜ WritePicture a.0 a.1.0.now a.1.1.0.now a.1.1.1.0.now e.1.1.1.0.now (moved_of r) ⌝)
   write-picture-clauses κs a g r e = (refl, refl)
 
   pub to-new-clauses : Says to_new.ended (to_new.clauses 𝓛 memory runs) (λ κs a r e.
-      ⌜ ToNew a.0.now a.1.0.now e.1.0.now r ⌝)
+      ⌜ ToNew a.0.now a.1.0.now e.1.0.now (moved_of r) ⌝)
   to-new-clauses κs a g r e = (refl, refl)
 
   pub to-old-clauses : Says to_old.ended (to_old.clauses 𝓛 memory runs) (λ κs a r e.
-      ⌜ ToOld a.0.now a.1.0.now e.1.0.now r ⌝)
+      ⌜ ToOld a.0.now a.1.0.now e.1.0.now (moved_of r) ⌝)
   to-old-clauses κs a g r e = (refl, refl)
 
   -- ---- the library for C

@@ -10,7 +10,7 @@ use lib.ListN.{length, drop}
 use borrow.Author.Tests.{eqb-true, eqb-false, ne_eqb, ltb-false}
 use Rattle.bits.specs.Rows.{Row, row, number_of, NoRow, FirstRow}
 use Rattle.bits.proofs.Rows.{numbered, among, none_number, number-none, first-number, number-first}
-use Rattle.network.specs.declared.Passed.{Passed}
+use Rattle.network.specs.Answer.{Passed}
 use Rattle.network.specs.Answer.{passed_item, answer}
 use Rattle.network.proofs.TableRules.{listed-none}
 use Rattle.network.proofs.AnswerLaws.{pass-refusals, pass-0, given, refused}
@@ -18,15 +18,15 @@ use Rattle.registers.specs.declared.Modes.{Modes}
 use Rattle.registers.specs.declared.Registers.{Registers}
 use Rattle.registers.specs.Modes.{modes_of}
 use Rattle.judge.specs.declared.Lengths.{Lengths}
-use Rattle.judge.specs.declared.Answer.{Answer}
+use Rattle.judge.specs.Answers.{Answer}
 use Rattle.judge.specs.Kinds.{most_bytes}
 use Rattle.judge.specs.Judge.{unfit, run_rows, step_rows, judged_by, judged, judged_step}
 use Rattle.judge.proofs.Numbers as numbers
 use Rattle.module.specs.Run.{Lent, Left, unmoved, run_lengths, step_lengths, ran, stepped, left_bytes}
 use Rattle.module.proofs.RunLaws.{ran-answer, ran-refused}
 use Rattle.module.proofs.StepLaws.{stepped-answer, stepped-refused, step-is-run, step-not-eight}
-use Rattle.builders.specs.declared.Built.{Built}
-use Rattle.builders.specs.declared.BuiltTwo.{BuiltTwo}
+use Rattle.builders.specs.Building.{Built}
+use Rattle.builders.specs.Building.{BuiltTwo}
 use Rattle.builders.specs.Lists.{encoded}
 use Rattle.builders.specs.Sums.{sum_list, difference_list, list_length, field_rows, fields_fault, sum_built, difference_built}
 use Rattle.builders.specs.Searches.{search_list, number_items, greatest_list, search_length, items_length, greatest_length, search_rows, greatest_rows, search_fault, greatest_fault, search_built, greatest_built}
@@ -39,20 +39,20 @@ use Rattle.builders.proofs.Refusals.{fault-row, sound, no-fault}
 use Rattle.closing.proofs.Lengths.{closing-length, closing-items-length, spreading-length, spreading-items-length}
 use Rattle.closing.proofs.Refusals.{moving-row, moving-sound, moving-no-fault}
 use Rattle.builders.proofs.SearchRefusals.{search-row, search-sound, search-no-fault, greatest-row, greatest-sound, greatest-no-fault}
-use Rattle.isolation.specs.declared.Isolation.{Isolation}
+use Rattle.isolation.specs.Isolation.{Isolation}
 use Rattle.isolation.specs.Isolation.{isolation_of}
 use Rattle.isolation.proofs.Answers.{isolated-refusals, unbroken, kept-place}
-use Rattle.reach.specs.declared.Reached.{Reached}
+use Rattle.reach.specs.Reach.{Reached}
 use Rattle.reach.specs.Reach.{answer_bytes, reach_rows, reach_number, reach_answer, reach_out}
-use Rattle.text.specs.declared.Shown.{Shown}
-use Rattle.text.specs.declared.Made.{Made}
+use Rattle.text.specs.Show.{Shown}
+use Rattle.text.specs.Make.{Made}
 use Rattle.text.specs.Show.{shown_text, shown_as, shown_answer, shown_out}
 use Rattle.text.specs.Make.{last_of, made_bytes, line_at, column_at, answer as made_as, refused_at, made_answer, made_out}
 use Rattle.text.proofs.LineNumbers.{line-numbers}
-use Rattle.assembly.specs.declared.Assembled.{Assembled}
+use Rattle.assembly.specs.Assembly.{Assembled}
 use Rattle.assembly.specs.Assembly.{outcome_of, made_list, made_items, answer as assembled_as, assembled_answer, assembled_list, assembled_items}
 use Rattle.assembly.proofs.Bounds.{outcome-numbers}
-use Rattle.contents.specs.declared.Moved.{Moved}
+use Rattle.contents.specs.Moved.{Moved}
 use Rattle.contents.specs.File.{content_of, block_count, blocks_of}
 use Rattle.contents.specs.Content.{answered, read_answer, changed, over, target_fits, content_fits, read_rows, write_rows, ContentLeft, content_read, content_written}
 use Rattle.contents.proofs.AnswerLaws.{changed-not, left-parts}

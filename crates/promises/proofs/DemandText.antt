@@ -23,8 +23,8 @@ use Rattle.reach.proofs.Reaching.{reaching}
 use Rattle.spelling.specs.Tables.{unknown_word}
 use Rattle.spelling.specs.Words.{decimal, digit, number, extended, extended_by}
 use Rattle.lines.specs.Said.{reach_word}
-use Rattle.builders.specs.declared.Built.{Built}
-use Rattle.builders.specs.declared.BuiltTwo.{BuiltTwo}
+use Rattle.builders.specs.Building.{Built}
+use Rattle.builders.specs.Building.{BuiltTwo}
 use Rattle.builders.specs.Building.{BuiltLeft, fronted, built_with, BuiltTwoLeft, built_two}
 use Rattle.builders.specs.Lists.{encoded}
 use Rattle.builders.specs.Sums.{sum_list, difference_list, fields_fault, sum_built, difference_built}
@@ -32,15 +32,15 @@ use Rattle.builders.specs.Searches.{greatest_list, greatest_fault, search_built,
 use Rattle.builders.proofs.ListLaws.{sum-length}
 use Rattle.builders.proofs.OneLaws.{one_number}
 use Rattle.builders.proofs.TwoLaws.{two-number}
-use Rattle.text.specs.declared.Shown.{Shown}
-use Rattle.text.specs.declared.Made.{Made}
+use Rattle.text.specs.Show.{Shown}
+use Rattle.text.specs.Make.{Made}
 use Rattle.text.specs.Show.{shown_text, shown_as}
 use Rattle.text.specs.Make.{answer, made_answer, made_out}
 use Rattle.text.proofs.RoundTrip.{make-after-show}
 use Rattle.text.proofs.OneForm.{shown-again, has-form}
 use Rattle.text.proofs.InWords.{words-stand}
-use Rattle.assembly.specs.declared.Act.{Act}
-use Rattle.assembly.specs.declared.Assembled.{Assembled}
+use Rattle.assembly.specs.Act.{Act}
+use Rattle.assembly.specs.Assembly.{Assembled}
 use Rattle.assembly.specs.Acts.{list_of, items_of, limited, ordered}
 use Rattle.assembly.specs.Words.{blanks, letters, word_from, same_characters}
 use Rattle.assembly.specs.Fields.{span_of}

@@ -22,7 +22,7 @@ use Rattle.registers.specs.Logic.{logic_of}
 use Rattle.registers.proofs.LogicLaws.{logic-X, logic-Y, choice-X, choice-Y}
 use Rattle.registers.proofs.ResolverLaws.{resolved-first, resolved-none, responders-numbered, responders-once, responders-le}
 use Rattle.judge.specs.declared.Instruction.{Instruction}
-use Rattle.judge.specs.declared.Answer.{Answer}
+use Rattle.judge.specs.Answers.{Answer}
 use Rattle.judge.specs.Judge.{judged}
 use Rattle.judge.proofs.Accepted.{run-done}
 use Rattle.module.specs.Run.{Lent, run_lengths, ran_by, ran_all}

@@ -1,4 +1,5 @@
 -- The proofs of the pages of specs/, each in a file of the page's name.
+pub mod Results
 pub mod Clauses
 pub mod DemandOne
 pub mod DemandTwo

@@ -19,6 +19,16 @@ use Rattle.report.specs.Report.{printed}
 use Rattle.session.specs.declared.Counts.{Counts}
 use Rattle.session.specs.Session.{Outcome}
 use Rattle.session.specs.Shown.{Shown}
+use Rattle.bits.specs.Refusals.{number_of_refusal, number_given}
+use Rattle.bits.proofs.RefusalLaws.{refusal_of, refusal_of-number}
+use Rattle.network.specs.Answer.{passed_of}
+use Rattle.judge.specs.Answers.{answer_of, fault_given}
+use Rattle.builders.specs.Results.{built_of, built_two_of}
+use Rattle.lines.specs.Sorts.{number_of_sort}
+use Rattle.isolation.specs.Isolation.{isolation_given}
+use Rattle.module.specs.Run.{stepped}
+use Rattle.contents.specs.Moved.{moved_of}
+use Rattle.promises.proofs.Results.{passed_back, passed-back, answer_back, answer-back, fault_back, fault-back, given_back, given-back, sort_back, sort-back, reached_back, reached-back, isolation_back, isolation-back, stepped_back, stepped-back, shown_back, shown-back, made_back, made-back, assembled_back, assembled-back, moved_back, moved-back, left_back, left-back, buffer_back, buffer-back, buffers_back, buffers-back, content_back, content-back, picture_back, picture-back}
 use Rattle.promises.specs.Uniqueness.{Sight, OneOutcome, Same, Entries, Library, Program, OfBits, OfMemory, OfWords, OfNetwork, OfRegisters, OfJudge, OfBuilders, OfReach, OfSpelling, OfLines, OfBlocks, OfContents, OfPictures, Uniqueness}
 
 -- ---- the laws
@@ -47,6 +57,19 @@ module _ {M : Type 1} (𝓤 : Ura M) where
           told = told;
           tells = λ κs a g r e.
               subst (λ (P : SProp 𝓤). ent 𝓤 P (fact 𝓤 (seen κs r e ≡ told κs a))) (sym (h κs a g r e)) (fact_mono 𝓤 ((seen κs r e ≡ told κs a) × more κs a r) (seen κs r e ≡ told κs a) (λ p. p.0));
+        }
+
+  module _ {T : Ended} {c : Clauses 𝓤 T} {N O : Type 0} {seen : Sight T O} (numbers : Sight T N) (back : N → O) (told : (κs : Lfts T.signature.lifetimes) → Args T.signature κs → N) where
+    -- and so does one of the documents' numbers, where these lead back to the result that they are of
+    converted : ((κs : Lfts T.signature.lifetimes) (r : Res T.signature κs) (e : AtExit T κs) → back (numbers κs r e) ≡ seen κs r e)
+        → ((κs : Lfts T.signature.lifetimes) (a : Args T.signature κs) (g : (c κs a).ghost) (r : Res T.signature κs) (e : AtExit T κs)
+        → (c κs a).ensures g r e ≡ fact 𝓤 (numbers κs r e ≡ told κs a)) → OneOutcome 𝓤 T c seen
+    converted same h =
+        record {
+          told = λ κs a. back (told κs a);
+          tells = λ κs a g r e.
+              subst (λ (P : SProp 𝓤). ent 𝓤 P (fact 𝓤 (seen κs r e ≡ back (told κs a)))) (sym (h κs a g r e))
+              (fact_mono 𝓤 (numbers κs r e ≡ told κs a) (seen κs r e ≡ back (told κs a)) (λ p. sym (same κs r e) ∙ ap back p));
         }
 
   module _ (T : Ended) (c : Clauses 𝓤 T) (O : Type 0) (seen : Sight T O) where
@@ -83,29 +106,29 @@ module _ {M : Type 1} {𝓤 : Ura M} (𝓛 : Logic 𝓤) (memory : Memory → SP
   entries : Entries 𝓛 memory runs
   entries =
       record {
-        pass = equation 𝓤 _ (λ κs a g r e. refl);
-        wired_pass = equation 𝓤 _ (λ κs a g r e. refl);
-        run = equation 𝓤 _ (λ κs a g r e. refl);
-        step = equation 𝓤 _ (λ κs a g r e. refl);
-        advance = equation 𝓤 _ (λ κs a g r e. refl);
-        sum_list = equation 𝓤 _ (λ κs a g r e. refl);
-        difference_list = equation 𝓤 _ (λ κs a g r e. refl);
-        equal_list = equation 𝓤 _ (λ κs a g r e. refl);
-        less_list = equation 𝓤 _ (λ κs a g r e. refl);
-        greatest_list = equation 𝓤 _ (λ κs a g r e. refl);
-        closing_list = equation 𝓤 _ (λ κs a g r e. refl);
-        spreading_list = equation 𝓤 _ (λ κs a g r e. refl);
-        isolated = equation 𝓤 _ (λ κs a g r e. refl);
-        reach = record { told = _; tells = λ κs a g r e. two 𝓤 _ _ _ both };
-        show = record { told = _; tells = λ κs a g r e. two 𝓤 _ _ _ both };
-        make = record { told = _; tells = λ κs a g r e. two 𝓤 _ _ _ both };
-        assemble = record { told = _; tells = λ κs a g r e. three 𝓤 _ _ _ _ all_three };
-        read_content = equation 𝓤 _ (λ κs a g r e. refl);
-        write_content = equation 𝓤 _ (λ κs a g r e. refl);
-        read_picture = equation 𝓤 _ (λ κs a g r e. refl);
-        write_picture = equation 𝓤 _ (λ κs a g r e. refl);
-        to_new = equation 𝓤 _ (λ κs a g r e. refl);
-        to_old = equation 𝓤 _ (λ κs a g r e. refl);
+        pass = converted 𝓤 (λ κs r e. passed_of r) passed_back _ (λ κs r e. passed-back r) (λ κs a g r e. refl);
+        wired_pass = converted 𝓤 (λ κs r e. passed_of r) passed_back _ (λ κs r e. passed-back r) (λ κs a g r e. refl);
+        run = converted 𝓤 (λ κs r e. record { memory = e.0.now; registers = e.1.0.now; out = e.1.1.1.1.0.now; answer = answer_of r }) left_back _ (λ κs r e. left-back (e.0.now) (e.1.0.now) (e.1.1.1.1.0.now) r) (λ κs a g r e. refl);
+        step = converted 𝓤 (λ κs r e. record { memory = e.0.now; registers = e.1.0.now; out = e.1.1.1.1.0.now; answer = answer_of r }) left_back _ (λ κs r e. left-back (e.0.now) (e.1.0.now) (e.1.1.1.1.0.now) r) (λ κs a g r e. refl);
+        advance = record { told = λ κs a. stepped_back (stepped (record { memory = a.0.now; registers = a.1.0; list = a.1.1.0.now; items = a.1.1.1.0.now; out = a.1.1.1.1.0.now })); tells = λ κs a g r e. fact_mono 𝓤 _ _ (λ p. sym (stepped-back a.1.0 r e.0.now e.1.1.1.1.0.now) ∙ ap stepped_back p) };
+        sum_list = converted 𝓤 (λ κs r e. record { answer = built_of r; list = e.1.1.1.1.0.now }) buffer_back _ (λ κs r e. buffer-back (e.1.1.1.1.0.now) r) (λ κs a g r e. refl);
+        difference_list = converted 𝓤 (λ κs r e. record { answer = built_of r; list = e.1.1.1.1.0.now }) buffer_back _ (λ κs r e. buffer-back (e.1.1.1.1.0.now) r) (λ κs a g r e. refl);
+        equal_list = converted 𝓤 (λ κs r e. record { answer = built_two_of r; list = e.1.1.1.0.now; items = e.1.1.1.1.0.now }) buffers_back _ (λ κs r e. buffers-back (e.1.1.1.0.now) (e.1.1.1.1.0.now) r) (λ κs a g r e. refl);
+        less_list = converted 𝓤 (λ κs r e. record { answer = built_two_of r; list = e.1.1.1.0.now; items = e.1.1.1.1.0.now }) buffers_back _ (λ κs r e. buffers-back (e.1.1.1.0.now) (e.1.1.1.1.0.now) r) (λ κs a g r e. refl);
+        greatest_list = converted 𝓤 (λ κs r e. record { answer = built_of r; list = e.1.1.0.now }) buffer_back _ (λ κs r e. buffer-back (e.1.1.0.now) r) (λ κs a g r e. refl);
+        closing_list = converted 𝓤 (λ κs r e. record { answer = built_two_of r; list = e.1.1.1.1.0.now; items = e.1.1.1.1.1.0.now }) buffers_back _ (λ κs r e. buffers-back (e.1.1.1.1.0.now) (e.1.1.1.1.1.0.now) r) (λ κs a g r e. refl);
+        spreading_list = converted 𝓤 (λ κs r e. record { answer = built_two_of r; list = e.1.1.1.1.0.now; items = e.1.1.1.1.1.0.now }) buffers_back _ (λ κs r e. buffers-back (e.1.1.1.1.0.now) (e.1.1.1.1.1.0.now) r) (λ κs a g r e. refl);
+        isolated = converted 𝓤 (λ κs r e. isolation_given r) isolation_back _ (λ κs r e. isolation-back r) (λ κs a g r e. refl);
+        reach = record { told = _; tells = λ κs a g r e. two 𝓤 _ _ _ (λ p q. both (sym (reached-back r) ∙ ap reached_back p) q) };
+        show = record { told = _; tells = λ κs a g r e. two 𝓤 _ _ _ (λ p q. both (sym (shown-back r) ∙ ap shown_back p) q) };
+        make = record { told = _; tells = λ κs a g r e. two 𝓤 _ _ _ (λ p q. both (sym (made-back r) ∙ ap made_back p) q) };
+        assemble = record { told = _; tells = λ κs a g r e. three 𝓤 _ _ _ _ (λ p q t. all_three (sym (assembled-back r) ∙ ap assembled_back p) q t) };
+        read_content = converted 𝓤 (λ κs r e. record { answer = moved_of r; buffer = e.1.1.0.now }) content_back _ (λ κs r e. content-back (e.1.1.0.now) r) (λ κs a g r e. refl);
+        write_content = converted 𝓤 (λ κs r e. record { answer = moved_of r; buffer = e.1.1.0.now }) content_back _ (λ κs r e. content-back (e.1.1.0.now) r) (λ κs a g r e. refl);
+        read_picture = converted 𝓤 (λ κs r e. record { answer = moved_of r; memory = e.1.1.0.now; registers = e.1.1.1.0.now }) picture_back _ (λ κs r e. picture-back (e.1.1.0.now) (e.1.1.1.0.now) r) (λ κs a g r e. refl);
+        write_picture = converted 𝓤 (λ κs r e. record { answer = moved_of r; buffer = e.1.1.1.0.now }) content_back _ (λ κs r e. content-back (e.1.1.1.0.now) r) (λ κs a g r e. refl);
+        to_new = converted 𝓤 (λ κs r e. record { answer = moved_of r; buffer = e.1.0.now }) content_back _ (λ κs r e. content-back (e.1.0.now) r) (λ κs a g r e. refl);
+        to_old = converted 𝓤 (λ κs r e. record { answer = moved_of r; buffer = e.1.0.now }) content_back _ (λ κs r e. content-back (e.1.0.now) r) (λ κs a g r e. refl);
       }
 
   library : Library 𝓛 memory runs
@@ -138,29 +161,23 @@ module _ {M : Type 1} {𝓤 : Ura M} (𝓛 : Logic 𝓤) (memory : Memory → SP
   program : Program 𝓛 memory runs
   program =
       record {
-        session = record { told = _; tells = λ κs a g r e. two 𝓤 _ _ _ (shown-told a.1.1.1.1.1.1.0.now) };
-        report = record { told = _; tells = λ κs a g r e. three 𝓤 _ _ _ _ (λ room. followed (λ n. printed a.0 a.1.0 a.1.1.0 a.1.1.1.0 a.1.1.1.1.0 a.1.1.1.1.1.0 a.1.1.1.1.1.1.0 a.1.1.1.1.1.1.1.0.now ++ drop n a.1.1.1.1.1.1.1.1.0.now)) };
+        session = record { told = _; tells = λ κs a g r e. two 𝓤 _ _ _ (shown-told a.1.1.1.0.now) };
+        report = record { told = _; tells = λ κs a g r e. three 𝓤 _ _ _ _ (λ room. followed (λ n. printed a.0 a.1.0.number a.1.0.place a.1.0.byte a.1.0.steps a.1.0.taken a.1.0.given a.1.1.0.now ++ drop n a.1.1.1.0.now)) };
       }
 
   of-bits : OfBits 𝓛 memory runs
   of-bits =
       record {
-        mix = equation 𝓤 _ (λ κs a g r e. refl);
         put_byte = record { told = _; tells = λ κs a g r e. fact_mono 𝓤 _ _ (put-told a.1.0 (a.1.1.0 ∷ []) a.0.now) };
-        one_if = equation-and 𝓤 _ _ (λ κs a g r e. refl);
-        number_or = equation 𝓤 _ (λ κs a g r e. refl);
-        copy = equation 𝓤 _ (λ κs a g r e. refl);
         item_of = equation 𝓤 _ (λ κs a g r e. refl);
         flip_quarters = equation 𝓤 _ (λ κs a g r e. refl);
-        spread_lane = equation 𝓤 _ (λ κs a g r e. refl);
-        clear_lane = equation 𝓤 _ (λ κs a g r e. refl);
+        mix = λ T g d₁ c d₂ x d₃ a d₄. equation 𝓤 _ (λ κs a g r e. refl);
+        spread_lane = λ T. equation 𝓤 _ (λ κs a g r e. refl);
         gather_lane = equation 𝓤 _ (λ κs a g r e. refl);
         keep_lane = equation 𝓤 _ (λ κs a g r e. refl);
         quarters_of = equation 𝓤 _ (λ κs a g r e. refl);
         lines_of = equation 𝓤 _ (λ κs a g r e. refl);
-        mix_quarter = equation 𝓤 _ (λ κs a g r e. refl);
-        low = equation 𝓤 _ (λ κs a g r e. refl);
-        high = equation 𝓤 _ (λ κs a g r e. refl);
+        number = equation 𝓤 _ (λ κs a g r e. refl);
       }
 
   of-memory : OfMemory 𝓛 memory runs
@@ -169,6 +186,7 @@ module _ {M : Type 1} {𝓤 : Ura M} (𝓛 : Logic 𝓤) (memory : Memory → SP
         load = equation 𝓤 _ (λ κs a g r e. refl);
         store = equation 𝓤 _ (λ κs a g r e. refl);
         store_masked = equation 𝓤 _ (λ κs a g r e. refl);
+        write_all = equation 𝓤 _ (λ κs a g r e. refl);
         partner = equation-and 𝓤 _ _ (λ κs a g r e. refl);
         read_all = equation 𝓤 _ (λ κs a g r e. refl);
       }
@@ -187,7 +205,7 @@ module _ {M : Type 1} {𝓤 : Ura M} (𝓛 : Logic 𝓤) (memory : Memory → SP
         pass_part = equation 𝓤 _ (λ κs a g r e. refl);
         find = equation 𝓤 _ (λ κs a g r e. refl);
         is_code = equation 𝓤 _ (λ κs a g r e. refl);
-        unlisted = equation 𝓤 _ (λ κs a g r e. refl);
+        unlisted = converted 𝓤 (λ κs r e. number_of_refusal r) refusal_of _ (λ κs r e. refusal_of-number r) (λ κs a g r e. refl);
         copied = equation 𝓤 _ (λ κs a g r e. refl);
       }
 
@@ -201,6 +219,9 @@ module _ {M : Type 1} {𝓤 : Ura M} (𝓛 : Logic 𝓤) (memory : Memory → SP
         wrong_modes = equation 𝓤 _ (λ κs a g r e. refl);
         any_set = equation 𝓤 _ (λ κs a g r e. refl);
         resolve = equation 𝓤 _ (λ κs a g r e. refl);
+        count_responders = equation-and 𝓤 _ _ (λ κs a g r e. refl);
+        is_set = equation 𝓤 _ (λ κs a g r e. refl);
+        mode_if_set = equation 𝓤 _ (λ κs a g r e. refl);
         registers_of = equation 𝓤 _ (λ κs a g r e. refl);
         write_registers = equation 𝓤 _ (λ κs a g r e. refl);
       }
@@ -208,19 +229,20 @@ module _ {M : Type 1} {𝓤 : Ura M} (𝓛 : Logic 𝓤) (memory : Memory → SP
   of-judge : OfJudge 𝓛 memory runs
   of-judge =
       record {
-        judge = equation 𝓤 _ (λ κs a g r e. refl);
-        judge_step = equation 𝓤 _ (λ κs a g r e. refl);
+        judge = converted 𝓤 (λ κs r e. answer_of r) answer_back _ (λ κs r e. answer-back r) (λ κs a g r e. refl);
+        judge_step = converted 𝓤 (λ κs r e. answer_of r) answer_back _ (λ κs r e. answer-back r) (λ κs a g r e. refl);
         decode = equation 𝓤 _ (λ κs a g r e. refl);
         unfit = equation 𝓤 _ (λ κs a g r e. refl);
+        at = equation 𝓤 _ (λ κs a g r e. refl);
         settle = equation 𝓤 _ (λ κs a g r e. refl);
         unset = equation 𝓤 _ (λ κs a g r e. refl);
         stores = equation 𝓤 _ (λ κs a g r e. refl);
         touches = equation 𝓤 _ (λ κs a g r e. refl);
-        fault = equation 𝓤 _ (λ κs a g r e. refl);
+        fault = converted 𝓤 (λ κs r e. fault_given r) fault_back _ (λ κs r e. fault-back r) (λ κs a g r e. refl);
         takes = equation 𝓤 _ (λ κs a g r e. refl);
         gives = equation 𝓤 _ (λ κs a g r e. refl);
-        tally = equation 𝓤 _ (λ κs a g r e. refl);
-        shortage = equation 𝓤 _ (λ κs a g r e. refl);
+        tally = converted 𝓤 (λ κs r e. answer_of r) answer_back _ (λ κs r e. answer-back r) (λ κs a g r e. refl);
+        shortage = λ F h d₁ d₂ d₃ d₄ uses computes. record { told = _; tells = λ κs a g r e. fact_mono 𝓤 _ _ (λ k. k uses (λ i w. computes a.0 (i, _) w)) };
       }
 
   of-builders : OfBuilders 𝓛 memory runs
@@ -228,11 +250,14 @@ module _ {M : Type 1} {𝓤 : Ura M} (𝓛 : Logic 𝓤) (memory : Memory → SP
       record {
         wrong_width = equation 𝓤 _ (λ κs a g r e. refl);
         beyond = equation 𝓤 _ (λ κs a g r e. refl);
+        lacks = equation 𝓤 _ (λ κs a g r e. refl);
+        meets = equation 𝓤 _ (λ κs a g r e. refl);
         put = equation 𝓤 _ (λ κs a g r e. refl);
+        put_all = equation 𝓤 _ (λ κs a g r e. refl);
         put_item = equation 𝓤 _ (λ κs a g r e. refl);
-        put_logic_from = equation 𝓤 _ (λ κs a g r e. refl);
-        put_logic_at = equation 𝓤 _ (λ κs a g r e. refl);
-        put_store_at = equation 𝓤 _ (λ κs a g r e. refl);
+        logic_from = equation 𝓤 _ (λ κs a g r e. refl);
+        logic_at = equation 𝓤 _ (λ κs a g r e. refl);
+        store_at = equation 𝓤 _ (λ κs a g r e. refl);
       }
 
   of-reach : OfReach 𝓛 memory runs
@@ -256,26 +281,25 @@ module _ {M : Type 1} {𝓤 : Ura M} (𝓛 : Logic 𝓤) (memory : Memory → SP
   of-lines =
       record {
         words_of = equation 𝓤 _ (λ κs a g r e. refl);
+        of_kind = equation 𝓤 _ (λ κs a g r e. refl);
         worded = equation 𝓤 _ (λ κs a g r e. refl);
-        sort = equation 𝓤 _ (λ κs a g r e. refl);
+        sort = converted 𝓤 (λ κs r e. number_of_sort r) sort_back _ (λ κs r e. sort-back r) (λ κs a g r e. refl);
       }
 
   of-blocks : OfBlocks 𝓛 memory runs
   of-blocks =
       record {
         two_at = equation-and 𝓤 _ _ (λ κs a g r e. refl);
-        fault = equation 𝓤 _ (λ κs a g r e. refl);
+        fault = converted 𝓤 (λ κs r e. number_given r) given_back _ (λ κs r e. given-back r) (λ κs a g r e. refl);
         seal = equation 𝓤 _ (λ κs a g r e. refl);
       }
 
   of-contents : OfContents 𝓛 memory runs
   of-contents =
       record {
-        refused = equation 𝓤 _ (λ κs a g r e. refl);
-        done = equation 𝓤 _ (λ κs a g r e. refl);
-        kind_right = equation 𝓤 _ (λ κs a g r e. refl);
         is_picture = equation 𝓤 _ (λ κs a g r e. refl);
-        judge_file = equation 𝓤 _ (λ κs a g r e. refl);
+        number = equation 𝓤 _ (λ κs a g r e. refl);
+        judge_file = converted 𝓤 (λ κs r e. moved_of r) moved_back _ (λ κs r e. moved-back r) (λ κs a g r e. refl);
         part_of = equation 𝓤 _ (λ κs a g r e. refl);
         put_part = equation 𝓤 _ (λ κs a g r e. refl);
         seal_all = equation 𝓤 _ (λ κs a g r e. refl);

@@ -1,27 +1,27 @@
 -- The promises of the public entries: the clauses of each contract as types, in the source's words, the buffers at entry first and those at exit, primed, and the answer behind them. proofs/Clauses.antt shows that they are the contracts' own, and that no such contract has a `requires`; the page of demand 1 starts from them.
 use Rattle.std.specs.Prelude.{◌≡◌, List, ℕ, length}
-use Rattle.network.specs.declared.Passed.{Passed}
+use Rattle.network.specs.Answer.{Passed}
 use Rattle.network.specs.Answer.{answer}
 use Rattle.registers.specs.declared.Registers.{Registers}
-use Rattle.judge.specs.declared.Answer.{Answer}
+use Rattle.judge.specs.Answers.{Answer}
 use Rattle.module.specs.Run.{Lent, Left, ran, stepped}
-use Rattle.builders.specs.declared.Built.{Built}
-use Rattle.builders.specs.declared.BuiltTwo.{BuiltTwo}
+use Rattle.builders.specs.Building.{Built}
+use Rattle.builders.specs.Building.{BuiltTwo}
 use Rattle.builders.specs.Sums.{sum_built, difference_built}
 use Rattle.builders.specs.Searches.{equal_built, less_built, greatest_built}
 use Rattle.closing.specs.Closing.{closing_built, spreading_built}
 use Rattle.builders.specs.Building.{BuiltLeft as Buffer, BuiltTwoLeft as Buffers}
-use Rattle.isolation.specs.declared.Isolation.{Isolation}
+use Rattle.isolation.specs.Isolation.{Isolation}
 use Rattle.isolation.specs.Isolation.{isolation_of}
-use Rattle.reach.specs.declared.Reached.{Reached}
+use Rattle.reach.specs.Reach.{Reached}
 use Rattle.reach.specs.Reach.{reach_answer, reach_out}
-use Rattle.text.specs.declared.Shown.{Shown}
-use Rattle.text.specs.declared.Made.{Made}
+use Rattle.text.specs.Show.{Shown}
+use Rattle.text.specs.Make.{Made}
 use Rattle.text.specs.Show.{shown_answer, shown_out}
 use Rattle.text.specs.Make.{made_answer, made_out}
-use Rattle.assembly.specs.declared.Assembled.{Assembled}
+use Rattle.assembly.specs.Assembly.{Assembled}
 use Rattle.assembly.specs.Assembly.{assembled_answer, assembled_list, assembled_items}
-use Rattle.contents.specs.declared.Moved.{Moved}
+use Rattle.contents.specs.Moved.{Moved}
 use Rattle.contents.specs.Content.{ContentLeft, content_read, content_written}
 use Rattle.pictures.specs.Picture.{PictureLeft, picture_read, picture_written}
 use Rattle.pictures.specs.Conversion.{to_new, to_old}

@@ -3,7 +3,7 @@
 -- What is lent is any list of bytes, and a kind, a start or a width any number: no contract of an entry has a `requires`, so no field has a condition on them. That an entry ends is part of every check. A name with ' is what a buffer lent for writing holds afterwards; one lent for reading cannot change. What stands before a field's last arrow is the entry's promise, its contract's clauses as specs/Clauses.antt has them.
 use Rattle.std.specs.Prelude.{◌≡◌, Bool, true, false, not, ◌&&◌, ◌||◌, List, [], ◌∷◌, ◌↔◌, ◌≢◌, ℕ, ◌*◌, ◌/◌, ◌^◌, ◌<◌, ◌≤◌, eqb, ltb, leb, length, replicate}
 use Rattle.bits.specs.Rows.{Row, row, NoRow, FirstRow}
-use Rattle.network.specs.declared.Passed.{Passed}
+use Rattle.network.specs.Answer.{Passed}
 use Rattle.network.specs.Shifts.{permitted}
 use Rattle.network.specs.Unlisted.{code_rows}
 use Rattle.network.specs.Answer.{passed_item}
@@ -12,32 +12,32 @@ use Rattle.registers.specs.declared.Registers.{Registers}
 use Rattle.registers.specs.Modes.{modes_of}
 use Rattle.judge.specs.declared.Instruction.{Instruction}
 use Rattle.judge.specs.declared.Lengths.{Lengths}
-use Rattle.judge.specs.declared.Answer.{Answer}
+use Rattle.judge.specs.Answers.{Answer}
 use Rattle.judge.specs.ByteRows.{InOrder}
 use Rattle.judge.specs.Kinds.{most_bytes}
 use Rattle.judge.specs.Judge.{instruction_rows, unfit, run_rows, step_rows, refusal, done, judged, judged_step}
 use Rattle.judge.specs.Numbers.{Gives, Refused, Unrefused}
 use Rattle.module.specs.Run.{Lent, Left, unmoved, run_lengths, step_lengths, lent_bytes, left_bytes}
-use Rattle.builders.specs.declared.Built.{Built}
-use Rattle.builders.specs.declared.BuiltTwo.{BuiltTwo}
+use Rattle.builders.specs.Building.{Built}
+use Rattle.builders.specs.Building.{BuiltTwo}
 use Rattle.builders.specs.Field.{Field}
 use Rattle.builders.specs.Sums.{Fields, list_length, field_rows}
 use Rattle.builders.specs.Searches.{search_length, items_length, greatest_length, search_rows, greatest_rows}
 use Rattle.closing.specs.Closing.{closing_length, closing_items_length, spreading_length, spreading_items_length, moving_rows, FieldsApart}
-use Rattle.isolation.specs.declared.Isolation.{Isolation}
+use Rattle.isolation.specs.Isolation.{Isolation}
 use Rattle.isolation.specs.Isolation.{ask_rows}
 use Rattle.fields.specs.Isolation.{Keeps}
 use Rattle.isolation.specs.Numbers.{Answered}
-use Rattle.reach.specs.declared.Reached.{Reached}
+use Rattle.reach.specs.Reach.{Reached}
 use Rattle.reach.specs.Reach.{answer_bytes, reach_rows}
-use Rattle.text.specs.declared.Shown.{Shown}
-use Rattle.text.specs.declared.Made.{Made}
+use Rattle.text.specs.Show.{Shown}
+use Rattle.text.specs.Make.{Made}
 use Rattle.text.specs.Show.{shown_text}
 use Rattle.text.specs.Make.{number_of, last_of, made_bytes, line_at, column_at}
-use Rattle.assembly.specs.declared.Assembled.{Assembled}
+use Rattle.assembly.specs.Assembly.{Assembled}
 use Rattle.assembly.specs.Assembly.{outcome_of, made_list, made_items}
 use Rattle.blocks.specs.Block.{block_bytes}
-use Rattle.contents.specs.declared.Moved.{Moved}
+use Rattle.contents.specs.Moved.{Moved}
 use Rattle.contents.specs.File.{picture_kind, modes_picture_kind, content_of, size_fits, block_count}
 use Rattle.contents.specs.Content.{target_fits, content_fits, read_rows, write_rows}
 use Rattle.contents.specs.Numbers.{Answers, Sound, ReadRefused}

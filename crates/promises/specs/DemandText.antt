@@ -12,18 +12,18 @@ use Rattle.spelling.specs.Words.{decimal}
 use Rattle.lines.specs.Alone.{fault_alone}
 use Rattle.lines.specs.Said.{reach_word}
 use Rattle.lines.specs.Worded.{in_words}
-use Rattle.builders.specs.declared.Built.{Built}
-use Rattle.builders.specs.declared.BuiltTwo.{BuiltTwo}
+use Rattle.builders.specs.Building.{Built}
+use Rattle.builders.specs.Building.{BuiltTwo}
 use Rattle.builders.specs.Lists.{encoded}
 use Rattle.builders.specs.Sums.{sum_list}
-use Rattle.text.specs.declared.Shown.{Shown}
-use Rattle.text.specs.declared.Made.{Made}
+use Rattle.text.specs.Show.{Shown}
+use Rattle.text.specs.Make.{Made}
 use Rattle.text.specs.Show.{shown_text, shown_as}
 use Rattle.text.specs.Make.{answer, made_bytes, line_so_far}
 use Rattle.text.specs.Promise.{Canonical}
-use Rattle.assembly.specs.declared.Act.{Act}
-use Rattle.assembly.specs.declared.Act.TheVariants.{Sum, Search, Greatest}
-use Rattle.assembly.specs.declared.Assembled.{Assembled}
+use Rattle.assembly.specs.Act.{Act}
+use Rattle.assembly.specs.Act.{Sum, Search, Greatest}
+use Rattle.assembly.specs.Assembly.{Assembled}
 use Rattle.assembly.specs.Acts.{list_of, items_of}
 use Rattle.assembly.specs.Assembly.{State, applied, answer as assembled}
 use Rattle.assembly.specs.Limits.{Kept}

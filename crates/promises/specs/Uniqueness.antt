@@ -1,6 +1,6 @@
 -- One outcome: of every function that another crate can name, "the answer, and every lent byte afterwards, can be computed from the input, refused calls too". Document 01, Tightness of the contracts.
 -- A field says it of the function's contract as the check reads it from the source, `NAME.clauses`, so that a clause that leaves anything open is refused in proofs/Uniqueness.antt, which proves them all. Public entries first, then the library, the program and the inner functions by crate. Assumes nothing.
-use Rattle.std.specs.Prelude.{◌≡◌, List, ℕ}
+use Rattle.std.specs.Prelude.{◌≡◌, Bool, List, ℕ, Result}
 use seplogic.Ra.Ura.{Ura}
 use base.Logic.{SProp, ent, sep}
 use prog.Memory.{Memory}
@@ -8,27 +8,24 @@ use prog.Routine.{Routine}
 use types.Logic.{Logic}
 use contract.Lifetimes.{Lfts}
 use contract.Monad.{Fun, fact}
+use denote.RattleType.{RattleType}
 use denote.Triple.Entry.{Args, Res}
 use denote.Triple.Clauses.{Ended, Clauses, AtExit}
-use Rattle.bits.specs.contracts.mix as mix
+use Rattle.bits.specs.declared.refusals.Refusal.{Refusal}
+use Rattle.bits.specs.contracts.mixing.mix as mix
 use Rattle.bits.specs.contracts.buffers.put as put_byte
-use Rattle.bits.specs.contracts.choices.one_if as one_if
-use Rattle.bits.specs.contracts.choices.number_or as number_or
-use Rattle.bits.specs.contracts.copies.copy as copy
 use Rattle.bits.specs.contracts.copies.item_of as item_of
 use Rattle.bits.specs.contracts.flips.flip_quarters as flip_quarters
 use Rattle.bits.specs.contracts.lanes.spread_lane as spread_lane
-use Rattle.bits.specs.contracts.lanes.clear_lane as clear_lane
 use Rattle.bits.specs.contracts.lanes.gather_lane as gather_lane
 use Rattle.bits.specs.contracts.lanes.keep_lane as keep_lane
 use Rattle.bits.specs.contracts.quarters.quarters_of as quarters_of
 use Rattle.bits.specs.contracts.quarters.lines_of as lines_of
-use Rattle.bits.specs.contracts.quarters.mix as mix_quarter
-use Rattle.bits.specs.contracts.two_bytes.low as low
-use Rattle.bits.specs.contracts.two_bytes.high as high
+use Rattle.bits.specs.contracts.refusals.Refusal.number as refusal_number
 use Rattle.memory.specs.contracts.load as load
 use Rattle.memory.specs.contracts.store as store
 use Rattle.memory.specs.contracts.store_masked as store_masked
+use Rattle.memory.specs.contracts.writing.write_all as write_all
 use Rattle.memory.specs.contracts.places.partner as partner
 use Rattle.memory.specs.contracts.reading.read_all as read_all
 use Rattle.words.specs.contracts.words_out as words_out
@@ -48,12 +45,16 @@ use Rattle.registers.specs.contracts.mode_bytes.modes_of as modes_of
 use Rattle.registers.specs.contracts.mode_bytes.wrong_modes as wrong_modes
 use Rattle.registers.specs.contracts.mode_bytes.any_set as any_set
 use Rattle.registers.specs.contracts.resolver.resolve as resolve
+use Rattle.registers.specs.contracts.resolver.count_responders as count_responders
+use Rattle.registers.specs.contracts.ModeRegister.is_set as is_set
+use Rattle.registers.specs.contracts.ModeRegister.mode_if_set as mode_if_set
 use Rattle.registers.specs.contracts.rows.registers_of as registers_of
 use Rattle.registers.specs.contracts.rows.write_registers as write_registers
 use Rattle.judge.specs.contracts.judge as judge
 use Rattle.judge.specs.contracts.judge_step as judge_step
 use Rattle.judge.specs.contracts.decode as decode
 use Rattle.judge.specs.contracts.unfit as unfit
+use Rattle.judge.specs.contracts.Fault.at as fault_at
 use Rattle.judge.specs.contracts.modes.settle as settle
 use Rattle.judge.specs.contracts.modes.unset as unset
 use Rattle.judge.specs.contracts.rows.stores as stores
@@ -65,18 +66,24 @@ use Rattle.judge.specs.contracts.searches.tally as tally
 use Rattle.judge.specs.contracts.searches.shortage as shortage
 use Rattle.builders.specs.contracts.field.wrong_width as wrong_width
 use Rattle.builders.specs.contracts.field.beyond as beyond
+use Rattle.builders.specs.contracts.Sizes.lacks as lacks
+use Rattle.builders.specs.contracts.field.meets as meets
+use Rattle.builders.specs.contracts.instructions.logic_from as logic_from
+use Rattle.builders.specs.contracts.instructions.logic_at as logic_at
+use Rattle.builders.specs.contracts.instructions.store_at as store_at
 use Rattle.builders.specs.contracts.writing.put as put
+use Rattle.builders.specs.contracts.writing.put_all as put_all
 use Rattle.builders.specs.contracts.writing.put_item as put_item
-use Rattle.builders.specs.contracts.writing.put_logic_from as put_logic_from
-use Rattle.builders.specs.contracts.writing.put_logic_at as put_logic_at
-use Rattle.builders.specs.contracts.writing.put_store_at as put_store_at
 use Rattle.registers.specs.declared.Registers.{Registers}
-use Rattle.judge.specs.declared.Answer.{Answer}
+use Rattle.judge.specs.declared.Instruction.{Instruction}
+use Rattle.judge.specs.declared.Done.{Done}
+use Rattle.judge.specs.declared.Refused.{Refused}
 use Rattle.module.specs.Run.{Left}
+use Rattle.module.specs.declared.Stepped.{Stepped}
 use Rattle.module.specs.contracts.run as run
 use Rattle.module.specs.contracts.step as step
 use Rattle.module.specs.contracts.advance as advance
-use Rattle.builders.specs.Building.{BuiltLeft as Buffer, BuiltTwoLeft as Buffers}
+use Rattle.builders.specs.declared.Sizes.{Sizes}
 use Rattle.builders.specs.contracts.sums.sum_list as sum_list
 use Rattle.builders.specs.contracts.sums.difference_list as difference_list
 use Rattle.builders.specs.contracts.searches.equal_list as equal_list
@@ -85,7 +92,6 @@ use Rattle.builders.specs.contracts.searches.greatest_list as greatest_list
 use Rattle.closing.specs.contracts.closing_list as closing_list
 use Rattle.closing.specs.contracts.spreading_list as spreading_list
 use Rattle.isolation.specs.contracts.isolated as isolated
-use Rattle.reach.specs.declared.Reached.{Reached}
 use Rattle.reach.specs.contracts.reach as reach
 use Rattle.reach.specs.contracts.reach_of as reach_of
 use Rattle.spelling.specs.contracts.find as find_word
@@ -100,27 +106,23 @@ use Rattle.spelling.specs.contracts.put_word as put_word
 use Rattle.lines.specs.contracts.saying.words_of as words_of
 use Rattle.lines.specs.contracts.wording.worded as worded
 use Rattle.lines.specs.contracts.wording.sort as sort
-use Rattle.text.specs.declared.Shown.{Shown}
-use Rattle.text.specs.declared.Made.{Made}
+use Rattle.lines.specs.contracts.of_kind as of_kind
+use Rattle.text.specs.declared.Refused.{Refused as AtWord}
 use Rattle.text.specs.contracts.showing.show as show
 use Rattle.text.specs.contracts.making.make as make
-use Rattle.assembly.specs.declared.Assembled.{Assembled}
 use Rattle.assembly.specs.contracts.assemble as assemble
 use Rattle.blocks.specs.contracts.two_at as two_at
 use Rattle.blocks.specs.contracts.fault as block_fault
 use Rattle.blocks.specs.contracts.seal as seal
-use Rattle.contents.specs.Content.{ContentLeft}
-use Rattle.contents.specs.contracts.refused as refused
-use Rattle.contents.specs.contracts.done as done
-use Rattle.contents.specs.contracts.kind_right as kind_right
+use Rattle.contents.specs.declared.Refused.{Refused as AtBlock}
 use Rattle.contents.specs.contracts.is_picture as is_picture
+use Rattle.contents.specs.contracts.Kind.number as kind_number
 use Rattle.contents.specs.contracts.judge_file as judge_file
 use Rattle.contents.specs.contracts.part_of as part_of
 use Rattle.contents.specs.contracts.put_part as put_part
 use Rattle.contents.specs.contracts.seal_all as seal_all
 use Rattle.contents.specs.contracts.read_content as read_content
 use Rattle.contents.specs.contracts.write_content as write_content
-use Rattle.pictures.specs.Picture.{PictureLeft}
 use Rattle.pictures.specs.contracts.read_picture as read_picture
 use Rattle.pictures.specs.contracts.write_picture as write_picture
 use Rattle.pictures.specs.contracts.registers_bytes as registers_bytes
@@ -178,46 +180,46 @@ module _ {M : Type 1} {𝓤 : Ura M} (𝓛 : Logic 𝓤) (memory : Memory → SP
     -- `network::wired_pass`
     pub wired_pass : OneOutcome 𝓤 wired_pass.ended (wired_pass.clauses 𝓛 memory runs) (λ κs r e. r)
     -- `module::run`
-    pub run : OneOutcome 𝓤 run.ended (run.clauses 𝓛 memory runs) {O = Left (List ℕ) Answer} (λ κs r e. record { memory = e.0.now; registers = e.1.0.now; out = e.1.1.1.1.0.now; answer = r })
+    pub run : OneOutcome 𝓤 run.ended (run.clauses 𝓛 memory runs) {O = Left (List ℕ) (Result Done Refused)} (λ κs r e. record { memory = e.0.now; registers = e.1.0.now; out = e.1.1.1.1.0.now; answer = r })
     -- `module::step`
-    pub step : OneOutcome 𝓤 step.ended (step.clauses 𝓛 memory runs) {O = Left Registers Answer} (λ κs r e. record { memory = e.0.now; registers = e.1.0.now; out = e.1.1.1.1.0.now; answer = r })
+    pub step : OneOutcome 𝓤 step.ended (step.clauses 𝓛 memory runs) {O = Left Registers (Result Done Refused)} (λ κs r e. record { memory = e.0.now; registers = e.1.0.now; out = e.1.1.1.1.0.now; answer = r })
     -- `module::advance`
-    pub advance : OneOutcome 𝓤 advance.ended (advance.clauses 𝓛 memory runs) {O = Left Registers Answer} (λ κs r e. record { memory = e.0.now; registers = r.regs; out = e.1.1.1.1.0.now; answer = r.answer })
+    pub advance : OneOutcome 𝓤 advance.ended (advance.clauses 𝓛 memory runs) {O = Result Stepped Refused × List ℕ × List ℕ} (λ κs r e. (r, e.0.now, e.1.1.1.1.0.now))
     -- `builders::sums::sum_list`
-    pub sum_list : OneOutcome 𝓤 sum_list.ended (sum_list.clauses 𝓛 memory runs) {O = Buffer} (λ κs r e. record { answer = r; list = e.1.1.1.1.0.now })
+    pub sum_list : OneOutcome 𝓤 sum_list.ended (sum_list.clauses 𝓛 memory runs) {O = Result ℕ Refusal × List ℕ} (λ κs r e. (r, e.1.1.1.1.0.now))
     -- `builders::sums::difference_list`
-    pub difference_list : OneOutcome 𝓤 difference_list.ended (difference_list.clauses 𝓛 memory runs) {O = Buffer} (λ κs r e. record { answer = r; list = e.1.1.1.1.0.now })
+    pub difference_list : OneOutcome 𝓤 difference_list.ended (difference_list.clauses 𝓛 memory runs) {O = Result ℕ Refusal × List ℕ} (λ κs r e. (r, e.1.1.1.1.0.now))
     -- `builders::searches::equal_list`
-    pub equal_list : OneOutcome 𝓤 equal_list.ended (equal_list.clauses 𝓛 memory runs) {O = Buffers} (λ κs r e. record { answer = r; list = e.1.1.1.0.now; items = e.1.1.1.1.0.now })
+    pub equal_list : OneOutcome 𝓤 equal_list.ended (equal_list.clauses 𝓛 memory runs) {O = Result Sizes Refusal × List ℕ × List ℕ} (λ κs r e. (r, e.1.1.1.0.now, e.1.1.1.1.0.now))
     -- `builders::searches::less_list`
-    pub less_list : OneOutcome 𝓤 less_list.ended (less_list.clauses 𝓛 memory runs) {O = Buffers} (λ κs r e. record { answer = r; list = e.1.1.1.0.now; items = e.1.1.1.1.0.now })
+    pub less_list : OneOutcome 𝓤 less_list.ended (less_list.clauses 𝓛 memory runs) {O = Result Sizes Refusal × List ℕ × List ℕ} (λ κs r e. (r, e.1.1.1.0.now, e.1.1.1.1.0.now))
     -- `builders::searches::greatest_list`
-    pub greatest_list : OneOutcome 𝓤 greatest_list.ended (greatest_list.clauses 𝓛 memory runs) {O = Buffer} (λ κs r e. record { answer = r; list = e.1.1.0.now })
+    pub greatest_list : OneOutcome 𝓤 greatest_list.ended (greatest_list.clauses 𝓛 memory runs) {O = Result ℕ Refusal × List ℕ} (λ κs r e. (r, e.1.1.0.now))
     -- `closing::closing_list`
-    pub closing_list : OneOutcome 𝓤 closing_list.ended (closing_list.clauses 𝓛 memory runs) {O = Buffers} (λ κs r e. record { answer = r; list = e.1.1.1.1.0.now; items = e.1.1.1.1.1.0.now })
+    pub closing_list : OneOutcome 𝓤 closing_list.ended (closing_list.clauses 𝓛 memory runs) {O = Result Sizes Refusal × List ℕ × List ℕ} (λ κs r e. (r, e.1.1.1.1.0.now, e.1.1.1.1.1.0.now))
     -- `closing::spreading_list`
-    pub spreading_list : OneOutcome 𝓤 spreading_list.ended (spreading_list.clauses 𝓛 memory runs) {O = Buffers} (λ κs r e. record { answer = r; list = e.1.1.1.1.0.now; items = e.1.1.1.1.1.0.now })
+    pub spreading_list : OneOutcome 𝓤 spreading_list.ended (spreading_list.clauses 𝓛 memory runs) {O = Result Sizes Refusal × List ℕ × List ℕ} (λ κs r e. (r, e.1.1.1.1.0.now, e.1.1.1.1.1.0.now))
     -- `isolation::isolated`
     pub isolated : OneOutcome 𝓤 isolated.ended (isolated.clauses 𝓛 memory runs) (λ κs r e. r)
     -- `reach::reach`
-    pub reach : OneOutcome 𝓤 reach.ended (reach.clauses 𝓛 memory runs) {O = Reached × List ℕ} (λ κs r e. (r, e.1.1.0.now))
+    pub reach : OneOutcome 𝓤 reach.ended (reach.clauses 𝓛 memory runs) {O = Result ℕ Refusal × List ℕ} (λ κs r e. (r, e.1.1.0.now))
     -- `text::showing::show`
-    pub show : OneOutcome 𝓤 show.ended (show.clauses 𝓛 memory runs) {O = Shown × List ℕ} (λ κs r e. (r, e.1.0.now))
+    pub show : OneOutcome 𝓤 show.ended (show.clauses 𝓛 memory runs) {O = Result ℕ Refusal × List ℕ} (λ κs r e. (r, e.1.0.now))
     -- `text::making::make`
-    pub make : OneOutcome 𝓤 make.ended (make.clauses 𝓛 memory runs) {O = Made × List ℕ} (λ κs r e. (r, e.1.0.now))
+    pub make : OneOutcome 𝓤 make.ended (make.clauses 𝓛 memory runs) {O = Result ℕ AtWord × List ℕ} (λ κs r e. (r, e.1.0.now))
     -- `assembly::assemble`
-    pub assemble : OneOutcome 𝓤 assemble.ended (assemble.clauses 𝓛 memory runs) {O = Assembled × List ℕ × List ℕ} (λ κs r e. (r, e.1.0.now, e.1.1.0.now))
+    pub assemble : OneOutcome 𝓤 assemble.ended (assemble.clauses 𝓛 memory runs) {O = Result Sizes AtWord × List ℕ × List ℕ} (λ κs r e. (r, e.1.0.now, e.1.1.0.now))
     -- `contents::read_content`
-    pub read_content : OneOutcome 𝓤 read_content.ended (read_content.clauses 𝓛 memory runs) {O = ContentLeft} (λ κs r e. record { answer = r; buffer = e.1.1.0.now })
+    pub read_content : OneOutcome 𝓤 read_content.ended (read_content.clauses 𝓛 memory runs) {O = Result ℕ AtBlock × List ℕ} (λ κs r e. (r, e.1.1.0.now))
     -- `contents::write_content`
-    pub write_content : OneOutcome 𝓤 write_content.ended (write_content.clauses 𝓛 memory runs) {O = ContentLeft} (λ κs r e. record { answer = r; buffer = e.1.1.0.now })
+    pub write_content : OneOutcome 𝓤 write_content.ended (write_content.clauses 𝓛 memory runs) {O = Result ℕ AtBlock × List ℕ} (λ κs r e. (r, e.1.1.0.now))
     -- `pictures::read_picture`
-    pub read_picture : OneOutcome 𝓤 read_picture.ended (read_picture.clauses 𝓛 memory runs) {O = PictureLeft} (λ κs r e. record { answer = r; memory = e.1.1.0.now; registers = e.1.1.1.0.now })
+    pub read_picture : OneOutcome 𝓤 read_picture.ended (read_picture.clauses 𝓛 memory runs) {O = Result ℕ AtBlock × List ℕ × List ℕ} (λ κs r e. (r, e.1.1.0.now, e.1.1.1.0.now))
     -- `pictures::write_picture`
-    pub write_picture : OneOutcome 𝓤 write_picture.ended (write_picture.clauses 𝓛 memory runs) {O = ContentLeft} (λ κs r e. record { answer = r; buffer = e.1.1.1.0.now })
+    pub write_picture : OneOutcome 𝓤 write_picture.ended (write_picture.clauses 𝓛 memory runs) {O = Result ℕ AtBlock × List ℕ} (λ κs r e. (r, e.1.1.1.0.now))
     -- `pictures::convert::to_new` and `pictures::convert::to_old`
-    pub to_new : OneOutcome 𝓤 to_new.ended (to_new.clauses 𝓛 memory runs) {O = ContentLeft} (λ κs r e. record { answer = r; buffer = e.1.0.now })
-    pub to_old : OneOutcome 𝓤 to_old.ended (to_old.clauses 𝓛 memory runs) {O = ContentLeft} (λ κs r e. record { answer = r; buffer = e.1.0.now })
+    pub to_new : OneOutcome 𝓤 to_new.ended (to_new.clauses 𝓛 memory runs) {O = Result ℕ AtBlock × List ℕ} (λ κs r e. (r, e.1.0.now))
+    pub to_old : OneOutcome 𝓤 to_old.ended (to_old.clauses 𝓛 memory runs) {O = Result ℕ AtBlock × List ℕ} (λ κs r e. (r, e.1.0.now))
 
   -- ---- the library for C
 
@@ -248,35 +250,32 @@ module _ {M : Type 1} {𝓤 : Ura M} (𝓛 : Logic 𝓤) (memory : Memory → SP
   -- ---- the program: all of it but the system's calls, and its printed lines
 
   pub record Program : Type 2 where
-    pub session : OneOutcome 𝓤 session.ended (session.clauses 𝓛 memory runs) {O = Counts × List ℕ × List ℕ} (λ κs r e. (r, e.1.1.1.1.1.1.0.now, e.1.1.1.1.1.1.1.0.now))
-    pub report : OneOutcome 𝓤 report.ended (report.clauses 𝓛 memory runs) {O = ℕ × List ℕ} (λ κs r e. (r, e.1.1.1.1.1.1.1.1.0.now))
+    pub session : OneOutcome 𝓤 session.ended (session.clauses 𝓛 memory runs) {O = Counts × List ℕ × List ℕ} (λ κs r e. (r, e.1.1.1.0.now, e.1.1.1.1.0.now))
+    pub report : OneOutcome 𝓤 report.ended (report.clauses 𝓛 memory runs) {O = ℕ × List ℕ} (λ κs r e. (r, e.1.1.1.0.now))
 
   -- ---- the inner functions, by crate
 
   -- `bits`
   pub record OfBits : Type 2 where
-    pub mix : OneOutcome 𝓤 mix.ended (mix.clauses 𝓛 memory runs) (λ κs r e. r)
     pub put_byte : OneOutcome 𝓤 put_byte.ended (put_byte.clauses 𝓛 memory runs) {O = ℕ × List ℕ} (λ κs r e. (r, e.0.now))
-    pub one_if : OneOutcome 𝓤 one_if.ended (one_if.clauses 𝓛 memory runs) (λ κs r e. r)
-    pub number_or : OneOutcome 𝓤 number_or.ended (number_or.clauses 𝓛 memory runs) (λ κs r e. r)
-    pub copy : OneOutcome 𝓤 copy.ended (copy.clauses 𝓛 memory runs) (λ κs r e. e.1.0.now)
     pub item_of : OneOutcome 𝓤 item_of.ended (item_of.clauses 𝓛 memory runs) (λ κs r e. r)
     pub flip_quarters : OneOutcome 𝓤 flip_quarters.ended (flip_quarters.clauses 𝓛 memory runs) (λ κs r e. r)
-    pub spread_lane : OneOutcome 𝓤 spread_lane.ended (spread_lane.clauses 𝓛 memory runs) (λ κs r e. e.1.1.1.0.now)
-    pub clear_lane : OneOutcome 𝓤 clear_lane.ended (clear_lane.clauses 𝓛 memory runs) (λ κs r e. e.1.1.1.0.now)
+    -- of whatever type, the number that the result is
+    pub mix : (T : RattleType) (g : _) (d₁ : _) (c : _) (d₂ : _) (x : _) (d₃ : _) (a : _) (d₄ : _)
+        → OneOutcome 𝓤 (mix.ended T g d₁ c d₂ x d₃ a d₄) (mix.clauses T g d₁ c d₂ x d₃ a d₄ 𝓛 memory runs) {O = ℕ} (λ κs r e. g.number r)
+    pub spread_lane : (TURNED : RattleType) → OneOutcome 𝓤 (spread_lane.ended TURNED) (spread_lane.clauses TURNED 𝓛 memory runs) (λ κs r e. r)
     pub gather_lane : OneOutcome 𝓤 gather_lane.ended (gather_lane.clauses 𝓛 memory runs) (λ κs r e. r)
     pub keep_lane : OneOutcome 𝓤 keep_lane.ended (keep_lane.clauses 𝓛 memory runs) (λ κs r e. r)
     pub quarters_of : OneOutcome 𝓤 quarters_of.ended (quarters_of.clauses 𝓛 memory runs) (λ κs r e. r)
     pub lines_of : OneOutcome 𝓤 lines_of.ended (lines_of.clauses 𝓛 memory runs) (λ κs r e. r)
-    pub mix_quarter : OneOutcome 𝓤 mix_quarter.ended (mix_quarter.clauses 𝓛 memory runs) (λ κs r e. r)
-    pub low : OneOutcome 𝓤 low.ended (low.clauses 𝓛 memory runs) (λ κs r e. r)
-    pub high : OneOutcome 𝓤 high.ended (high.clauses 𝓛 memory runs) (λ κs r e. r)
+    pub number : OneOutcome 𝓤 refusal_number.ended (refusal_number.clauses 𝓛 memory runs) (λ κs r e. r)
 
   -- `memory`
   pub record OfMemory : Type 2 where
     pub load : OneOutcome 𝓤 load.ended (load.clauses 𝓛 memory runs) (λ κs r e. r)
     pub store : OneOutcome 𝓤 store.ended (store.clauses 𝓛 memory runs) (λ κs r e. e.0.now)
     pub store_masked : OneOutcome 𝓤 store_masked.ended (store_masked.clauses 𝓛 memory runs) (λ κs r e. e.0.now)
+    pub write_all : OneOutcome 𝓤 write_all.ended (write_all.clauses 𝓛 memory runs) (λ κs r e. e.0.now)
     pub partner : OneOutcome 𝓤 partner.ended (partner.clauses 𝓛 memory runs) (λ κs r e. r)
     pub read_all : OneOutcome 𝓤 read_all.ended (read_all.clauses 𝓛 memory runs) (λ κs r e. r)
 
@@ -303,6 +302,9 @@ module _ {M : Type 1} {𝓤 : Ura M} (𝓛 : Logic 𝓤) (memory : Memory → SP
     pub wrong_modes : OneOutcome 𝓤 wrong_modes.ended (wrong_modes.clauses 𝓛 memory runs) (λ κs r e. r)
     pub any_set : OneOutcome 𝓤 any_set.ended (any_set.clauses 𝓛 memory runs) (λ κs r e. r)
     pub resolve : OneOutcome 𝓤 resolve.ended (resolve.clauses 𝓛 memory runs) (λ κs r e. r)
+    pub count_responders : OneOutcome 𝓤 count_responders.ended (count_responders.clauses 𝓛 memory runs) (λ κs r e. r)
+    pub is_set : OneOutcome 𝓤 is_set.ended (is_set.clauses 𝓛 memory runs) (λ κs r e. r)
+    pub mode_if_set : OneOutcome 𝓤 mode_if_set.ended (mode_if_set.clauses 𝓛 memory runs) (λ κs r e. r)
     pub registers_of : OneOutcome 𝓤 registers_of.ended (registers_of.clauses 𝓛 memory runs) (λ κs r e. r)
     pub write_registers : OneOutcome 𝓤 write_registers.ended (write_registers.clauses 𝓛 memory runs) (λ κs r e. e.0.now)
 
@@ -312,6 +314,7 @@ module _ {M : Type 1} {𝓤 : Ura M} (𝓛 : Logic 𝓤) (memory : Memory → SP
     pub judge_step : OneOutcome 𝓤 judge_step.ended (judge_step.clauses 𝓛 memory runs) (λ κs r e. r)
     pub decode : OneOutcome 𝓤 decode.ended (decode.clauses 𝓛 memory runs) (λ κs r e. r)
     pub unfit : OneOutcome 𝓤 unfit.ended (unfit.clauses 𝓛 memory runs) (λ κs r e. r)
+    pub at : OneOutcome 𝓤 fault_at.ended (fault_at.clauses 𝓛 memory runs) (λ κs r e. r)
     pub settle : OneOutcome 𝓤 settle.ended (settle.clauses 𝓛 memory runs) (λ κs r e. r)
     pub unset : OneOutcome 𝓤 unset.ended (unset.clauses 𝓛 memory runs) (λ κs r e. r)
     pub stores : OneOutcome 𝓤 stores.ended (stores.clauses 𝓛 memory runs) (λ κs r e. r)
@@ -320,17 +323,23 @@ module _ {M : Type 1} {𝓤 : Ura M} (𝓛 : Logic 𝓤) (memory : Memory → SP
     pub takes : OneOutcome 𝓤 takes.ended (takes.clauses 𝓛 memory runs) (λ κs r e. r)
     pub gives : OneOutcome 𝓤 gives.ended (gives.clauses 𝓛 memory runs) (λ κs r e. r)
     pub tally : OneOutcome 𝓤 tally.ended (tally.clauses 𝓛 memory runs) (λ κs r e. r)
-    pub shortage : OneOutcome 𝓤 shortage.ended (shortage.clauses 𝓛 memory runs) (λ κs r e. r)
+    -- whatever it is asked of an instruction, where that is computed
+    pub shortage : (F : RattleType) (h : record { pre : F.Denot → Instruction × Unit {0} → Type 0; post : F.Denot → Instruction × Unit {0} → Bool → Type 0; steps : F.Denot → Instruction × Unit {0} → Bool → F.Denot → Type 0 }) (d₁ : _) (d₂ : _) (d₃ : _) (d₄ : _)
+        (uses : Instruction → Bool) → ((f : F.Denot) (x : Instruction × Unit {0}) (w : Bool) → h.post f x w → w ≡ uses x.0)
+        → OneOutcome 𝓤 (shortage.ended F h d₁ d₂ d₃ d₄) (shortage.clauses F h d₁ d₂ d₃ d₄ 𝓛 memory runs) (λ κs r e. r)
 
   -- `builders`
   pub record OfBuilders : Type 2 where
     pub wrong_width : OneOutcome 𝓤 wrong_width.ended (wrong_width.clauses 𝓛 memory runs) (λ κs r e. r)
     pub beyond : OneOutcome 𝓤 beyond.ended (beyond.clauses 𝓛 memory runs) (λ κs r e. r)
+    pub lacks : OneOutcome 𝓤 lacks.ended (lacks.clauses 𝓛 memory runs) (λ κs r e. r)
+    pub meets : OneOutcome 𝓤 meets.ended (meets.clauses 𝓛 memory runs) (λ κs r e. r)
     pub put : OneOutcome 𝓤 put.ended (put.clauses 𝓛 memory runs) (λ κs r e. e.0.now)
+    pub put_all : OneOutcome 𝓤 put_all.ended (put_all.clauses 𝓛 memory runs) (λ κs r e. e.0.now)
     pub put_item : OneOutcome 𝓤 put_item.ended (put_item.clauses 𝓛 memory runs) (λ κs r e. e.0.now)
-    pub put_logic_from : OneOutcome 𝓤 put_logic_from.ended (put_logic_from.clauses 𝓛 memory runs) (λ κs r e. e.0.now)
-    pub put_logic_at : OneOutcome 𝓤 put_logic_at.ended (put_logic_at.clauses 𝓛 memory runs) (λ κs r e. e.0.now)
-    pub put_store_at : OneOutcome 𝓤 put_store_at.ended (put_store_at.clauses 𝓛 memory runs) (λ κs r e. e.0.now)
+    pub logic_from : OneOutcome 𝓤 logic_from.ended (logic_from.clauses 𝓛 memory runs) (λ κs r e. r)
+    pub logic_at : OneOutcome 𝓤 logic_at.ended (logic_at.clauses 𝓛 memory runs) (λ κs r e. r)
+    pub store_at : OneOutcome 𝓤 store_at.ended (store_at.clauses 𝓛 memory runs) (λ κs r e. r)
 
   -- `reach`
   pub record OfReach : Type 2 where
@@ -351,6 +360,7 @@ module _ {M : Type 1} {𝓤 : Ura M} (𝓛 : Logic 𝓤) (memory : Memory → SP
   -- `lines`
   pub record OfLines : Type 2 where
     pub words_of : OneOutcome 𝓤 words_of.ended (words_of.clauses 𝓛 memory runs) (λ κs r e. r)
+    pub of_kind : OneOutcome 𝓤 of_kind.ended (of_kind.clauses 𝓛 memory runs) (λ κs r e. r)
     pub worded : OneOutcome 𝓤 worded.ended (worded.clauses 𝓛 memory runs) (λ κs r e. r)
     pub sort : OneOutcome 𝓤 sort.ended (sort.clauses 𝓛 memory runs) (λ κs r e. r)
 
@@ -362,10 +372,8 @@ module _ {M : Type 1} {𝓤 : Ura M} (𝓛 : Logic 𝓤) (memory : Memory → SP
 
   -- `contents`
   pub record OfContents : Type 2 where
-    pub refused : OneOutcome 𝓤 refused.ended (refused.clauses 𝓛 memory runs) (λ κs r e. r)
-    pub done : OneOutcome 𝓤 done.ended (done.clauses 𝓛 memory runs) (λ κs r e. r)
-    pub kind_right : OneOutcome 𝓤 kind_right.ended (kind_right.clauses 𝓛 memory runs) (λ κs r e. r)
     pub is_picture : OneOutcome 𝓤 is_picture.ended (is_picture.clauses 𝓛 memory runs) (λ κs r e. r)
+    pub number : OneOutcome 𝓤 kind_number.ended (kind_number.clauses 𝓛 memory runs) (λ κs r e. r)
     pub judge_file : OneOutcome 𝓤 judge_file.ended (judge_file.clauses 𝓛 memory runs) (λ κs r e. r)
     pub part_of : OneOutcome 𝓤 part_of.ended (part_of.clauses 𝓛 memory runs) (λ κs r e. e.1.1.0.now)
     pub put_part : OneOutcome 𝓤 put_part.ended (put_part.clauses 𝓛 memory runs) (λ κs r e. e.1.1.0.now)

@@ -1,28 +1,32 @@
 -- What is answered, as code comes to it: what one instruction reaches, its bytes behind those of the others, and the two outcomes. Assumes nothing.
 use mathlib.Core.Path.{◌≡◌, refl, sym, ap, ap₂, ◌∙◌}
 use mathlib.Core.Bool.{Bool, true, false, cond, not, ◌&&◌}
-use mathlib.Core.List.{List, [], ◌∷◌, ◌++◌}
+use mathlib.Core.List.{List, ◌++◌}
 use Prim.Native.Nat.{ℕ, zero, suc, ◌+◌, ◌*◌, ◌/◌, ◌≤◌}
 use native.Mathlib.Numerals.{add-one}
 use native.Mathlib.Omega.{arith}
 use lib.Dec.{eqb}
-use lib.ListN.{length, drop, set, length-append, length-set}
-use borrow.Author.Tests.{eq-eqb, ne_eqb, eqb-true, ltb-false, not-true, not-false}
+use lib.ListN.{length, drop, length-append}
+use borrow.Author.Tests.{eq-eqb, ne_eqb, eqb-true, ltb-false, not-true, not-false, eqb-false}
 use Rattle.bits.specs.Bits.{two}
 use Rattle.bits.specs.Steps.{put_at}
+use Rattle.std.specs.Prelude.{Result, Ok, Err}
+use Rattle.std.specs.Result.{IsErrAnd}
+use Rattle.bits.specs.declared.refusals.Refusal.{Refusal}
+use Rattle.bits.specs.Refusals.{number_of_refusal}
+use Rattle.bits.proofs.RefusalLaws.{number-injective, number-never-zero}
 use Rattle.bits.specs.Rows.{Row, number_of}
 use Rattle.bits.proofs.Rows.{taken, number-none, row-off}
-use Rattle.bits.proofs.Puts.{put_one, put-put, put_front}
+use Rattle.bits.proofs.Puts.{put-put, put_front}
 use Rattle.registers.specs.declared.Modes.{Modes}
 use Rattle.registers.specs.Modes.{modes_of}
 use Rattle.judge.specs.declared.Instruction.{Instruction}
-use Rattle.judge.specs.declared.Fault.{Fault}
+use Rattle.judge.specs.Answers.{Fault}
 use Rattle.judge.specs.Instructions.{instruction_at, stores}
 use Rattle.judge.specs.Modes.{modes_after, mode_of}
 use Rattle.judge.specs.Judge.{fault_of}
 use Rattle.judge.proofs.RowLaws.{fit-size}
-use Rattle.reach.specs.declared.Reached.{Reached}
-use Rattle.reach.specs.Reach.{reach_of, reach_by, reach_at, reach_bytes, answer_bytes, reach_rows, reach_number, reach_answer, reach_out}
+use Rattle.reach.specs.Reach.{Reached, reached_of, reach_of, reach_by, reach_at, reach_bytes, answer_bytes, reach_rows, reach_number, reach_answer, reach_out}
 use Rattle.reach.proofs.CountLaws.{reach-le}
 
 -- ---- one instruction
@@ -55,12 +59,6 @@ module _ (m : Modes) (i : Instruction) where
 
 -- ---- the bytes
 
-pub put-two-is : (k a b : ℕ) (xs : List ℕ) → k + 2 ≤ length xs → set (set xs k a) (k + 1) b ≡ put_at k (a ∷ b ∷ []) xs
-put-two-is k a b xs h =
-    put_one (k + 1) b (set xs k a) (omega (arith, length-set xs k a))
-    ∙ ap (put_at (k + 1) (b ∷ [])) (put_one k a xs (omega arith))
-    ∙ put-put k (k + 1) (a ∷ []) (b ∷ []) xs (omega arith) refl
-
 module _ (m : Modes) (list : List ℕ) where
   pub length-bytes : (n : ℕ) → length (reach_bytes m list n) ≡ 2 * n
   unfolding reach_bytes
@@ -77,6 +75,18 @@ module _ (m : Modes) (list : List ℕ) where
       ∙ ap₂ (λ (n : ℕ) (z : List ℕ). put_at (2 * k) (two n) z) (ex ∙ ap₂ reach_by em ei) el
       ∙ put-put 0 (2 * k) (reach_bytes m list k) (two (reach_at m list k)) xs (omega arith) (omega (arith, length-bytes k))
       ∙ sym (ap (λ (n : ℕ). put_at 0 (reach_bytes m list n) xs) (add-one k))
+
+-- ---- what a result of the code tells of the answer
+
+pub reached-err : (r : Result ℕ Refusal) (e : Refusal) → IsErrAnd r (λ x. x ≡ e) → reached_of r ≡ record { number = number_of_refusal e; count = 0 }
+reached-err (Ok x) e h = absurd h
+reached-err (Err x) e h = ap (λ (y : Refusal). record { number = number_of_refusal y; count = 0 }) h
+
+pub reached_of-injective : (r s : Result ℕ Refusal) → reached_of r ≡ reached_of s → r ≡ s
+reached_of-injective (Ok x) (Ok y) p = ap (λ (f : Reached). Ok f.count) p
+reached_of-injective (Ok x) (Err g) p = absurd (eqb-false (number_of_refusal g) 0 (number-never-zero g) (sym (ap (λ (f : Reached). f.number) p)))
+reached_of-injective (Err f) (Ok y) p = absurd (eqb-false (number_of_refusal f) 0 (number-never-zero f) (ap (λ (f : Reached). f.number) p))
+reached_of-injective (Err f) (Err g) p = ap (λ (r : Refusal). Err r) (number-injective f g (ap (λ (f : Reached). f.number) p))
 
 -- ---- the two outcomes: `wrong` is the number of what is lent, and m the mode registers that were read
 

@@ -18,7 +18,7 @@ use Rattle.memory.specs.Memory.{cell, stored, every}
 use Rattle.registers.specs.declared.Modes.{Modes}
 use Rattle.registers.specs.Rows.{registers_of}
 use Rattle.judge.specs.declared.Instruction.{Instruction}
-use Rattle.judge.specs.declared.Answer.{Answer}
+use Rattle.judge.specs.Answers.{Answer}
 use Rattle.judge.specs.Instructions.{instruction_at, stores}
 use Rattle.judge.specs.Modes.{modes_after, mode_of}
 use Rattle.judge.specs.Judge.{fault_of}

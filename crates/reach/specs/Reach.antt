@@ -1,8 +1,10 @@
 -- How many words each instruction of a list reaches, and what is answered of it. docs/TEXT.md, What a store reaches.
-use Rattle.std.specs.Prelude.{Bool, cond, ◌&&◌, List, [], ◌∷◌, ◌++◌, ℕ, zero, suc, ◌*◌, ◌/◌, ◌^◌, eqb, ltb, length, drop}
+use Rattle.std.specs.Prelude.{Bool, Result, Ok, Err, cond, ◌&&◌, List, [], ◌∷◌, ◌++◌, ℕ, zero, suc, ◌*◌, ◌/◌, ◌^◌, eqb, ltb, length, drop}
 use Rattle.std.specs.Int.Bits.{bit_and}
 use Rattle.std.specs.Int.Count.{ones}
 use Rattle.bits.specs.Bits.{two}
+use Rattle.bits.specs.declared.refusals.Refusal.{Refusal}
+use Rattle.bits.specs.Refusals.{number_of_refusal}
 use Rattle.bits.specs.Rows.{Row, row, number_of}
 use Rattle.memory.specs.Table.{not_of}
 use Rattle.registers.specs.declared.Modes.{Modes}
@@ -11,7 +13,6 @@ use Rattle.judge.specs.declared.Instruction.{Instruction}
 use Rattle.judge.specs.Instructions.{instruction_at, stores}
 use Rattle.judge.specs.Modes.{modes_after, mode_of}
 use Rattle.judge.specs.Judge.{wrong_registers, unfit, fault_of}
-use Rattle.reach.specs.declared.Reached.{Reached}
 
 -- ---- the words
 
@@ -57,6 +58,15 @@ reach_rows registers m list out =
 
 abbrev pub reach_number : List ℕ → List ℕ → ℕ → ℕ
 reach_number registers list out = number_of (reach_rows (length registers) (modes_of registers) list out)
+
+-- What is answered: 0 and how many bytes were written, or 2, 3, 15 or 27 and 0.
+pub record Reached : Type 0 where
+  pub number : ℕ
+  pub count : ℕ
+
+abbrev pub reached_of : Result ℕ Refusal → Reached
+reached_of (Ok n) = record { number = 0; count = n }
+reached_of (Err r) = record { number = number_of_refusal r; count = 0 }
 
 -- 0 and how many bytes were written, or the number of a refusal and 0; of the length of the buffer.
 unfoldable pub reach_answer : List ℕ → List ℕ → ℕ → Reached

@@ -3,24 +3,17 @@
 
 ghost use Rattle.std.specs.Prelude.{◌≡◌, ◌+◌, ◌*◌, ◌/◌, ◌<◌, ◌≤◌, length};
 ghost use Rattle.bits.specs.Bits.{two};
+ghost use Rattle.bits.specs.Refusals.{number_given};
 ghost use Rattle.bits.specs.Rows.{number_of};
 ghost use Rattle.bits.specs.Steps.{put_at};
-ghost use Rattle.reach.specs.Reach.{reach_of, reach_by, reach_bytes, answer_bytes, reach_rows, reach_answer, reach_out};
+ghost use Rattle.reach.specs.Reach.{reach_of, reach_by, reach_bytes, answer_bytes, reach_rows, reached_of, reach_answer, reach_out};
 
-use bits::choices::number_or;
-use bits::two_bytes::{high, low};
+use bits::refusals::Refusal;
 use judge::modes::settle;
 use judge::rows::{fault, stores};
 use judge::{Instruction, REGISTER_BYTES, decode, unfit};
 use registers::Modes;
 use registers::mode_bytes::{modes_of, wrong_modes};
-
-// What is answered: 0 and how many bytes were written, or 2, 3, 15 or 27 and 0.
-#[derive(Clone, Copy)]
-pub struct Reached {
-    pub number: u8,
-    pub count: usize,
-}
 
 // How many words a store under a mode reaches: 2 to the number of the mode's zero bits.
 pub fn reach_of(mode: u8) -> usize
@@ -36,12 +29,10 @@ fn reach_by(m: Modes, i: Instruction) -> usize
     if !stores(i) {
         return 0;
     }
-    let wrong = fault(m, i);
-    if wrong.number != 0 {
+    if fault(m, i).is_err() {
         return 0;
     }
-    let settled = settle(i, m);
-    reach_of(settled.mode)
+    reach_of(settle(i, m).mode)
 }
 
 // Two bytes, low byte first, into a buffer.
@@ -49,8 +40,7 @@ fn put_two(out: &mut [u8], at: usize, x: usize)
     requires { (at + 2 ≤ length out.old) × (x < 65536) }
     ensures { out.new ≡ put_at at (two x) out.old }
 {
-    out[at] = low(x);
-    out[at + 1] = high(x);
+    out[at..at + 2].copy_from_slice(&(x as u16).to_le_bytes());
 }
 
 // Those of each instruction; the mode registers are carried along as a run would.
@@ -60,42 +50,39 @@ fn put_all(m: Modes, list: &[u8], out: &mut [u8])
 {
     let n = list.len() / 8;
     let mut modes = m;
-    let mut k: usize = 0;
-    while k < n {
+    for k in 0..n {
         let i = decode(list, k);
         put_two(out, 2 * k, reach_by(modes, i));
-        let settled = settle(i, modes);
-        modes = settled.modes;
-        k += 1;
+        modes = settle(i, modes).modes;
     }
 }
 
-// The number of what is lent: 2, 3 and 15 in a run's order, and 27.
-fn ask_fault(m: Modes, list: &[u8], registers: usize, out: usize) -> u8
-    ensures { result ≡ number_of (reach_rows registers m list.now out) }
+// What is wrong with what is lent: 2, 3 and 15 in a run's order, and 27.
+fn ask_lent(m: Modes, list: &[u8], registers: usize, out: usize) -> Result<(), Refusal>
+    ensures { number_given result ≡ number_of (reach_rows registers m list.now out) }
 {
-    let from27 = number_or(out < 2 * (list.len() / 8), 27, 0);
-    let from15 = number_or(wrong_modes(m), 15, from27);
-    let from3 = number_or(unfit(8, list.len()), 3, from15);
-    number_or(!(registers == REGISTER_BYTES), 2, from3)
+    if registers != REGISTER_BYTES {
+        return Err(Refusal::RegistersLength);
+    }
+    if unfit(8, list.len()) {
+        return Err(Refusal::ListLength);
+    }
+    if wrong_modes(m) {
+        return Err(Refusal::ModeRegisters);
+    }
+    if out < 2 * (list.len() / 8) {
+        return Err(Refusal::OutputTooShort);
+    }
+    Ok(())
 }
 
-// How many words does each instruction reach?
-pub fn reach(registers: &[u8], list: &[u8], out: &mut [u8]) -> Reached
-    ensures answer { result ≡ reach_answer registers.now list.now (length out.old) }
+// How many words does each instruction reach? How many bytes were written is answered.
+pub fn reach(registers: &[u8], list: &[u8], out: &mut [u8]) -> Result<usize, Refusal>
+    ensures answer { reached_of result ≡ reach_answer registers.now list.now (length out.old) }
     ensures bytes { out.new ≡ reach_out registers.now list.now out.old }
 {
     let m = modes_of(registers);
-    let wrong = ask_fault(m, list, registers.len(), out.len());
-    if wrong != 0 {
-        return Reached {
-            number: wrong,
-            count: 0,
-        };
-    }
+    ask_lent(m, list, registers.len(), out.len())?;
     put_all(m, list, out);
-    Reached {
-        number: 0,
-        count: 2 * (list.len() / 8),
-    }
+    Ok(2 * (list.len() / 8))
 }

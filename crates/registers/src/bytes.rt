@@ -10,32 +10,39 @@ fn spread(t: u8, j: u8) -> u8
     requires { j < 8 }
     ensures { result ≡ 255 * digit t j }
 {
-    255 * ((t >> j) & 1)
+    255 * ((t >> j) % 2)
 }
 
-// The new byte of a register under the function of byte 7, from its old byte and the passed byte.
-fn function_byte(byte7: u8, old: u8, item: u8) -> u8
-    ensures { (j : ℕ) → j < 8 → digit result j ≡ function_bit (byte7 % 16) (digit old j) (digit item j) }
-{
-    let zero = mix(spread(byte7, 0), spread(byte7, 1), item);
-    let one = mix(spread(byte7, 2), spread(byte7, 3), item);
-    mix(zero, one, old)
+// Byte 7 of a logic instruction: 16 times the choice, 0 to 4, plus the function.
+#[derive(Clone, Copy)]
+pub struct Byte7 {
+    pub value: u8,
+    ghost of_a_choice: { value < 80 },
 }
 
-// A byte of X after a logic instruction. Choices 0 and 2 write it where the old Y is 0, choices 0, 2, 3 and 4 where it is 1: the digits of 5 and of 29.
-pub fn x_byte(byte7: u8, x: u8, y: u8, item: u8) -> u8
-    requires { byte7 < 80 }
-    ensures { (j : ℕ) → j < 8 → digit result j ≡ new_x byte7 (digit x j) (digit y j) (digit item j) }
-{
-    let choice = byte7 / 16;
-    let written = mix(spread(5, choice), spread(29, choice), y);
-    mix(x, function_byte(byte7, x, item), written)
-}
+impl Byte7 {
+    // The new byte of a register under the function, from its old byte and the passed byte.
+    fn function_byte(self, old: u8, item: u8) -> u8
+        ensures { (j : ℕ) → j < 8 → digit result j ≡ function_bit (self.value % 16) (digit old j) (digit item j) }
+    {
+        let zero = mix(spread(self.value, 0), spread(self.value, 1), item);
+        let one = mix(spread(self.value, 2), spread(self.value, 3), item);
+        mix(zero, one, old)
+    }
 
-// A byte of Y after it. Choices 1, 2 and 4 write it: the digits of 22.
-pub fn y_byte(byte7: u8, y: u8, item: u8) -> u8
-    requires { byte7 < 80 }
-    ensures { (j : ℕ) → j < 8 → digit result j ≡ new_y byte7 (digit y j) (digit item j) }
-{
-    mix(y, function_byte(byte7, y, item), spread(22, byte7 / 16))
+    // A byte of X after the instruction. Choices 0 and 2 write it where the old Y is 0, choices 0, 2, 3 and 4 where it is 1: the digits of 5 and of 29.
+    pub fn x_byte(self, x: u8, y: u8, item: u8) -> u8
+        ensures { (j : ℕ) → j < 8 → digit result j ≡ new_x self.value (digit x j) (digit y j) (digit item j) }
+    {
+        let choice = self.value / 16;
+        let written = mix(spread(5, choice), spread(29, choice), y);
+        mix(x, self.function_byte(x, item), written)
+    }
+
+    // A byte of Y after it. Choices 1, 2 and 4 write it: the digits of 22.
+    pub fn y_byte(self, y: u8, item: u8) -> u8
+        ensures { (j : ℕ) → j < 8 → digit result j ≡ new_y self.value (digit y j) (digit item j) }
+    {
+        mix(y, self.function_byte(y, item), spread(22, self.value / 16))
+    }
 }

@@ -6,16 +6,35 @@ pub mod mode_bytes;
 pub mod resolver;
 pub mod rows;
 
-ghost use Rattle.std.specs.Prelude.{◌≡◌, ◌<◌};
+ghost use Rattle.std.specs.Prelude.{◌≡◌, ◌<◌, cond, eqb};
 ghost use Rattle.registers.specs.Logic.{logic_of};
 ghost use Rattle.registers.specs.Rows.{with_m, with_modes};
 
+use bytes::Byte7;
+
 // An access mode register: a flag, 1 where somebody set it, and the mode.
+// A flag and no Option: C lends these two bytes (staran_step_5; `staran_registers` in include/staran.h). `mode_if_set` gives the Option.
 #[repr(C)]
 #[derive(Clone, Copy)]
 pub struct ModeRegister {
     pub set: u8,
     pub mode: u8,
+}
+
+impl ModeRegister {
+    // Has somebody set it?
+    pub fn is_set(self) -> bool
+        ensures { result ≡ eqb self.set 1 }
+    {
+        self.set == 1
+    }
+
+    // Its mode, where it is set. The two fields stay as C lends them.
+    pub fn mode_if_set(self) -> Option<u8>
+        ensures { result ≡ cond (eqb self.set 1) (Some self.mode) None }
+    {
+        if self.is_set() { Some(self.mode) } else { None }
+    }
 }
 
 // The two of them.
@@ -40,56 +59,28 @@ pub struct Registers {
 pub fn set_m(r: Registers, item: &[u8; 32]) -> Registers
     ensures { result ≡ with_m r item.now }
 {
-    let m = *item;
-    let x = r.x;
-    let y = r.y;
-    let modes = r.modes;
-    Registers {
-        m: m,
-        x: x,
-        y: y,
-        modes: modes,
-    }
+    Registers { m: *item, ..r }
 }
 
 // The mode registers become these; everything else stays.
 pub fn with_modes(r: Registers, modes: Modes) -> Registers
     ensures { result ≡ with_modes r modes }
 {
-    let m = r.m;
-    let x = r.x;
-    let y = r.y;
-    Registers {
-        m: m,
-        x: x,
-        y: y,
-        modes: modes,
-    }
+    Registers { modes, ..r }
 }
 
 // The registers after a logic instruction: `item` is what was passed, `byte7` 16 times the choice plus the function. Both new rows are made from the old ones.
+// Byte 7 as it stands in a list: it is public, and a `Byte7` would ask its callers for more than the byte.
 pub fn logic(r: Registers, item: &[u8; 32], byte7: u8) -> Registers
     requires { byte7 < 80 }
     ensures { result ≡ logic_of r item.now byte7 }
 {
-    let m = r.m;
-    let x = r.x;
-    let y = r.y;
-    let modes = r.modes;
-    let mut nx = [0u8; 32];
-    let mut ny = [0u8; 32];
-    let mut i: usize = 0;
-    while i < 32 {
-        let old = y[i];
-        let new = bytes::y_byte(byte7, old, item[i]);
-        nx[i] = bytes::x_byte(byte7, x[i], old, item[i]);
-        ny[i] = new;
-        i += 1;
+    let instruction = Byte7 { value: byte7 };
+    let mut x = [0u8; 32];
+    let mut y = [0u8; 32];
+    for i in 0..32 {
+        y[i] = instruction.y_byte(r.y[i], item[i]);
+        x[i] = instruction.x_byte(r.x[i], r.y[i], item[i]);
     }
-    Registers {
-        m: m,
-        x: nx,
-        y: ny,
-        modes: modes,
-    }
+    Registers { x, y, ..r }
 }

@@ -8,10 +8,7 @@ use crate::{ModeRegister, Modes};
 fn byte_or_zero(bytes: &[u8], k: usize) -> u8
     ensures { result ≡ get_or bytes.now k 0 }
 {
-    if k < bytes.len() {
-        return bytes[k];
-    }
-    0
+    bytes.get(k).copied().unwrap_or(0)
 }
 
 // The mode registers of a register set of any length: the judge asks for them before it has refused a wrong one.
@@ -26,30 +23,27 @@ pub fn modes_of(regs: &[u8]) -> Modes
         set: byte_or_zero(regs, 98),
         mode: byte_or_zero(regs, 99),
     };
-    Modes { a: a, b: b }
+    Modes { a, b }
 }
 
 // A flag over 1, or a nonzero mode with flag 0?
 fn wrong_register(r: ModeRegister) -> bool
     ensures { result ≡ wrong_register r }
 {
-    (r.set > 1) | ((r.set == 0) & !(r.mode == 0))
+    r.set > 1 || r.set == 0 && r.mode != 0
 }
 
 // Does 15 refuse either?
+#[tactic(auto, unfolding(crate::specs::Modes::wrong_modes))]
 pub fn wrong_modes(m: Modes) -> bool
     ensures { result ≡ wrong_modes m }
 {
-    let a = m.a;
-    let b = m.b;
-    wrong_register(a) | wrong_register(b)
+    wrong_register(m.a) || wrong_register(m.b)
 }
 
 // Is either set?
 pub fn any_set(m: Modes) -> bool
     ensures { result ≡ any_set m }
 {
-    let a = m.a;
-    let b = m.b;
-    (a.set == 1) | (b.set == 1)
+    m.a.is_set() || m.b.is_set()
 }

@@ -1,7 +1,7 @@
 -- Laws of numbers and bytes as text. Assumes nothing.
 use mathlib.Core.Path.{◌≡◌, refl, sym, ap, ap₂, ◌∙◌}
 use mathlib.Core.Bool.{Bool, cond}
-use mathlib.Core.List.{List, [], ◌∷◌, ◌++◌}
+use mathlib.Core.List.{List, [], ◌∷◌, ◌++◌, append_assoc, append-nil}
 use Prim.Native.Nat.{ℕ, zero, suc, ◌+◌, ◌-◌, ◌*◌, ◌/◌, ◌%◌, ◌^◌, ◌<◌, ◌≤◌}
 use native.Mathlib.Nat.{pow-suc}
 use native.Mathlib.Numerals.{add-one}
@@ -11,7 +11,9 @@ use lib.Dec.{ltb}
 use lib.ListN.{length, get_or, take, drop, length-append}
 use lib.Seq.{take-suc}
 use borrow.Author.Tests.{lt-ltb, le-ltb}
-use Rattle.report.specs.Report.{decimal_in, decimal, hex_digit, hexed, item_lines}
+use Rattle.std.specs.List.{flat_map}
+use Rattle.std.proofs.lemmas.Grind.{flat_map-append}
+use Rattle.report.specs.Report.{decimal_in, decimal, spaced, line, hex_digit, hexed, item_lines}
 
 -- ---- decimal
 
@@ -74,3 +76,17 @@ unfolding item_lines
 lines_more out k =
     let n : 32 * k + 32 - 32 * k ≡ 32 = omega arith in
     ap (λ (m : ℕ). item_lines out k ++ (hexed (take m (drop (32 * k) out)) ++ (10 ∷ []))) n ∙ sym (ap (item_lines out) (add-one k))
+
+-- one number more of a line
+pub spaced-more : (l : List ℕ) (j : ℕ) → j < length l → flat_map spaced (take j l) ++ spaced (get_or l j 0) ≡ flat_map spaced (take (j + 1) l)
+spaced-more l j h =
+    ap (λ (z : List ℕ). flat_map spaced (take j l) ++ z) (sym (append-nil (spaced (get_or l j 0))))
+    ∙ sym (ap (λ (k : ℕ). flat_map spaced (take k l)) (add-one j) ∙ ap (flat_map spaced) (take-suc l j 0 h) ∙ flat_map-append spaced (take j l) (get_or l j 0 ∷ []))
+
+six_behind : (u v w x y z t : List ℕ) → (u ++ (v ++ (w ++ (x ++ (y ++ (z ++ [])))))) ++ t ≡ u ++ (v ++ (w ++ (x ++ (y ++ (z ++ t)))))
+six_behind u v w x y z t = simp (append_assoc, append-nil)
+
+-- the letter, the six numbers and the line feed are the line
+pub line_spaced : (letter a b c d e f : ℕ) → (letter ∷ flat_map spaced (a ∷ b ∷ c ∷ d ∷ e ∷ f ∷ [])) ++ (10 ∷ []) ≡ line letter a b c d e f
+unfolding line
+line_spaced letter a b c d e f = ap (λ (l : List ℕ). letter ∷ l) (six_behind (spaced a) (spaced b) (spaced c) (spaced d) (spaced e) (spaced f) (10 ∷ []))

@@ -2,6 +2,7 @@
 use mathlib.Core.Path.{◌≡◌, refl, sym, ap, ap₂, subst, ◌∙◌}
 use mathlib.Core.Bool.{Bool, true, false, cond, not, ◌&&◌}
 use mathlib.Core.List.{List}
+use mathlib.Core.Logic.{◌⊎◌, inl, inr}
 use Prim.Native.Nat.{ℕ, ◌-◌, ◌/◌, ◌<◌, ◌≤◌}
 use native.Mathlib.Nat.{sub-zero}
 use native.Mathlib.Omega.{arith}
@@ -15,7 +16,10 @@ use Rattle.bits.specs.Rows.{number_of}
 use Rattle.bits.proofs.Rows.{taken}
 use Rattle.bits.proofs.Puts.{part-put, put_front}
 use Rattle.blocks.specs.Block.{two_at}
-use Rattle.contents.specs.declared.Moved.{Moved}
+use Rattle.std.specs.Prelude.{Result, Ok, Err}
+use Rattle.contents.specs.declared.Refused.{Refused}
+use Rattle.contents.specs.Moved.{Moved, moved_of}
+use Rattle.contents.proofs.MovedLaws.{number-some}
 use Rattle.contents.specs.File.{is_picture, done, refused, content_of, file_judged}
 use Rattle.contents.specs.Content.{read_answer, changed, over, target_fits, read_rows, ContentLeft, content_read}
 use Rattle.pictures.specs.Picture.{picture_registers, scrambled, content_modes, picture_fits, picture_read_rows, PictureLeft, picture_read}
@@ -25,8 +29,9 @@ use Rattle.contents.proofs.OneForm.{size_is, count-is}
 use Rattle.contents.proofs.AnswerLaws.{answered-none, read-refused, read-rows, read-stands, left-parts, changed-done, refused-not}
 use Rattle.pictures.proofs.PictureLaws.{registers-few, are-fits, both-parts}
 use Rattle.pictures.proofs.ConversionLaws.{picture-bytes}
+use Rattle.std.proofs.Common.{Bor}
 use Rattle.session.specs.declared.Found.{Found}
-use Rattle.session.specs.declared.Found.TheVariants.{Bytes}
+use Rattle.session.specs.declared.Found.TheVariants.{Absent, Failed, Bytes}
 use Rattle.session.specs.Session.{File, absent, failed, bytes, file_of, read, file_answer, kind_of, picture_judged, picture_answer, content_answer, content_in, blank_registers, start_registers}
 
 -- ---- a reader whose target fits answers as the judge
@@ -50,13 +55,13 @@ pub read_short : (limit : ℕ) (judge : List ℕ → Moved) (b : List ℕ) → l
 unfolding read
 read_short limit judge b h = sym (ap (λ (t : Bool). cond t (refused 20 0) (judge b)) (le-ltb limit (length b) h))
 
--- what was found, where x are its bytes at the start of buffer b
-pub found-bytes : {f : Found} {n : ℕ} {x : List ℕ} (b : List ℕ) → f ≡ Bytes n → x ≡ take n b → bytes x ≡ file_of f b
-found-bytes b g e = ap bytes e ∙ sym (ap (λ (f : Found). file_of f b) g)
+-- what was found, where b are its bytes
+pub found-bytes : {f : Found} {b : Bor (List ℕ)} → f ≡ Bytes b → bytes b.now ≡ file_of f
+found-bytes g = sym (ap file_of g)
 
-pub found-long : {f : Found} {n : ℕ} {x : List ℕ} (none : Moved) (limit : ℕ) (judge : List ℕ → Moved) (b : List ℕ) → f ≡ Bytes n → x ≡ take n b → limit < length x
-    → refused 20 0 ≡ file_answer none limit judge (file_of f b)
-found-long {x = x} none limit judge b g e h = read-long limit judge x h ∙ ap (file_answer none limit judge) (found-bytes b g e)
+pub found-long : {f : Found} {b : Bor (List ℕ)} (none : Moved) (limit : ℕ) (judge : List ℕ → Moved) → f ≡ Bytes b → limit < length b.now
+    → refused 20 0 ≡ file_answer none limit judge (file_of f)
+found-long {b = b} none limit judge g h = read-long limit judge b.now h ∙ ap (file_answer none limit judge) (found-bytes g)
 
 -- 16 blocks hold no more than 8,192 bytes
 content-fits : (kind : ℕ) (b : List ℕ) → Stands kind b → length b ≤ 8192 → length (content_of b) ≤ 8192
@@ -116,6 +121,10 @@ pub picture-refused : (file : File) (r : Moved) (m g : List ℕ) → r ≡ refus
 picture-refused file r m g e q =
     (e ∙ q, (λ z. absurd (refused-not r 20 0 e (λ x. omega arith) z), omega (arith, ap (λ (x : Moved). x.place) e)))
 
+-- of a file that is not to be had
+pub picture-unread : {f : Found} → (f ≡ Absent) ⊎ (f ≡ Failed) → refused 20 0 ≡ picture_answer (file_of f)
+picture-unread e = elim e [ inl i ↦ sym (ap (λ (f : Found). picture_answer (file_of f)) i) | inr i ↦ sym (ap (λ (f : Found). picture_answer (file_of f)) i) ]
+
 -- read: the registers of the picture's kind, into the front of a register set of zeros
 module _ (b m g m' g' : List ℕ) (kind size : ℕ) (r : Moved) (ek : kind ≡ kind_of b) (es : size ≡ picture_registers kind) (eg : g ≡ blank_registers)
     (lm : length m ≡ 8192) (q : ◌≡◌ {A = PictureLeft} (record { answer = r; memory = m'; registers = g' }) (picture_read kind b m (mid_of 0 (size - 0) g))) where
@@ -168,8 +177,8 @@ Holds kind file r t =
     (r ≡ content_answer kind file)
     × ((r.number ≡ 0 → (r.bytes ≤ length t) × (take r.bytes t ≡ content_in file)) × (r.place ≤ 17))
 
-pub content-absent : (kind : ℕ) (file : File) (t : List ℕ) → absent ≡ file → Holds kind file (done 0) t
-content-absent kind file t e = subst (λ (x : File). Holds kind x (done 0) t) e (refl, (λ z. (omega arith, refl), omega arith))
+pub content-absent : (kind : ℕ) (file : File) (r : Moved) (t : List ℕ) → r ≡ done 0 → absent ≡ file → Holds kind file r t
+content-absent kind file r t d e = subst (λ (x : Moved). Holds kind file x t) (sym d) (subst (λ (x : File). Holds kind x (done 0) t) e (refl, (λ z. (omega arith, refl), omega arith)))
 
 pub content-refused : (kind : ℕ) (file : File) (r : Moved) (t : List ℕ) → r ≡ refused 20 0 → refused 20 0 ≡ content_answer kind file → Holds kind file r t
 content-refused kind file r t e q =
@@ -203,3 +212,16 @@ content-taken kind file b t t' r e k h lt q =
           omega (arith, ap length w, length-append c (drop (length c) t)),
           ap₂ (λ (x : ℕ) (y : List ℕ). take x y) n w ∙ take_at c (drop (length c) t) (length c) refl,
         )
+
+-- ---- what was taken, by its result
+
+pub moved-done : {r : Result ℕ Refused} {n : ℕ} → r ≡ Ok n → (moved_of r).number ≡ 0
+moved-done e = ap (λ (x : Result ℕ Refused). (moved_of x).number) e
+
+pub moved-not : {r : Result ℕ Refused} {e : Refused} → r ≡ Err e → (moved_of r).number ≡ 0 → ⊥
+moved-not {e = e} h z = number-some e.why (sym (ap (λ (x : Result ℕ Refused). (moved_of x).number) h) ∙ z)
+
+-- so many bytes are the content of the file
+pub content-held : {r : Result ℕ Refused} {n : ℕ} {c : List ℕ} (t : List ℕ) → r ≡ Ok n → ((moved_of r).number ≡ 0 → ((moved_of r).bytes ≤ length t) × (take (moved_of r).bytes t ≡ c))
+    → (n ≤ length t) × (take n t ≡ c)
+content-held {c = c} t e h = subst (λ (x : ℕ). (x ≤ length t) × (take x t ≡ c)) (ap (λ (x : Result ℕ Refused). (moved_of x).bytes) e) (h (moved-done e))

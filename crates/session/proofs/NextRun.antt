@@ -15,7 +15,7 @@ use Rattle.module.proofs.Good.{memory-left, registers-left}
 use Rattle.blocks.specs.Sums.{at}
 use Rattle.blocks.specs.Block.{two_at}
 use Rattle.blocks.proofs.BlockLaws.{fault-good}
-use Rattle.contents.specs.declared.Moved.{Moved}
+use Rattle.contents.specs.Moved.{Moved}
 use Rattle.contents.specs.File.{is_picture, done, block_at, content_of, file_judged, blocks_of}
 use Rattle.contents.specs.Content.{read_answer, over}
 use Rattle.contents.proofs.FileLaws.{Stands, file-stands, blocks-each}

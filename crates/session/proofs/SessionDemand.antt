@@ -10,7 +10,7 @@ use Rattle.registers.specs.Modes.{modes_of, any_set}
 use Rattle.contents.specs.File.{done, refused, blocks_of}
 use Rattle.contents.specs.Content.{over}
 use Rattle.pictures.specs.Picture.{picture_registers, picture_of}
-use Rattle.judge.specs.declared.Answer.{Answer}
+use Rattle.judge.specs.Answers.{Answer}
 use Rattle.module.specs.Run.{Left}
 use Rattle.report.proofs.ReportLaws.{report-unique}
 use Rattle.session.specs.declared.Counts.{Counts}

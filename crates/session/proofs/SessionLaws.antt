@@ -15,14 +15,23 @@ use Rattle.registers.specs.declared.Modes.{Modes}
 use Rattle.registers.specs.Modes.{modes_of, wrong_modes, any_set}
 use Rattle.registers.proofs.ModeLaws.{modes-none}
 use Rattle.judge.specs.declared.Lengths.{Lengths}
-use Rattle.judge.specs.declared.Answer.{Answer}
+use Rattle.judge.specs.declared.Done.{Done}
+use Rattle.judge.specs.declared.Refused.{Refused as Wrong}
+use Rattle.judge.specs.Answers.{Answer, answer_of}
+use Rattle.contents.proofs.MovedLaws.{number-some}
 use Rattle.judge.specs.Judge.{run_rows, judged}
 use Rattle.judge.proofs.Numbers.{refusal-counts}
 use Rattle.judge.proofs.Accepted.{run-accepted, run-done, room_fits}
 use Rattle.judge.proofs.Bounds.{judged-bounds}
 use Rattle.module.specs.Run.{Lent, Left, run_lengths, ran}
 use Rattle.module.proofs.RunLaws.{ran-answer}
-use Rattle.contents.specs.declared.Moved.{Moved}
+use Rattle.std.specs.Prelude.{Result, Ok, Err}
+use Rattle.std.specs.Result.{result_unwrap_or}
+use Rattle.contents.specs.declared.Kind.{Kind}
+use Rattle.contents.specs.declared.Kind.TheVariants.{Picture, List as KindList, Items, ModesPicture}
+use Rattle.contents.specs.declared.Refused.{Refused}
+use Rattle.contents.specs.Kinds.{number_of_kind}
+use Rattle.contents.specs.Moved.{Moved, moved_of}
 use Rattle.contents.specs.File.{is_picture, done, blocks_of}
 use Rattle.contents.specs.Content.{answered, changed, over, ContentLeft}
 use Rattle.pictures.specs.Picture.{picture_registers, picture_of, picture_fits, picture_write_rows, picture_written}
@@ -52,6 +61,13 @@ pub run_small : (l : Lent (List ℕ)) (out' : List ℕ) (a : Answer) → a ≡ (
 run_small l out' a e h =
     subst (λ (n : ℕ). Small a n) (sym h)
     (subst (λ (x : Answer). Small x (length l.out)) (sym (e ∙ ran-answer l)) (judged-small (run_lengths l) (modes_of l.registers) l.list))
+
+-- a run that is done has number 0, and one that is refused has not
+pub done-number : {r : Result Done Wrong} {d : Done} → r ≡ Ok d → (answer_of r).number ≡ 0
+done-number e = ap (λ (x : Result Done Wrong). (answer_of x).number) e
+
+pub refused-number : {r : Result Done Wrong} {w : Wrong} → r ≡ Err w → (answer_of r).number ≡ 0 → ⊥
+refused-number {w = w} e z = number-some w.why (sym (ap (λ (x : Result Done Wrong). (answer_of x).number) e) ∙ z)
 
 -- ---- the outcome, by the first refused file
 
@@ -141,6 +157,32 @@ front-right kind g p n right = go (picture-kinds kind p)
 pub written-picture : (took : ℕ) (g : List ℕ) → is_picture (kind_written took g) ≡ true
 unfolding kind_written
 written-picture took g = either (λ (k : ℕ). is_picture k ≡ true) 4 1 (eqb took 4 || any_set (modes_of g)) refl refl
+
+-- the kind, by the one that was taken and by the mode registers
+written-one : (t u : Bool) → u ≡ true → ◌≡◌ {A = ℕ} 4 (cond (t || u) 4 1)
+written-one true u e = refl
+written-one false u e = sym (ap (λ (x : Bool). cond x 4 1) e)
+
+module _ (g : List ℕ) where
+  pub written-modes : (took : Kind) → took ≡ ModesPicture → 4 ≡ kind_written (number_of_kind took) g
+  unfolding kind_written
+  written-modes took e = sym (ap (λ (k : Kind). kind_written (number_of_kind k) g) e)
+
+  pub written-set : (took : Kind) → any_set (modes_of g) ≡ true → 4 ≡ kind_written (number_of_kind took) g
+  unfolding kind_written
+  written-set took e = written-one (eqb (number_of_kind took) 4) (any_set (modes_of g)) e
+
+  pub written-unset : (took : Kind) → (took ≡ ModesPicture → ⊥) → any_set (modes_of g) ≡ false → 1 ≡ kind_written (number_of_kind took) g
+  unfolding kind_written
+  written-unset Picture u e = sym (ap (λ (x : Bool). cond x 4 1) e)
+  written-unset KindList u e = sym (ap (λ (x : Bool). cond x 4 1) e)
+  written-unset Items u e = sym (ap (λ (x : Bool). cond x 4 1) e)
+  written-unset ModesPicture u e = absurd (u refl)
+
+-- the bytes that were put out, none where that was refused
+pub bytes-given : (r : Result ℕ Refused) → result_unwrap_or r 0 ≡ (moved_of r).bytes
+bytes-given (Ok n) = refl
+bytes-given (Err e) = refl
 
 module _ (took number : ℕ) (m g a a' : List ℕ) (kind size : ℕ) (r : Moved) (z : number ≡ 0) (lm : length m ≡ 8192) (lg : length g ≡ 100) (la : length a ≡ 8704)
     (right : wrong_modes (modes_of g) ≡ false) (ek : kind ≡ kind_written took g) (es : size ≡ picture_registers kind)

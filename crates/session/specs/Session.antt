@@ -3,11 +3,11 @@ use Rattle.std.specs.Prelude.{true, cond, not, ◌&&◌, ◌||◌, ℕ, eqb, leb
 use mathlib.Core.List.{List, [], ◌++◌, replicate}
 use Rattle.registers.specs.Modes.{modes_of, mode_bytes, none_set, any_set}
 use Rattle.blocks.specs.Block.{two_at}
-use Rattle.contents.specs.declared.Moved.{Moved}
+use Rattle.contents.specs.Moved.{Moved}
 use Rattle.contents.specs.File.{picture_kind, list_kind, items_kind, modes_picture_kind, done, refused, content_of, file_judged, blocks_of}
 use Rattle.contents.specs.Content.{read_answer, over}
 use Rattle.pictures.specs.Picture.{picture_words, picture_registers, picture_file, picture_of, scrambled, content_modes, picture_read_rows}
-use Rattle.judge.specs.declared.Answer.{Answer}
+use Rattle.judge.specs.Answers.{Answer}
 use Rattle.module.specs.Run.{Left, ran}
 use Rattle.report.specs.Report.{printed}
 use Rattle.session.specs.declared.Found.{Found}
@@ -21,11 +21,11 @@ pub data File : Type 0 where
   failed : File
   bytes : List ℕ → File
 
--- What was found of a file, with the buffer that it was read into.
-abbrev pub file_of : Found → List ℕ → File
-file_of Absent buffer = absent
-file_of Failed buffer = failed
-file_of (Bytes n) buffer = bytes (take n buffer)
+-- What was found of a file.
+abbrev pub file_of : Found → File
+file_of Absent = absent
+file_of Failed = failed
+file_of (Bytes b) = bytes b.now
 
 -- "A file that is there with no bytes, a picture file over 17 blocks and either of the others over 16 are refused with 20": by its length alone, before it is judged.
 unfoldable pub read : ℕ → (List ℕ → Moved) → List ℕ → Moved

@@ -1,6 +1,6 @@
 -- What the printing of a run relies on. Only the contract of an inner function cites this file: no promise to a user rests on it.
 use Rattle.std.specs.Prelude.{ℕ, ◌*◌, ◌≤◌}
-use Rattle.judge.specs.declared.Answer.{Answer}
+use Rattle.judge.specs.Answers.{Answer}
 
 -- Numbers that fit, and items that are there: the judge has seen to it (`run_small` of proofs/SessionLaws.antt).
 pub record Small (a : Answer) (room : ℕ) : Type 0 where

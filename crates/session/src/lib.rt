@@ -2,36 +2,47 @@
 // Document 01, The program; document 02, Seven and Eight.
 #![tactic(auto)]
 
-ghost use Rattle.std.specs.Prelude.{◌≡◌, false, ◌++◌, ◌<◌, ◌≤◌, length, take, drop};
+ghost use Rattle.std.specs.Prelude.{◌≡◌, false, ◌++◌, ◌<◌, ◌≤◌, length, take, drop, Err};
 ghost use Rattle.registers.specs.Modes.{modes_of, wrong_modes};
-ghost use Rattle.contents.specs.File.{is_picture, refused};
+ghost use Rattle.judge.specs.Answers.{answer_of};
+ghost use Rattle.contents.specs.Moved.{moved_of};
+ghost use Rattle.contents.specs.Kinds.{number_of_kind};
+ghost use Rattle.contents.specs.File.{is_picture};
 ghost use Rattle.contents.specs.Content.{over};
 ghost use Rattle.pictures.specs.Picture.{scrambled};
 ghost use Rattle.module.specs.Run.{ran};
 ghost use Rattle.report.specs.Report.{printed};
-ghost use Rattle.session.specs.Session.{file_of, kind_taken, picture_answer, content_answer, content_in, blank_registers, start_registers};
+ghost use Rattle.session.specs.Session.{file_of, kind_taken, picture_answer, content_answer, content_in, kind_of, blank_registers, start_registers};
 ghost use Rattle.session.specs.Session.{only_line, kind_written, after_of, finished, out_bytes, with_items, with_list, outcome};
 ghost use Rattle.session.specs.Shown.{Shown};
 ghost use Rattle.session.specs.Steps.{Small};
 
-use contents::{ITEMS, LIST, MODES_PICTURE, Moved, PICTURE};
+use bits::refusals::Refusal;
+use contents::{Kind, Refused};
 use registers::mode_bytes::{any_set, modes_of};
+use report::{Numbers, report};
 
-// What was found of a file: nothing of its name; one that could not be opened or read; or so many bytes, at the start of the
-// buffer that was lent for it.
+// What was found of a file: nothing of its name; one that could not be opened or read; or its bytes, as far as they were read.
 #[derive(Clone, Copy)]
-pub enum Found {
+pub enum Found<'a> {
     Absent,
     Failed,
-    Bytes(usize),
+    Bytes(&'a [u8]),
 }
 
 // How many characters are to be printed, and how many bytes of a picture are to be written: 0 for none.
+// A count and no Option: the clause is of what stands behind it in the buffer (`Shown`), and `Outcome` has an empty picture for none too.
 #[derive(Clone, Copy)]
 pub struct Counts {
     pub text: usize,
     pub after: usize,
 }
+
+// "20": a file that is absent, cannot be read or is too long.
+const UNREAD: Refused = Refused {
+    why: Refusal::FileLength,
+    place: 0,
+};
 
 // 8,192 zeros: a memory, a list, items or an out buffer.
 fn blank() -> [u8; 8192]
@@ -40,174 +51,157 @@ fn blank() -> [u8; 8192]
     [0u8; 8192]
 }
 
-// The first `n` bytes of a buffer.
-fn front(buffer: &[u8], n: usize) -> &[u8]
-    ensures { result.now ≡ take n buffer.now }
+// The kind of a picture by its first two bytes as they stand.
+#[tactic(auto, unfolding(crate::specs::Session::kind_of))]
+fn kind_of(bytes: &[u8]) -> Kind
+    ensures { number_of_kind result ≡ kind_of bytes.now }
 {
-    if n < buffer.len() {
-        return &buffer[..n];
-    }
-    buffer
-}
-
-// "20": a file that is absent, cannot be read or is too long.
-fn unread() -> Moved
-    ensures { result ≡ refused 20 0 }
-{
-    Moved {
-        number: 20,
-        place: 0,
-        bytes: 0,
+    if bytes.len() >= 2 && blocks::two_at(bytes, 0) == Kind::ModesPicture.number() {
+        Kind::ModesPicture
+    } else {
+        Kind::Picture
     }
 }
 
-// The kind that before.pic is taken for, by its first two bytes as they stand.
-fn kind_taken(found: Found, buffer: &[u8]) -> usize
-    ensures { result ≡ kind_taken (file_of found buffer.now) }
+// The kind that before.pic is taken for.
+fn kind_taken(found: Found) -> Kind
+    ensures { number_of_kind result ≡ kind_taken (file_of found.entry) }
 {
     match found {
-        Found::Absent => PICTURE,
-        Found::Failed => PICTURE,
-        Found::Bytes(n) => {
-            let bytes = front(buffer, n);
-            if bytes.len() < 2 {
-                return PICTURE;
-            }
-            if blocks::two_at(bytes, 0) == MODES_PICTURE {
-                return MODES_PICTURE;
-            }
-            PICTURE
-        }
+        Found::Absent | Found::Failed => Kind::Picture,
+        Found::Bytes(bytes) => kind_of(bytes),
     }
 }
 
 // before.pic, read into memory and registers, which are blank: behind those of a picture of kind 1 both mode registers stay unset.
 fn take_picture(
     found: Found,
-    kind: usize,
-    buffer: &[u8],
+    kind: Kind,
     memory: &mut [u8],
     registers: &mut [u8],
-) -> Moved
-    requires { (kind ≡ kind_taken (file_of found buffer.now)) × (length memory.old ≡ 8192) × (registers.old ≡ blank_registers) }
-    ensures answer { result ≡ picture_answer (file_of found buffer.now) }
-    ensures targets { result.number ≡ 0 → (memory.new ≡ scrambled (content_in (file_of found buffer.now)))
-        × (registers.new ≡ start_registers (file_of found buffer.now)) }
-    ensures place { result.place ≤ 17 }
+) -> Result<usize, Refused>
+    requires { (number_of_kind kind ≡ kind_taken (file_of found)) × (length memory.old ≡ 8192) × (registers.old ≡ blank_registers) }
+    ensures answer { moved_of result ≡ picture_answer (file_of found.entry) }
+    ensures targets { (moved_of result).number ≡ 0 → (memory.new ≡ scrambled (content_in (file_of found.entry)))
+        × (registers.new ≡ start_registers (file_of found.entry)) }
+    ensures place { (moved_of result).place ≤ 17 }
 {
     match found {
-        Found::Absent => unread(),
-        Found::Failed => unread(),
-        Found::Bytes(n) => {
-            let bytes = front(buffer, n);
+        Found::Absent | Found::Failed => Err(UNREAD),
+        Found::Bytes(bytes) => {
             if bytes.len() > 8704 {
-                return unread();
+                return Err(UNREAD);
             }
-            let size = pictures::registers_bytes(kind);
-            pictures::read_picture(kind, bytes, memory, &mut registers[0..size])
+            let asked = kind.number();
+            let size = pictures::registers_bytes(asked);
+            pictures::read_picture(asked, bytes, memory, &mut registers[0..size])
         }
     }
 }
 
 // run.lst or in.itm, read into its buffer.
-fn take_content(found: Found, kind: usize, buffer: &[u8], target: &mut [u8]) -> Moved
-    requires { (is_picture kind ≡ false) × (length target.old ≡ 8192) }
-    ensures answer { result ≡ content_answer kind (file_of found buffer.now) }
-    ensures target { result.number ≡ 0 → (result.bytes ≤ length target.new)
-        × (take result.bytes target.new ≡ content_in (file_of found buffer.now)) }
-    ensures place { result.place ≤ 17 }
+fn take_content(found: Found, kind: Kind, target: &mut [u8]) -> Result<usize, Refused>
+    requires { (is_picture (number_of_kind kind) ≡ false) × (length target.old ≡ 8192) }
+    ensures answer { moved_of result ≡ content_answer (number_of_kind kind) (file_of found.entry) }
+    ensures target { (moved_of result).number ≡ 0 → ((moved_of result).bytes ≤ length target.new)
+        × (take (moved_of result).bytes target.new ≡ content_in (file_of found.entry)) }
+    ensures place { (moved_of result).place ≤ 17 }
 {
     match found {
-        Found::Absent => Moved {
-            number: 0,
-            place: 0,
-            bytes: 0,
-        },
-        Found::Failed => unread(),
-        Found::Bytes(n) => {
-            let bytes = front(buffer, n);
+        Found::Absent => Ok(0),
+        Found::Failed => Err(UNREAD),
+        Found::Bytes(bytes) => {
             if bytes.len() > 8192 {
-                return unread();
+                return Err(UNREAD);
             }
-            contents::read_content(kind, bytes, target)
+            contents::read_content(kind.number(), bytes, target)
         }
     }
 }
 
 // The line of a refused file.
-fn print_line(letter: u8, a: Moved, text: &mut [u8]) -> Counts
+fn print_line(letter: u8, a: Refused, text: &mut [u8]) -> Counts
     requires { (a.place ≤ 17) × (68 ≤ length text.old) }
-    ensures { Shown (only_line letter a) result text.old text.new }
+    ensures { Shown (only_line letter (moved_of (Err a))) result text.old text.new }
 {
-    let none = [0u8; 1];
-    let n = report::report(
-        letter,
-        a.number as u32,
-        a.place as u32,
-        0,
-        0,
-        0,
-        0,
-        &none,
-        text,
-    );
+    let numbers = Numbers {
+        number: u32::from(a.why.number()),
+        place: a.place as u32,
+        byte: 0,
+        steps: 0,
+        taken: 0,
+        given: 0,
+    };
+    let n = report(letter, numbers, &[], text);
     Counts { text: n, after: 0 }
 }
 
+// The six numbers of a run.
+// No From: neither a Result nor Numbers is this crate's.
+fn numbers_of(a: Result<judge::Done, judge::Refused>) -> Numbers
+    requires { ((answer_of a).place ≤ 4096) × ((answer_of a).steps ≤ 4096) × ((answer_of a).taken ≤ 4096) × ((answer_of a).given ≤ 4096) }
+    ensures { result
+        ≡ record { number = (answer_of a).number; place = (answer_of a).place; byte = (answer_of a).byte; steps = (answer_of a).steps; taken = (answer_of a).taken; given = (answer_of a).given } }
+{
+    match a {
+        Ok(done) => Numbers {
+            number: 0,
+            place: 0,
+            byte: 0,
+            steps: done.steps as u32,
+            taken: done.taken as u32,
+            given: done.given as u32,
+        },
+        Err(refused) => Numbers {
+            number: u32::from(refused.why.number()),
+            place: refused.place as u32,
+            byte: u32::from(refused.byte),
+            steps: 0,
+            taken: 0,
+            given: 0,
+        },
+    }
+}
+
 // The lines of a run: its numbers, and the items that it has given.
-fn print_run(a: judge::Answer, out: &[u8], text: &mut [u8]) -> usize
-    requires { Small a (length out.now) × (length out.now ≡ 8192) × (16708 ≤ length text.old) }
+fn print_run(a: Result<judge::Done, judge::Refused>, out: &[u8], text: &mut [u8]) -> usize
+    requires { Small (answer_of a) (length out.now) × (length out.now ≡ 8192) × (16708 ≤ length text.old) }
     ensures room { result ≤ length text.new }
     ensures count { result
-        ≡ length (printed 114 a.number a.place a.byte a.steps a.taken a.given out.now) }
+        ≡ length (printed 114 (answer_of a).number (answer_of a).place (answer_of a).byte (answer_of a).steps (answer_of a).taken (answer_of a).given out.now) }
     ensures text { text.new
-        ≡ printed 114 a.number a.place a.byte a.steps a.taken a.given out.now ++ drop result text.old }
+        ≡ printed 114 (answer_of a).number (answer_of a).place (answer_of a).byte (answer_of a).steps (answer_of a).taken (answer_of a).given out.now ++ drop result text.old }
 {
-    report::report(
-        b'r',
-        a.number as u32,
-        a.place as u32,
-        a.byte as u32,
-        a.steps as u32,
-        a.taken as u32,
-        a.given as u32,
-        out,
-        text,
-    )
+    report(b'r', numbers_of(a), out, text)
 }
 
 // The kind of after.pic.
-fn kind_written(took: usize, registers: &[u8]) -> usize
-    ensures { result ≡ kind_written took registers.now }
+fn kind_written(took: Kind, registers: &[u8]) -> Kind
+    ensures { number_of_kind result ≡ kind_written (number_of_kind took) registers.now }
 {
-    if took == MODES_PICTURE {
-        return MODES_PICTURE;
+    match took {
+        Kind::ModesPicture => Kind::ModesPicture,
+        _ if any_set(modes_of(registers)) => Kind::ModesPicture,
+        _ => Kind::Picture,
     }
-    if any_set(modes_of(registers)) {
-        return MODES_PICTURE;
-    }
-    PICTURE
 }
 
-// The picture after a run that is done, and its size; nothing after one that is not.
-fn keep(took: usize, number: u8, memory: &[u8], registers: &[u8], after: &mut [u8]) -> usize
+// The picture after a run that is done, and its size.
+// Slices with their lengths, here and below: they go on to entries that take any length, and come from arrays that have these.
+fn keep(took: Kind, memory: &[u8], registers: &[u8], after: &mut [u8]) -> usize
     requires { (length memory.now ≡ 8192) × (length registers.now ≡ 100) × (length after.old ≡ 8704)
-        × (number ≡ 0 → wrong_modes (modes_of registers.now) ≡ false) }
-    ensures { (result ≤ 8704) × (result ≡ length (after_of took number memory.now registers.now))
-        × (after.new ≡ over (after_of took number memory.now registers.now) after.old) }
+        × (wrong_modes (modes_of registers.now) ≡ false) }
+    ensures { (result ≤ 8704) × (result ≡ length (after_of (number_of_kind took) 0 memory.now registers.now))
+        × (after.new ≡ over (after_of (number_of_kind took) 0 memory.now registers.now) after.old) }
 {
-    if number != 0 {
-        return 0;
-    }
-    let kind = kind_written(took, registers);
+    let kind = kind_written(took, registers).number();
     let size = pictures::registers_bytes(kind);
-    let written = pictures::write_picture(kind, memory, &registers[..size], after);
-    written.bytes
+    pictures::write_picture(kind, memory, &registers[..size], after).unwrap_or(0)
 }
 
-// The run, its lines and its picture.
+// The run, its lines and its picture; none after a run that is not done.
 fn finish(
-    took: usize,
+    took: Kind,
     memory: &mut [u8],
     registers: &mut [u8],
     list: &[u8],
@@ -219,7 +213,7 @@ fn finish(
     requires { (length memory.old ≡ 8192) × (length registers.old ≡ 100) × (length out.old ≡ 8192)
         × (length after.old ≡ 8704) × (16708 ≤ length text.old) }
     ensures text { Shown
-        (finished took (ran (record {
+        (finished (number_of_kind took) (ran (record {
           memory = memory.entry.now;
           registers = registers.old;
           list = list.now;
@@ -228,7 +222,7 @@ fn finish(
         })))
         result text.old text.new }
     ensures after { after.new ≡ over
-        (finished took (ran (record {
+        (finished (number_of_kind took) (ran (record {
           memory = memory.entry.now;
           registers = registers.old;
           list = list.now;
@@ -239,34 +233,38 @@ fn finish(
 {
     let a = module::run(memory, registers, list, items, out);
     let n = print_run(a, out, text);
-    let w = keep(took, a.number, memory, registers, after);
-    Counts { text: n, after: w }
+    match a {
+        Ok(_) => {
+            let w = keep(took, memory, registers, after);
+            Counts { text: n, after: w }
+        }
+        Err(_) => Counts { text: n, after: 0 },
+    }
 }
 
 // The last stage, in.itm: its line, or the run on it and on what was taken before.
 fn with_items(
-    took: usize,
+    took: Kind,
     memory: &mut [u8],
     registers: &mut [u8],
     list: &[u8],
     i: Found,
-    items: &[u8],
     after: &mut [u8],
     text: &mut [u8],
 ) -> Counts
     requires { (length memory.old ≡ 8192) × (length registers.old ≡ 100)
         × (length after.old ≡ 8704) × (16708 ≤ length text.old) }
-    ensures text { Shown (with_items took memory.old registers.old list.now
-        (file_of i items.now)) result text.old text.new }
-    ensures after { after.new ≡ over (with_items took memory.old registers.old
-        list.now (file_of i items.now)).after after.old }
+    ensures text { Shown (with_items (number_of_kind took) memory.old registers.old list.now
+        (file_of i.entry)) result text.old text.new }
+    ensures after { after.new ≡ over (with_items (number_of_kind took) memory.old registers.old
+        list.now (file_of i.entry)).after after.old }
 {
     let mut lent = blank();
-    let read_i = take_content(i, ITEMS, items, &mut lent);
-    if read_i.number != 0 {
-        return print_line(b'i', read_i, text);
-    }
-    let n = read_i.bytes;
+    let read_i = take_content(i, Kind::Items, &mut lent);
+    let n = match read_i {
+        Ok(n) => n,
+        Err(refused) => return print_line(b'i', refused, text),
+    };
     let mut out = blank();
     finish(
         took,
@@ -282,67 +280,44 @@ fn with_items(
 
 // The second stage, run.lst: its line, or the last stage.
 fn with_list(
-    took: usize,
+    took: Kind,
     memory: &mut [u8],
     registers: &mut [u8],
     l: Found,
     i: Found,
-    list: &[u8],
-    items: &[u8],
     after: &mut [u8],
     text: &mut [u8],
 ) -> Counts
     requires { (length memory.old ≡ 8192) × (length registers.old ≡ 100)
         × (length after.old ≡ 8704) × (16708 ≤ length text.old) }
-    ensures text { Shown (with_list took memory.old registers.old (file_of l list.now)
-        (file_of i items.now)) result text.old text.new }
-    ensures after { after.new ≡ over (with_list took memory.old registers.old
-        (file_of l list.now) (file_of i items.now)).after after.old }
+    ensures text { Shown (with_list (number_of_kind took) memory.old registers.old (file_of l.entry)
+        (file_of i.entry)) result text.old text.new }
+    ensures after { after.new ≡ over (with_list (number_of_kind took) memory.old registers.old
+        (file_of l.entry) (file_of i.entry)).after after.old }
 {
     let mut lent = blank();
-    let read_l = take_content(l, LIST, list, &mut lent);
-    if read_l.number != 0 {
-        return print_line(b'l', read_l, text);
-    }
-    let n = read_l.bytes;
-    with_items(took, memory, registers, &lent[..n], i, items, after, text)
+    let read_l = take_content(l, Kind::List, &mut lent);
+    let n = match read_l {
+        Ok(n) => n,
+        Err(refused) => return print_line(b'l', refused, text),
+    };
+    with_items(took, memory, registers, &lent[..n], i, after, text)
 }
 
-// The program, from what was found of before.pic, run.lst and in.itm and the buffers that they were read into: the text to
-// print, and the bytes of after.pic. What stands behind either stays, and all of after.pic's buffer where it is not to be
-// written. The first of three stages, before.pic: its line, or the second stage.
-pub fn session(
-    p: Found,
-    l: Found,
-    i: Found,
-    picture: &[u8],
-    list: &[u8],
-    items: &[u8],
-    after: &mut [u8],
-    text: &mut [u8],
-) -> Counts
+// The program, from what was found of before.pic, run.lst and in.itm: the text to print, and the bytes of after.pic. What stands
+// behind either stays, and all of after.pic's buffer where it is not to be written. The first of three stages, before.pic: its
+// line, or the second stage.
+pub fn session(p: Found, l: Found, i: Found, after: &mut [u8], text: &mut [u8]) -> Counts
     requires { (length after.old ≡ 8704) × (16708 ≤ length text.old) }
-    ensures text { Shown (outcome (file_of p picture.now) (file_of l list.now)
-        (file_of i items.now)) result text.old text.new }
-    ensures after { after.new ≡ over (outcome (file_of p picture.now) (file_of l list.now)
-        (file_of i items.now)).after after.old }
+    ensures text { Shown (outcome (file_of p.entry) (file_of l.entry) (file_of i.entry)) result text.old text.new }
+    ensures after { after.new ≡ over (outcome (file_of p.entry) (file_of l.entry) (file_of i.entry)).after after.old }
 {
     let mut memory = blank();
     let mut registers = [0u8; 100];
-    let kind = kind_taken(p, picture);
-    let read_p = take_picture(p, kind, picture, &mut memory, &mut registers);
-    if read_p.number != 0 {
-        return print_line(b'p', read_p, text);
+    let kind = kind_taken(p);
+    let read_p = take_picture(p, kind, &mut memory, &mut registers);
+    match read_p {
+        Ok(_) => with_list(kind, &mut memory, &mut registers, l, i, after, text),
+        Err(refused) => print_line(b'p', refused, text),
     }
-    with_list(
-        kind,
-        &mut memory,
-        &mut registers,
-        l,
-        i,
-        list,
-        items,
-        after,
-        text,
-    )
 }

@@ -9,3 +9,4 @@ pub mod Carried
 pub mod InWords
 pub mod OneForm
 pub mod LineNumbers
+pub mod ResultLaws

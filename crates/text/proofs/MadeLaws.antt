@@ -8,8 +8,7 @@ use lib.Dec.{eqb}
 use lib.ListN.{length, drop}
 use borrow.Author.Tests.{lt-ltb, le-ltb, eq-eqb, ne_eqb}
 use Rattle.judge.specs.Kinds.{most_bytes}
-use Rattle.text.specs.declared.Made.{Made}
-use Rattle.text.specs.Make.{answer, number_of, last_of, made_bytes, refused_at, made_answer, made_out}
+use Rattle.text.specs.Make.{Made, answer, number_of, last_of, made_bytes, refused_at, made_answer, made_out}
 
 module _ (text out : List ℕ) where
   abbrev number : ℕ

@@ -12,8 +12,7 @@ use Rattle.judge.specs.Instructions.{instruction_at}
 use Rattle.judge.specs.Modes.{modes_after}
 use Rattle.judge.specs.Judge.{unfit}
 use Rattle.judge.proofs.RowLaws.{fit-whole, fit-size}
-use Rattle.text.specs.declared.Shown.{Shown}
-use Rattle.text.specs.Show.{shown_at, shown_from, shown_text, shown_as, shown_answer, shown_out}
+use Rattle.text.specs.Show.{Shown, shown_at, shown_from, shown_text, shown_as, shown_answer, shown_out}
 use Rattle.text.specs.Make.{answer, number_of, made_bytes, last_of, made_answer, made_out}
 use Rattle.text.proofs.MadeLaws as made
 use Rattle.text.proofs.ReadLaws.{AllBytes, round_trip}

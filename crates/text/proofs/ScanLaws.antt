@@ -6,12 +6,14 @@ use Prim.Native.Nat.{ℕ, ◌+◌, ◌*◌, ◌<◌, ◌≤◌}
 use native.Mathlib.Numerals.{add-one}
 use native.Mathlib.Omega.{arith}
 use lib.Dec.{eqb, ltb}
+use mir.Val.{bool_byte}
 use lib.ListN.{length, get_or, drop, drop_of_length-le, length-append}
 use lib.Seq.{drop-cons}
 use Rattle.bits.proofs.Rows.{taken}
 use Rattle.spelling.specs.Words.{extended}
 use Rattle.lines.specs.declared.Line.{Line}
 use Rattle.lines.specs.declared.Phase.{Phase}
+use Rattle.bits.specs.declared.refusals.Refusal.TheVariants.{TextTooEarly}
 use Rattle.lines.specs.declared.Phase.TheVariants.{Head, Comment, Refused}
 use Rattle.lines.specs.Alone.{bytes_of}
 use Rattle.lines.specs.Worded.{line, sort_of}
@@ -53,6 +55,15 @@ length-brought s = go s.ready
     go true = refl
     go false = refl
 
+-- a flag as a number
+pub one_if : (b : Bool) → bool_byte b ≡ cond b 1 0
+one_if true = refl
+one_if false = refl
+
+pub bool_byte-le : (b : Bool) → bool_byte b ≤ 1
+bool_byte-le true = omega arith
+bool_byte-le false = omega arith
+
 pub line-more : (text : List ℕ) (k : ℕ) → line_at text (k + 1) ≡ cond (eqb (get_or text k 0) 10) (line_at text k + 1) (line_at text k)
 unfolding line_at
 line-more text k = ap (line_at text) (add-one k)
@@ -85,7 +96,7 @@ module _ (s : Reading) (at c : ℕ) (h : s.start ≤ at) where
   closed-start next l =
       taken Reached (reading (line next l.got) 0 at false) _ (eqb (sort_of l.phase) 1) (omega arith)
       (taken Reached (reading (line next l.got) 0 at true) _ (eqb (sort_of l.phase) 2) (omega arith)
-      (taken Reached (reading l 0 s.start false) (reading (line (Refused 69) l.got) 0 at false) (eqb (sort_of l.phase) 4) h (omega arith)))
+      (taken Reached (reading l 0 s.start false) (reading (line (Refused TextTooEarly) l.got) 0 at false) (eqb (sort_of l.phase) 4) h (omega arith)))
 
   character-start : Reached (character s at c)
   unfolding character

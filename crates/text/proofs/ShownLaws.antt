@@ -19,8 +19,7 @@ use Rattle.judge.specs.declared.modes.Settled.{Settled}
 use Rattle.judge.specs.Steps.{settled_by}
 use Rattle.lines.specs.Alone.{fault_alone, refused}
 use Rattle.lines.specs.Said.{said, in_bytes, words_of}
-use Rattle.text.specs.declared.Shown.{Shown}
-use Rattle.text.specs.Show.{spaced, rest, line_text, shown_at, shown_from, shown_text, shown_as, shown_answer, shown_out}
+use Rattle.text.specs.Show.{Shown, spaced, rest, line_text, shown_at, shown_from, shown_text, shown_as, shown_answer, shown_out}
 
 -- ---- one line more
 

@@ -6,7 +6,6 @@ use Rattle.judge.specs.Instructions.{instruction_at}
 use Rattle.judge.specs.Modes.{modes_after}
 use Rattle.judge.specs.Judge.{unfit}
 use Rattle.lines.specs.Said.{words_of}
-use Rattle.text.specs.declared.Shown.{Shown}
 
 -- A blank and the word, where there is one.
 unfoldable pub spaced : ℕ → List ℕ
@@ -34,6 +33,11 @@ shown_from list k (suc n) = shown_at list k ++ shown_from list (suc k) n
 -- The text of a list of whole instructions.
 unfoldable pub shown_text : List ℕ → List ℕ
 shown_text list = shown_from list 0 (length list / 8)
+
+-- What showing gives back: 0 and the count of characters, or a number.
+pub record Shown : Type 0 where
+  pub number : ℕ
+  pub count : ℕ
 
 abbrev pub shown_as : ℕ → ℕ → Shown
 shown_as number count = record { number = number; count = count }

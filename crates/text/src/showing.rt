@@ -3,15 +3,19 @@ ghost use Rattle.std.specs.Prelude.{◌≡◌, ◌+◌, ◌*◌, ◌≤◌, ◌<
 ghost use Rattle.bits.specs.Steps.{Put};
 ghost use Rattle.lines.specs.Said.{words_of};
 ghost use Rattle.registers.specs.Modes.{none_set};
-ghost use Rattle.text.specs.Show.{spaced, line_text, shown_from, shown_as, shown_answer, shown_out};
+ghost use Rattle.text.specs.Show.{spaced, line_text, shown_from, shown_answer, shown_out};
+ghost use Rattle.text.specs.Results.{shown_of};
 
-use crate::Shown;
 use bits::buffers::put;
+use bits::refusals::Refusal;
 use judge::modes::settle;
 use judge::{Instruction, decode, unfit};
+use lines::saying::words_of;
 use registers::{ModeRegister, Modes};
+use spelling::put_word;
 
 // A blank and the word, where there is one.
+#[tactic(auto, unfolding(crate::specs::Show::spaced))]
 fn put_spaced(text: &mut [u8], at: usize, w: u64) -> usize
     requires { at + length (spaced w) ≤ length text.old }
     ensures { Put at (spaced w) text.old result text.new }
@@ -19,22 +23,20 @@ fn put_spaced(text: &mut [u8], at: usize, w: u64) -> usize
     if w == 0 {
         return at;
     }
-    let next = put(text, at, 32);
-    spelling::put_word(text, next, w)
+    let next = put(text, at, b' ');
+    put_word(text, next, w)
 }
 
 // A line: its words, one blank between them, and a line feed.
-fn put_line<'a>(text: &mut [u8], at: usize, ws: &'a [u64]) -> usize
-    requires { (0 < length ws.now) × (at + length (line_text ws.now) ≤ length text.old) }
+fn put_line(text: &mut [u8], at: usize, ws: &[u64; 19]) -> usize
+    requires { at + length (line_text ws.now) ≤ length text.old }
     ensures { Put at (line_text ws.now) text.old result text.new }
 {
-    let mut next = spelling::put_word(text, at, ws[0]);
-    let mut k: usize = 1;
-    while k < ws.len() {
-        next = put_spaced(text, next, ws[k]);
-        k += 1;
+    let mut next = put_word(text, at, ws[0]);
+    for w in &ws[1..] {
+        next = put_spaced(text, next, *w);
     }
-    put(text, next, 10)
+    put(text, next, b'\n')
 }
 
 // An instruction's line, by the mode registers before it.
@@ -42,8 +44,7 @@ fn put_instruction(text: &mut [u8], at: usize, m: Modes, i: Instruction) -> usiz
     requires { at + length (line_text (words_of m i)) ≤ length text.old }
     ensures { Put at (line_text (words_of m i)) text.old result text.new }
 {
-    let ws = lines::saying::words_of(m, i);
-    put_line(text, at, &ws)
+    put_line(text, at, &words_of(m, i))
 }
 
 // How long an instruction's line is: it is put into a buffer of its own.
@@ -72,57 +73,41 @@ fn text_size(list: &[u8], n: usize) -> usize
 {
     let mut modes = none_set();
     let mut total: usize = 0;
-    let mut k: usize = 0;
-    while k < n {
+    for k in 0..n {
         let i = decode(list, k);
         total += line_size(modes, i);
-        let settled = settle(i, modes);
-        modes = settled.modes;
-        k += 1;
+        modes = settle(i, modes).modes;
     }
     total
 }
 
 // The text of the first `n` instructions, at the start of the buffer.
-fn put_lines<'a>(text: &mut [u8], list: &'a [u8], n: usize) -> usize
+fn put_lines(text: &mut [u8], list: &[u8], n: usize) -> usize
     requires { (8 * n ≤ length list.now) × (length (shown_from list.now 0 n) ≤ length text.old) }
     ensures { Put 0 (shown_from list.now 0 n) text.old result text.new }
 {
     let mut modes = none_set();
     let mut next: usize = 0;
-    let mut k: usize = 0;
-    while k < n {
+    for k in 0..n {
         let i = decode(list, k);
         next = put_instruction(text, next, modes, i);
-        let settled = settle(i, modes);
-        modes = settled.modes;
-        k += 1;
+        modes = settle(i, modes).modes;
     }
     next
 }
 
-fn shown(number: u8, count: usize) -> Shown
-    ensures { result ≡ shown_as number count }
-{
-    Shown {
-        number: number,
-        count: count,
-    }
-}
-
-// The text of a list of whole instructions, at the start of `text`. A refusal leaves `text` as it was.
-pub fn show<'a>(list: &'a [u8], text: &mut [u8]) -> Shown
-    ensures answer { result ≡ shown_answer list.now (length text.old) }
+// The text of a list of whole instructions, at the start of `text`, and the count of its characters. A refusal leaves `text` as it was.
+pub fn show(list: &[u8], text: &mut [u8]) -> Result<usize, Refusal>
+    ensures answer { shown_of result ≡ shown_answer list.now (length text.old) }
     ensures text { text.new ≡ shown_out list.now text.old }
 {
     if unfit(8, list.len()) {
-        return shown(3, 0);
+        return Err(Refusal::ListLength);
     }
     let n = list.len() / 8;
     let size = text_size(list, n);
     if text.len() < size {
-        return shown(27, 0);
+        return Err(Refusal::OutputTooShort);
     }
-    let end = put_lines(text, list, n);
-    shown(0, end)
+    Ok(put_lines(text, list, n))
 }

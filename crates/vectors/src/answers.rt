@@ -1,149 +1,143 @@
 // What a call answered, as numbers of the protocol.
-use bits::choices::one_if;
+use bits::refusals::Refusal;
+use builders::Sizes;
+use judge::Done;
 
 // How many bytes at the front of the registers, of the list and of the items no document fixes: they are not digested.
-#[derive(Clone, Copy)]
+#[derive(Clone, Copy, Default)]
 pub struct Unfixed {
     pub registers: usize,
     pub list: usize,
     pub items: usize,
 }
 
-// The first `count` numbers of `w`, and what is not digested.
+// The numbers of an answer: five are the fewest of the protocol.
 #[derive(Clone, Copy)]
-pub struct Numbers {
-    pub count: usize,
+pub enum Numbers {
+    Five([u32; 5]),
+    Six([u32; 6]),
+    Nine([u32; 9]),
+}
+
+// The numbers, and what is not digested.
+#[derive(Clone, Copy)]
+pub struct Answer {
+    pub numbers: Numbers,
     pub unfixed: Unfixed,
-    pub w: [u32; 16],
 }
 
 // A count or a place as a number of the protocol.
+// A cast, and no From: a larger number keeps its last 32 digits.
 fn narrow(x: usize) -> u32 {
     (x % 4294967296) as u32
 }
 
 // Every byte of the buffers is digested.
-fn fixed(count: usize, w: [u32; 16]) -> Numbers {
-    Numbers {
-        count: count,
-        unfixed: Unfixed {
-            registers: 0,
-            list: 0,
-            items: 0,
-        },
-        w: w,
+fn fixed(numbers: Numbers) -> Answer {
+    Answer {
+        numbers,
+        unfixed: Unfixed::default(),
     }
 }
 
-// An answer of five numbers, of which the last two are 0: the fewest of the protocol.
-pub(crate) fn three(a: u32, b: u32, c: u32) -> Numbers {
-    let mut w = [0u32; 16];
-    w[0] = a;
-    w[1] = b;
-    w[2] = c;
-    fixed(5, w)
+// An answer of five numbers, of which the last two are 0.
+pub(crate) fn three(a: u8, b: usize, c: usize) -> Answer {
+    fixed(Numbers::Five([u32::from(a), narrow(b), narrow(c), 0, 0]))
+}
+
+// The six numbers of a run or of a step.
+pub(crate) fn six(r: Result<Done, judge::Refused>) -> [u32; 6] {
+    match r {
+        Ok(done) => {
+            let (taken, given) = (narrow(done.taken), narrow(done.given));
+            [0, 0, 0, narrow(done.steps), taken, given]
+        }
+        Err(refused) => {
+            let (place, byte) = (narrow(refused.place), u32::from(refused.byte));
+            [u32::from(refused.why.number()), place, byte, 0, 0, 0]
+        }
+    }
 }
 
 // A run's or a step's answer.
-pub(crate) fn of_run(r: judge::Answer) -> Numbers {
-    let mut w = [0u32; 16];
-    w[0] = r.number as u32;
-    w[1] = narrow(r.place);
-    w[2] = r.byte as u32;
-    w[3] = narrow(r.steps);
-    w[4] = narrow(r.taken);
-    w[5] = narrow(r.given);
-    fixed(6, w)
+pub(crate) fn of_run(r: Result<Done, judge::Refused>) -> Answer {
+    fixed(Numbers::Six(six(r)))
 }
 
-// The same where nothing is run, with the number of a builder that refused, or 0.
-pub(crate) fn of_none(number: u8) -> Numbers {
-    let mut w = [0u32; 16];
-    w[0] = number as u32;
-    fixed(6, w)
+// The same where nothing is run: with the number of a builder that refused, or 0.
+pub(crate) fn of_none(number: u8) -> Answer {
+    fixed(Numbers::Six([u32::from(number), 0, 0, 0, 0, 0]))
 }
 
 // A builder's answer.
-pub(crate) fn of_builder(r: builders::Built) -> Numbers {
-    three(r.number as u32, 0, narrow(r.count))
-}
-
-// The answer of a builder of two buffers, and behind it the six numbers of its run.
-fn of_two(r: builders::BuiltTwo, run: Numbers, unfixed: Unfixed) -> Numbers {
-    let v = run.w;
-    let mut w = [0u32; 16];
-    w[0] = r.number as u32;
-    w[1] = narrow(r.list);
-    w[2] = narrow(r.items);
-    w[3] = v[0];
-    w[4] = v[1];
-    w[5] = v[2];
-    w[6] = v[3];
-    w[7] = v[4];
-    w[8] = v[5];
-    Numbers {
-        count: 9,
-        unfixed: unfixed,
-        w: w,
+pub(crate) fn of_builder(r: Result<usize, Refusal>) -> Answer {
+    match r {
+        Ok(count) => three(0, 0, count),
+        Err(why) => three(why.number(), 0, 0),
     }
 }
 
-// That of a search: the list's bytes are its own.
-pub(crate) fn of_search(r: builders::BuiltTwo, run: Numbers) -> Numbers {
-    let unfixed = Unfixed {
-        registers: 0,
-        list: r.list,
-        items: 0,
+// The answer of a builder of two buffers, and behind it the six numbers of its run.
+pub(crate) fn of_two(r: Result<Sizes, Refusal>, run: [u32; 6], unfixed: Unfixed) -> Answer {
+    let [number, place, byte, steps, taken, given] = run;
+    let [refusal, list, items] = match r {
+        Ok(sizes) => [0, narrow(sizes.list), narrow(sizes.items)],
+        Err(why) => [u32::from(why.number()), 0, 0],
     };
-    of_two(r, run, unfixed)
+    Answer {
+        numbers: Numbers::Nine([
+            refusal, list, items, number, place, byte, steps, taken, given,
+        ]),
+        unfixed,
+    }
 }
 
-// That of a closing or a spreading: the items are its own too, and where the run is done so are M, X and Y.
-pub(crate) fn of_closing(r: builders::BuiltTwo, run: Numbers, done: bool) -> Numbers {
-    let unfixed = Unfixed {
-        registers: 96 * one_if(done),
-        list: r.list,
-        items: r.items,
-    };
-    of_two(r, run, unfixed)
+// The answer of showing and that of reach: a number and a count.
+pub(crate) fn of_counted(r: Result<usize, Refusal>) -> Answer {
+    match r {
+        Ok(count) => three(0, count, 0),
+        Err(why) => three(why.number(), 0, 0),
+    }
 }
 
 // The answer to the question whether a list is isolated.
-pub(crate) fn of_isolation(r: isolation::Isolation) -> Numbers {
-    three(r.number as u32, narrow(r.place), 0)
+pub(crate) fn of_isolation(r: Result<(), isolation::Refused>) -> Answer {
+    match r {
+        Ok(()) => three(0, 0, 0),
+        Err(refused) => three(refused.why.number(), refused.place, 0),
+    }
 }
 
-// The answers of showing and of reach: a number and a count.
-pub(crate) fn of_shown(r: text::Shown) -> Numbers {
-    three(r.number as u32, narrow(r.count), 0)
+// A text that is refused, with its line and column.
+fn of_text(r: text::Refused) -> Answer {
+    let (line, column) = (narrow(r.line), narrow(r.column));
+    let number = u32::from(r.why.number());
+    fixed(Numbers::Five([number, line, column, 0, 0]))
 }
 
-pub(crate) fn of_reached(r: reach::Reached) -> Numbers {
-    three(r.number as u32, narrow(r.count), 0)
-}
-
-// The answer of making, with its line and column.
-pub(crate) fn of_made(r: text::Made) -> Numbers {
-    let mut w = [0u32; 16];
-    w[0] = r.number as u32;
-    w[1] = narrow(r.line);
-    w[2] = narrow(r.column);
-    w[3] = narrow(r.count);
-    fixed(5, w)
+// The answer of making, with the count of the list's bytes.
+pub(crate) fn of_made(r: Result<usize, text::Refused>) -> Answer {
+    match r {
+        Ok(count) => fixed(Numbers::Five([0, 0, 0, narrow(count), 0])),
+        Err(refused) => of_text(refused),
+    }
 }
 
 // The answer of making with statements, which counts the items too.
-pub(crate) fn of_assembled(r: assembly::Assembled) -> Numbers {
-    let mut w = [0u32; 16];
-    w[0] = r.number as u32;
-    w[1] = narrow(r.line);
-    w[2] = narrow(r.column);
-    w[3] = narrow(r.list);
-    w[4] = narrow(r.items);
-    fixed(5, w)
+pub(crate) fn of_assembled(r: Result<Sizes, text::Refused>) -> Answer {
+    match r {
+        Ok(sizes) => {
+            let (list, items) = (narrow(sizes.list), narrow(sizes.items));
+            fixed(Numbers::Five([0, 0, 0, list, items]))
+        }
+        Err(refused) => of_text(refused),
+    }
 }
 
 // The answer of an entry of the disk.
-pub(crate) fn of_disk(r: contents::Moved) -> Numbers {
-    three(r.number as u32, narrow(r.place), narrow(r.bytes))
+pub(crate) fn of_disk(r: Result<usize, contents::Refused>) -> Answer {
+    match r {
+        Ok(size) => three(0, 0, size),
+        Err(refused) => three(refused.why.number(), refused.place, 0),
+    }
 }

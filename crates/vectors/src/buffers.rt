@@ -1,13 +1,6 @@
 // How a case's buffers are filled, shaped, formatted and patched, and the digest of one.
 ghost use Rattle.std.specs.Prelude.{◌<◌, ◌≤◌};
 
-// `n`, or `most` where that is less.
-pub(crate) fn clamp(n: usize, most: usize) -> usize
-    ensures { (result ≤ n) × (result ≤ most) }
-{
-    if n < most { n } else { most }
-}
-
 // The next number of the generator.
 fn next(x: u32) -> u32 {
     let a = x ^ (x << 13);
@@ -15,26 +8,35 @@ fn next(x: u32) -> u32 {
     b ^ (b << 5)
 }
 
-// The generator's number after one byte: zeros are not drawn from it.
-fn moved(x: u32, zeros: bool) -> u32 {
-    if zeros { x } else { next(x) }
-}
-
-// The byte that the generator's number stands for.
-fn drawn(x: u32, zeros: bool) -> u8 {
-    if zeros { 0 } else { (x % 256) as u8 }
-}
-
-// The buffer filled from the generator at `x`, or with zeros; answers the generator's number afterwards.
-pub(crate) fn fill(buffer: &mut [u8], x: u32, zeros: bool) -> u32 {
+// The buffer filled from the generator at `x`; answers the generator's number afterwards.
+pub(crate) fn fill(buffer: &mut [u8], x: u32) -> u32 {
     let mut now = x;
-    let mut i: usize = 0;
-    while i < buffer.len() {
-        now = moved(now, zeros);
-        buffer[i] = drawn(now, zeros);
-        i += 1;
+    for byte in buffer {
+        now = next(now);
+        *byte = (now % 256) as u8;
     }
     now
+}
+
+// How a list is made good.
+#[derive(Clone, Copy, PartialEq)]
+pub(crate) enum Shape {
+    // The first six kinds of instruction, each as often.
+    Even,
+    // The same, but a deliver or resolve in eight of 256.
+    Rare,
+    // All seven kinds, and modes of the mode registers.
+    Modes,
+}
+
+// The shape of this number; 0 leaves a list as it is.
+pub(crate) fn shape_of(number: u8) -> Option<Shape> {
+    match number {
+        0 => None,
+        1 => Some(Shape::Even),
+        3 => Some(Shape::Modes),
+        _ => Some(Shape::Rare),
+    }
 }
 
 // A good instruction's sixth byte: 0, or a size of at most 8 and a place below it.
@@ -47,127 +49,80 @@ fn sized(x: u8) -> u8 {
     }
 }
 
-// A good instruction's kind: any of the first six by `shape` 1 and of all seven by 3, and by 2 a deliver or resolve in eight of 256.
-fn kind_of(kind: u8, rare: u8, shape: u8) -> u8 {
-    if shape == 1 {
-        return kind % 6;
+// A good instruction's kind.
+fn kind_of(kind: u8, rare: u8, shape: Shape) -> u8 {
+    match shape {
+        Shape::Even => kind % 6,
+        Shape::Modes => kind % 7,
+        Shape::Rare if rare < 248 => kind % 4,
+        Shape::Rare => 4 + kind % 2,
     }
-    if shape == 3 {
-        return kind % 7;
-    }
-    if rare < 248 {
-        return kind % 4;
-    }
-    4 + kind % 2
 }
 
-// A good instruction's mode tag: 1, and by `shape` 3 also that of a mode register.
-fn tag_of(tag: u8, shape: u8) -> u8 {
-    if shape == 3 { 1 + tag % 3 } else { 1 }
-}
-
-// A good access in the instruction `b`: a mode is given with tag 1 alone.
-fn accessing(b: [u8; 8], tag: u8, mode: u8, addr: u8) -> [u8; 8] {
-    let mut c = b;
-    c[2] = tag;
-    c[4] = addr;
-    if tag == 1 {
-        c[3] = mode;
+// A good instruction's mode tag: 1, or also that of a mode register.
+fn tag_of(tag: u8, shape: Shape) -> u8 {
+    match shape {
+        Shape::Modes => 1 + tag % 3,
+        Shape::Even | Shape::Rare => 1,
     }
-    c
 }
 
-// A mode register set: A or B, by the byte where the tag will stand.
-fn setting(tag: u8, mode: u8) -> [u8; 8] {
-    [6, 0, 2 + tag % 2, mode, 0, 0, 0, 0]
-}
-
-// An instruction made good from eight bytes that may be anything.
-fn shaped(r: [u8; 8], shape: u8) -> [u8; 8] {
-    let mut b = [0u8; 8];
-    let kind = kind_of(r[0], r[2], shape);
+// An instruction made good from eight bytes that may be anything. A mode is given with tag 1 alone.
+fn shaped(r: [u8; 8], shape: Shape) -> [u8; 8] {
+    let [r0, r1, r2, r3, r4, r5, r6, r7] = r;
+    let kind = kind_of(r0, r2, shape);
     if kind == 6 {
-        return setting(r[2], r[3]);
+        return [6, 0, 2 + r2 % 2, r3, 0, 0, 0, 0];
     }
     let stores = kind == 2 || kind == 3;
     let reads = kind == 0 || kind == 1 || kind == 4;
-    let place = if stores { 1 + r[1] % 4 } else { r[1] % 5 };
-    b[0] = kind;
+    let place = if stores { 1 + r1 % 4 } else { r1 % 5 };
+    let mut b = [kind, 0, 0, 0, 0, 0, 0, 0];
     if stores || reads {
         b[1] = place;
     }
-    if reads {
-        b[6] = sized(r[6]);
-    }
     if stores || (reads && place == 0) {
-        b = accessing(b, tag_of(r[2], shape), r[3], r[4]);
+        b[2] = tag_of(r2, shape);
+        b[3] = if b[2] == 1 { r3 } else { 0 };
+        b[4] = r4;
     }
     if kind != 5 {
-        b[5] = r[5];
+        b[5] = r5;
+    }
+    if reads {
+        b[6] = sized(r6);
     }
     if kind == 0 {
-        b[7] = 16 * ((r[7] / 16) % 5) + r[7] % 16;
+        b[7] = 16 * ((r7 / 16) % 5) + r7 % 16;
     }
     b
 }
 
-// One instruction of a list made good where it stands.
-fn shape_one(part: &mut [u8], which: u8) {
-    if part.len() != 8 {
-        return;
-    }
-    let r = [
-        part[0], part[1], part[2], part[3], part[4], part[5], part[6], part[7],
-    ];
-    let b = shaped(r, which);
-    patch(part, 0, &b, 0, 8);
-}
-
-// Every whole instruction of a list made good; shape 0 leaves the list as it is.
-pub(crate) fn shape(list: &mut [u8], which: u8) {
-    if which == 0 {
-        return;
-    }
-    let count = list.len() / 8;
-    let mut k: usize = 0;
-    while k < count {
-        shape_one(&mut list[8 * k..8 * k + 8], which);
-        k += 1;
+// Every whole instruction of a list made good.
+pub(crate) fn make_good(list: &mut [u8], shape: Shape) {
+    let (instructions, _) = list.as_chunks_mut::<8>();
+    for instruction in instructions {
+        *instruction = shaped(*instruction, shape);
     }
 }
 
-// A byte as a number of a sum.
-fn wide(x: u8) -> usize {
-    x as usize
-}
-
-// A sum of two numbers, as a remainder to 65,535.
-fn plus(a: usize, b: usize) -> usize {
-    (a % 65535 + b % 65535) % 65535
-}
-
-// The number `x` at `at`, low byte first, where there is room.
-fn two(block: &mut [u8], at: usize, x: usize)
-    requires { at < 1000 }
+// The number `x` put at `at` of a block, low byte first.
+// Of this crate, here and below, and not of blocks: a case is made without what it tries.
+fn two(block: &mut [u8; 512], at: usize, x: usize)
+    requires { at < 511 }
 {
-    if at + 1 < block.len() {
-        block[at] = (x % 256) as u8;
-        block[at + 1] = (x / 256 % 256) as u8;
-    }
+    let [low, high] = ((x % 65536) as u16).to_le_bytes();
+    block[at] = low;
+    block[at + 1] = high;
 }
 
 // The sums of a block put at its end.
-fn seal_block(block: &mut [u8]) {
-    if block.len() != 512 {
-        return;
-    }
+fn seal_block(block: &mut [u8; 512]) {
     let mut s1: usize = 0;
     let mut s2: usize = 0;
-    let mut i: usize = 0;
-    while i < 508 {
-        s1 = plus(s1, wide(block[i]));
-        s2 = plus(s2, s1);
-        i += 1;
+    for x in &block[..508] {
+        s1 = (s1 + usize::from(*x)) % 65535;
+        s2 = (s2 + s1) % 65535;
     }
     two(block, 508, s1);
     two(block, 510, s2);
@@ -175,119 +130,57 @@ fn seal_block(block: &mut [u8]) {
 
 // The file's block of this number sealed, where it has one.
 pub(crate) fn seal(file: &mut [u8], number: usize) {
-    if number < 100 {
-        if 512 * number + 512 <= file.len() {
-            seal_block(&mut file[512 * number..512 * number + 512]);
-        }
+    let (blocks, _) = file.as_chunks_mut::<512>();
+    if let Some(block) = blocks.get_mut(number) {
+        seal_block(block);
     }
 }
 
-// The byte at `i` of a block that uses `used` bytes: the content's stay, the others become 0.
-fn kept(x: u8, i: usize, used: usize) -> u8
-    requires { used < 65536 }
-{
-    if i < 12 || used + 12 <= i { 0 } else { x }
-}
-
-// The bytes of a block behind its first numbers, as far as they are not content, cleared.
-fn clear_rest(block: &mut [u8], used: usize)
-    requires { used < 65536 }
-{
-    if block.len() != 512 {
-        return;
-    }
-    let mut i: usize = 8;
-    while i < 508 {
-        block[i] = kept(block[i], i, used);
-        i += 1;
-    }
-}
-
-// A block made good.
-fn format_block(block: &mut [u8], kind: usize, number: usize, count: usize, used: usize)
-    requires { used < 65536 }
-{
+// A block made good: its numbers, and zeros in those of the next four bytes and of its payload that it does not use.
+fn format_block(block: &mut [u8; 512], kind: usize, number: usize, count: usize, used: usize) {
     two(block, 0, kind);
     two(block, 2, number);
     two(block, 4, count);
     two(block, 6, used);
-    clear_rest(block, used);
+    block[8..12].fill(0);
+    block[12 + used.min(496)..508].fill(0);
     seal_block(block);
 }
 
-// The bytes that block `n` of `count` uses: all before the last are full.
-fn used_by(n: usize, count: usize, used: usize) -> usize
-    requires { (n < count) × (used < 65536) }
-    ensures { result < 65536 }
-{
-    if n + 1 == count { used } else { 496 }
-}
-
-// Every whole block of a file made good, the last using `used` bytes.
-pub(crate) fn format(file: &mut [u8], kind: usize, used: usize)
-    requires { used < 65536 }
-{
-    let count = file.len() / 512;
-    let mut n: usize = 0;
-    while n < count {
-        let u = used_by(n, count, used);
-        format_block(&mut file[512 * n..512 * n + 512], kind, n, count, u);
-        n += 1;
+// Every whole block of a file made good, the last using `used` bytes: all before the last are full.
+pub(crate) fn format(file: &mut [u8], kind: usize, used: usize) {
+    let (blocks, _) = file.as_chunks_mut::<512>();
+    let count = blocks.len();
+    for (n, block) in blocks.iter_mut().enumerate() {
+        let used = if n + 1 == count { used } else { 496 };
+        format_block(block, kind, n, count, used);
     }
 }
 
-// The byte of `bytes` at `from` put into the buffer at `to`, where both have room.
-fn put(buffer: &mut [u8], to: usize, bytes: &[u8], from: usize) {
-    if to < buffer.len() {
-        if from < bytes.len() {
-            buffer[to] = bytes[from];
+// As many of the bytes as there is room for, put into the buffer at `to`.
+// Byte by byte: copy_from_slice asks that both are of one length, which would have to be made first.
+pub(crate) fn patch(buffer: &mut [u8], to: usize, bytes: &[u8]) {
+    if let Some(place) = buffer.get_mut(to..) {
+        for (x, y) in place.iter_mut().zip(bytes) {
+            *x = *y;
         }
-    }
-}
-
-// `n` of the bytes from `from` on, put into the buffer at `to`, where both have room.
-pub(crate) fn patch(buffer: &mut [u8], to: usize, bytes: &[u8], from: usize, n: usize)
-    requires { (to < 1000000) × (from < 1000000) × (n < 1000000) }
-{
-    let mut i: usize = 0;
-    while i < n {
-        put(buffer, to + i, bytes, from + i);
-        i += 1;
     }
 }
 
 // The buffer's bytes behind its first `every` made to repeat those, again and again.
 pub(crate) fn repeat(buffer: &mut [u8], every: usize) {
-    let mut i = every;
-    while i < buffer.len() {
+    for i in every..buffer.len() {
         buffer[i] = buffer[i - every];
-        i += 1;
     }
-}
-
-// The first remainder after one byte more.
-fn first(d: u32, x: u8) -> u32
-    ensures { result < 65521 }
-{
-    (d % 65521 * 251 + (x as u32)) % 65521
-}
-
-// The second remainder after one byte more.
-fn second(d: u32, x: u8) -> u32
-    ensures { result < 65519 }
-{
-    (d % 65519 * 263 + (x as u32)) % 65519
 }
 
 // Two remainders to primes, under which a single changed byte shows.
 pub(crate) fn digest(buffer: &[u8]) -> u32 {
     let mut d1: u32 = 1;
     let mut d2: u32 = 1;
-    let mut i: usize = 0;
-    while i < buffer.len() {
-        d1 = first(d1, buffer[i]);
-        d2 = second(d2, buffer[i]);
-        i += 1;
+    for x in buffer {
+        d1 = (d1 * 251 + u32::from(*x)) % 65521;
+        d2 = (d2 * 263 + u32::from(*x)) % 65519;
     }
     65536 * d1 + d2
 }

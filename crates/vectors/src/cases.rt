@@ -2,155 +2,111 @@
 ghost use Rattle.std.specs.Prelude.{◌≡◌, ◌<◌, length};
 
 use super::answers::{Numbers, Unfixed};
-use super::buffers::{clamp, digest, fill, format, patch, repeat, seal, shape};
+use super::buffers::{digest, fill, format, make_good, patch, repeat, seal, shape_of};
 use super::calls::call;
 use super::records::{buffers_of, byte, half, parameter, patches_at, word, write_word, zeros_in};
 use super::rooms::{end_of, start_of};
 use std::io::Write;
 
-// The patch at `at` of the record, if it is for the buffer of number `which`: its bytes go into the buffer; target 255 seals a block of the file, number 5;
-// targets 254 and 253 repeat the front of the memory, number 0, and of the file. Nothing is a patch from byte 1,000 on.
-fn one_patch(record: &[u8], at: usize, which: usize, buffer: &mut [u8]) {
-    if 1000 <= at {
-        return;
-    }
-    let target = half(record, at) % 256;
-    let to = half(record, at + 1);
-    if target == which {
-        patch(buffer, to, record, at + 4, half(record, at + 3) % 256);
-        return;
-    }
-    if target == 255 && which == 5 {
-        seal(buffer, to);
-        return;
-    }
-    if target == 254 && which == 0 {
-        repeat(buffer, to);
-        return;
-    }
-    if target == 253 && which == 5 {
-        repeat(buffer, to);
-    }
-}
+// The buffers that a case's list and file are, and its memory.
+// Numbers and no enum: a case says how many buffers it has, and its patches name them by number.
+const MEMORY: usize = 0;
 
-// Where the patch behind the one at `at` starts.
-fn behind(record: &[u8], at: usize) -> usize {
+const LIST: usize = 2;
+
+const FILE: usize = 5;
+
+// The patch at `at` of the record, if it is for the buffer of number `which`: its bytes go into the buffer; target 255 seals a block of the file;
+// targets 254 and 253 repeat the front of the memory and of the file. Answers where the patch behind it starts. Nothing is a patch from byte 1,000 on.
+// A place in and a place out: a patch says its own length, so that only reading it says where the next is.
+fn one_patch(record: &[u8], at: usize, which: usize, buffer: &mut [u8]) -> usize {
     if 1000 <= at {
         return at;
     }
-    at + 4 + half(record, at + 3) % 256
+    let target = usize::from(byte(record, at));
+    let to = half(record, at + 1);
+    let end = at + 4 + usize::from(byte(record, at + 3));
+    match (target, which) {
+        (255, FILE) => seal(buffer, to),
+        (254, MEMORY) | (253, FILE) => repeat(buffer, to),
+        _ if target == which => patch(buffer, to, record.get(at + 4..end).unwrap_or(&[])),
+        _ => {}
+    }
+    end
 }
 
 // The patches of one buffer, in their order.
 fn patches(record: &[u8], which: usize, buffer: &mut [u8]) {
-    let mut left = byte(record, 8);
     let mut at = patches_at(record);
-    while left > 0 {
-        one_patch(record, at, which, buffer);
-        at = behind(record, at);
-        left -= 1;
+    for _ in 0..byte(record, 8) {
+        at = one_patch(record, at, which, buffer);
     }
 }
 
-// The list, number 2, made good where the case asks for it.
-fn shape_list(record: &[u8], which: usize, buffer: &mut [u8]) {
-    if which != 2 {
-        return;
-    }
-    shape(buffer, byte(record, 1));
-}
-
-// The file, number 5, made good where the case reads the disk and asks for it.
-fn format_file(record: &[u8], which: usize, buffer: &mut [u8]) {
-    let kind = byte(record, 0);
-    if which != 5 {
-        return;
-    }
-    if kind != 6 && kind != 7 && kind != 17 && kind != 19 && kind != 20 {
-        return;
-    }
-    if parameter(record, 3) == 1 {
-        format(
-            buffer,
-            (parameter(record, 1) % 65536) as usize,
-            (parameter(record, 2) % 65536) as usize,
-        );
-    }
+// Does the case read the disk, and ask that the file is made good?
+fn formats(record: &[u8]) -> bool {
+    matches!(byte(record, 0), 6 | 7 | 17 | 19 | 20) && parameter(record, 3) == 1
 }
 
 // The buffer of number `which` made: filled from the generator at `x`, shaped if it is the list, formatted if it is the file, and patched. Answers the generator's number afterwards.
 fn make(record: &[u8], which: usize, x: u32, buffer: &mut [u8]) -> u32
     requires { which < 256 }
 {
-    let y = fill(buffer, x, zeros_in(record, which));
-    shape_list(record, which, buffer);
-    format_file(record, which, buffer);
+    let y = filled(record, which, x, buffer);
+    if which == LIST {
+        if let Some(s) = shape_of(byte(record, 1)) {
+            make_good(buffer, s);
+        }
+    }
+    if which == FILE && formats(record) {
+        let kind = (parameter(record, 1) % 65536) as usize;
+        let used = (parameter(record, 2) % 65536) as usize;
+        format(buffer, kind, used);
+    }
     patches(record, which, buffer);
     y
 }
 
-// The same where it stands in the room.
-fn make_part(record: &[u8], which: usize, x: u32, room: &mut [u8]) -> u32
-    requires { (which < 256) × (length room.old ≡ 131072) }
+// The same where it is filled alone: with zeros, or from the generator.
+fn filled(record: &[u8], which: usize, x: u32, buffer: &mut [u8]) -> u32
+    requires { which < 256 }
 {
-    let s = start_of(record, which);
-    let e = end_of(record, which, s);
-    make(record, which, x, &mut room[s..e])
+    if zeros_in(record, which) {
+        buffer.fill(0);
+        x
+    } else {
+        fill(buffer, x)
+    }
 }
 
 // All buffers made, in the order in which they draw from the generator.
+// A slice with its length, here and below: `main` has the one array, and a type for it says no more.
 fn prepare(record: &[u8], room: &mut [u8])
     requires { length room.old ≡ 131072 }
 {
-    let count = buffers_of(record);
     let mut x = word(record, 4);
-    let mut k: usize = 0;
-    while k < count {
-        x = make_part(record, k, x, room);
-        k += 1;
+    for k in 0..buffers_of(record) {
+        let s = start_of(record, k);
+        let e = end_of(record, k, s);
+        x = make(record, k, x, &mut room[s..e]);
     }
 }
 
 // The numbers of an answer written out, on a line that the digests end.
-fn write_numbers(output: &mut impl Write, answer: Numbers) {
-    let w = answer.w;
-    let count = clamp(answer.count, 16);
-    let mut i: usize = 0;
-    while i < count {
-        write_word(output, w[i], false);
-        i += 1;
+fn write_numbers(output: &mut impl Write, numbers: &[u32]) {
+    for x in numbers {
+        write_word(output, *x, false);
     }
 }
 
-// How many bytes at the front of a buffer are not digested: of the registers, number 1, of the list and of the items those that no document fixes.
+// How many bytes at the front of a buffer are not digested: of the registers, of the list and of the items those that no document fixes.
 fn left_out(which: usize, unfixed: Unfixed) -> usize {
-    if which == 1 {
-        return unfixed.registers;
+    match which {
+        1 => unfixed.registers,
+        2 => unfixed.list,
+        3 => unfixed.items,
+        _ => 0,
     }
-    if which == 2 {
-        return unfixed.list;
-    }
-    if which == 3 {
-        return unfixed.items;
-    }
-    0
-}
-
-// The digest of one buffer in the room written out.
-fn write_digest(
-    output: &mut impl Write,
-    record: &[u8],
-    which: usize,
-    room: &[u8],
-    unfixed: Unfixed,
-    last: bool,
-)
-    requires { length room.now ≡ 131072 }
-{
-    let s = start_of(record, which);
-    let e = end_of(record, which, s);
-    let from = s + clamp(left_out(which, unfixed), e - s);
-    write_word(output, digest(&room[from..e]), last);
 }
 
 // The digests of all buffers written out.
@@ -158,10 +114,11 @@ fn write_digests(output: &mut impl Write, record: &[u8], room: &[u8], unfixed: U
     requires { length room.now ≡ 131072 }
 {
     let count = buffers_of(record);
-    let mut k: usize = 0;
-    while k < count {
-        write_digest(output, record, k, room, unfixed, k + 1 == count);
-        k += 1;
+    for k in 0..count {
+        let s = start_of(record, k);
+        let e = end_of(record, k, s);
+        let from = s + left_out(k, unfixed).min(e - s);
+        write_word(output, digest(&room[from..e]), k + 1 == count);
     }
 }
 
@@ -171,7 +128,10 @@ pub(crate) fn run_case(output: &mut impl Write, record: &[u8], room: &mut [u8])
 {
     prepare(record, room);
     let answer = call(record, room);
-    let unfixed = answer.unfixed;
-    write_numbers(output, answer);
-    write_digests(output, record, room, unfixed);
+    match &answer.numbers {
+        Numbers::Five(w) => write_numbers(output, w),
+        Numbers::Six(w) => write_numbers(output, w),
+        Numbers::Nine(w) => write_numbers(output, w),
+    }
+    write_digests(output, record, room, answer.unfixed);
 }

@@ -1,32 +1,22 @@
--- `all_zero`: what is left to look at is all zero exactly if the whole is.
-use mathlib.Core.Path.{refl, sym, ◌∙◌}
-use native.Mathlib.Omega.{arith}
-use Rattle.blocks.proofs.BlockLaws.{zero_more, zero-stop, zero-end}
+-- `all_zero`: `all` of the test for 0, which the definition repeats.
+use mathlib.Core.Path.{◌≡◌, refl, ap, ◌∙◌}
+use mathlib.Core.Bool.{◌&&◌}
+use mathlib.Core.List.{List, [], ◌∷◌}
+use Prim.Native.Nat.{ℕ}
+use lib.Dec.{eqb}
+use Rattle.std.proofs.Common.{rules, tests}
+use Rattle.std.specs.List.{list_all}
+use Rattle.std.proofs.lemmas.Iterator.{YieldsList-from_slice}
+use Rattle.std.proofs.lemmas.Iterator.Search.{all_from_yields_List}
+use Rattle.blocks.specs.Block.{all_zero}
 use Rattle.blocks.proofs.all_zero.Goals as goal
 
-pub loop-i-init : goal.loop-i-init
-loop-i-init c = (omega arith, refl)
-
-pub bounds-s-i : goal.bounds-s-i
-bounds-s-i c = omega arith
-
-pub returns-then-s-i-ne0 : goal.returns-then-s-i-ne0
-returns-then-s-i-ne0 c =
-    let a = c.args in
-    let l = c.loop-i in
-    sym (zero-stop a.s.now l.i (omega arith) c.if-s-i-ne0.true) ∙ l.invariant.1
-
-pub overflow_add-i : goal.overflow_add-i
-overflow_add-i c = omega arith
-
-pub loop-i-smaller : goal.loop-i-smaller
-loop-i-smaller c = omega arith
-
-pub loop-i-preserved : goal.loop-i-preserved
-loop-i-preserved c =
-    let a = c.args in
-    let l = c.loop-i in
-    (omega arith, zero_more a.s.now l.i (omega arith) c.if-s-i-ne0.false ∙ l.invariant.1)
+every_zero : (l : List ℕ) → list_all (λ x. eqb x 0) l ≡ all_zero l
+unfolding all_zero
+every_zero [] = refl
+every_zero (x ∷ l) = ap (λ t. eqb x 0 && t) (every_zero l)
 
 pub returns : goal.returns
-returns c = sym (zero-end _ _ c.loop-i-test.false) ∙ c.loop-i.invariant.1
+returns c =
+    all_from_yields_List (λ x. eqb x 0) _ _ _ c.all.ensures.ran (YieldsList-from_slice c.args.s.now cc) (λ x b q k. search (rules, tests))
+    ∙ every_zero c.args.s.now

@@ -10,6 +10,6 @@ returns-then-all_zero c =
     let b = c.args.block.now in
     c.all_zero-then-all_zero.ensures ∙ ap (λ (x : ℕ). all_zero (part (12 + x) 508 b)) c.requires.1 ∙ simp (sym c.all_zero.ensures ∙ c.if-all_zero.true)
 
-pub returns : goal.returns
+pub returns-else-all_zero : goal.returns-else-all_zero
 unfolding zeros_right
-returns c = simp (sym c.all_zero.ensures ∙ c.if-all_zero.false)
+returns-else-all_zero c = simp (c.if-all_zero.false, sym c.all_zero.ensures ∙ c.if-all_zero.false)

@@ -1,155 +1,83 @@
--- `judge_file`: the blocks so far are good and their content has the size so far; each return is a law of what a test settles.
-use mathlib.Core.Bool.{cond, Bool, true}
+-- `judge_file`: each return is a law of what a test settles.
+use mathlib.Core.Bool.{cond, Bool}
 use mathlib.Core.List.{List}
-use mathlib.Core.Path.{◌≡◌, refl, sym, ap, ◌∙◌}
-use Prim.Native.Nat.{ℕ, ◌≤◌, ◌+◌, ◌*◌, ◌/◌}
+use mathlib.Core.Path.{◌≡◌, refl, sym, ap, ap₂, ◌∙◌}
+use Prim.Native.Nat.{ℕ, ◌/◌}
 use native.Mathlib.Omega.{arith}
-use lib.ListN.{length}
+use lib.ListN.{length, get_or}
+use Rattle.std.specs.Prelude.{Err}
+use Rattle.std.proofs.lemmas.Result.{err_from_is_err_and}
 use Rattle.blocks.specs.Block.{two_at, fault}
 use Rattle.blocks.proofs.BlockLaws.{fault-good, used_le}
-use Rattle.contents.specs.File.{file_judged, size_fits, done, refused, block_at, blocks_judged, gathered, kind_right, length_right}
-use Rattle.contents.proofs.FileLaws.{file-22, file-20, file-bad, file-good, blocks-good, gathered-more, block-part, block-len}
+use Rattle.contents.specs.declared.Refused.{Refused}
+use Rattle.contents.specs.Moved.{moved_of}
+use Rattle.contents.specs.File.{done, refused, block_at, blocks_judged, gathered}
+use Rattle.contents.proofs.MovedLaws.{number-some, at_0}
+use Rattle.contents.proofs.FileLaws.{asked_fits, file-22, file-20, file-bad, file-good, blocks-good, gathered-more, chunk_is}
 use Rattle.contents.proofs.judge_file.Goals as goal
-use Rattle.contents.proofs.judge_file.Goals.{After-two_at-size}
 
-word-is : (c : After-two_at-size) → c.two_at-size.result ≡ two_at (block_at c.args.bytes.now c.loop-i.i) 6
-word-is c =
-    let a = c.args in
-    let i = c.loop-i.i in
-    c.two_at-size.ensures.0 ∙ ap (λ (b : List ℕ). two_at b 6) (block-part a.bytes.now i)
-
-pub returns-then-not-kind_right : goal.returns-then-not-kind_right
-returns-then-not-kind_right c =
-    let a = c.args in
-    c.refused.ensures ∙ file-22 a.kind a.bytes.now (sym c.kind_right.ensures ∙ c.if-not-kind_right.true)
+pub returns-in_err-asked : goal.returns-in_err-asked
+returns-in_err-asked c =
+    let e = err_from_is_err_and _ c.from_residual.ensures.1 in
+    ap moved_of e.1
+    ∙ ap (λ (x : Refused). moved_of (Err x)) (e.2 ∙ ap at_0 c.in_err-asked.ensures.0)
+    ∙ file-22 _ _ c.in_err-asked.ensures.1
 
 pub returns-then-not-length_right : goal.returns-then-not-length_right
 returns-then-not-length_right c =
-    let kind_ok : kind_right c.args.kind ≡ true = sym c.kind_right.ensures ∙ c.if-not-kind_right.false in
-    let a = c.args in
-    c.refused-then-not-length_right.ensures ∙ file-20 a.kind a.bytes.now kind_ok (sym c.length_right.ensures ∙ c.if-not-length_right.true)
+    ap (λ (x : Refused). moved_of (Err x)) c.into.ensures
+    ∙ file-20 _ _ c.in_ok-asked.ensures.1 (sym c.length_right.ensures ∙ c.if-not-length_right.true)
 
-pub loop-i-init : goal.loop-i-init
+pub loop-place-init : goal.loop-place-init
 unfolding blocks_judged gathered
-loop-i-init c = (omega arith, refl, refl, omega arith)
+loop-place-init c = (refl, refl, omega arith)
 
-pub overflow_mul-i : goal.overflow_mul-i
-overflow_mul-i c = omega arith
-
-pub overflow_mul-i-in-loop-i : goal.overflow_mul-i-in-loop-i
-overflow_mul-i-in-loop-i c = omega arith
-
-pub overflow_add-i : goal.overflow_add-i
-overflow_add-i c = omega arith
-
-pub slice_bounds-fault-count : goal.slice_bounds-fault-count
-slice_bounds-fault-count c = omega arith
-
-pub slice_bounds-fault-start : goal.slice_bounds-fault-start
-slice_bounds-fault-start c = omega arith
-
-pub slice_bounds-fault-end : goal.slice_bounds-fault-end
-slice_bounds-fault-end c = omega arith
-
-pub fault-found-requires : goal.fault-found-requires
-fault-found-requires c =
-    let inside : 512 * c.loop-i.i + 512 ≤ length c.args.bytes.now = omega arith in
-    let b = c.args.bytes.now in
-    (ap length (block-part b c.loop-i.i) ∙ block-len b c.loop-i.i inside, omega arith)
-
-pub returns-then-found-ne0 : goal.returns-then-found-ne0
-returns-then-found-ne0 c =
-    let kind_ok : kind_right c.args.kind ≡ true = sym c.kind_right.ensures ∙ c.if-not-kind_right.false in
-    let len-ok : length_right (length c.args.bytes.now) ≡ true = sym c.length_right.ensures ∙ c.if-not-length_right.false in
-    let found-is : (let a = c.args in
-    fault (block_at a.bytes.now c.loop-i.i) a.kind c.loop-i.i (length a.bytes.now / 512) ≡ c.fault-found.result) = let a = c.args in
-    let i = c.loop-i.i in
-    sym (c.fault-found.ensures ∙ ap (λ (b : List ℕ). fault b a.kind i (length a.bytes.now / 512)) (block-part a.bytes.now i)) in
+pub returns-in-Err : goal.returns-in-Err
+returns-in-Err c =
     let a = c.args in
-    c.refused-then-found-ne0.ensures ∙ file-bad a.kind a.bytes.now kind_ok len-ok c.loop-i.i _ (omega arith) c.loop-i.invariant.1 found-is c.if-found-ne0.true
-
-pub overflow_mul-i-in-loop-i-2 : goal.overflow_mul-i-in-loop-i-2
-overflow_mul-i-in-loop-i-2 c = omega arith
-
-pub overflow_mul-i-in-loop-i-3 : goal.overflow_mul-i-in-loop-i-3
-overflow_mul-i-in-loop-i-3 c = omega arith
-
-pub overflow_add-i-in-loop-i : goal.overflow_add-i-in-loop-i
-overflow_add-i-in-loop-i c = omega arith
-
-pub slice_bounds-two_at-count : goal.slice_bounds-two_at-count
-slice_bounds-two_at-count c = omega arith
-
-pub slice_bounds-two_at-start : goal.slice_bounds-two_at-start
-slice_bounds-two_at-start c = omega arith
-
-pub slice_bounds-two_at-end : goal.slice_bounds-two_at-end
-slice_bounds-two_at-end c = omega arith
-
-pub two_at-size-requires : goal.two_at-size-requires
-two_at-size-requires c =
-    let inside : 512 * c.loop-i.i + 512 ≤ length c.args.bytes.now = omega arith in
-    let b = c.args.bytes.now in
-    omega (arith, ap length (block-part b c.loop-i.i), block-len b c.loop-i.i inside)
-
-pub overflow_add-size : goal.overflow_add-size
-overflow_add-size c =
-    let found-is : (let a = c.args in
-    fault (block_at a.bytes.now c.loop-i.i) a.kind c.loop-i.i (length a.bytes.now / 512) ≡ c.fault-found.result) = let a = c.args in
-    let i = c.loop-i.i in
-    sym (c.fault-found.ensures ∙ ap (λ (b : List ℕ). fault b a.kind i (length a.bytes.now / 512)) (block-part a.bytes.now i)) in
-    let used-ok : two_at (block_at c.args.bytes.now c.loop-i.i) 6 ≤ 496 = let a = c.args in
-    let i = c.loop-i.i in
-    used_le i (length a.bytes.now / 512) _ (fault-good (block_at a.bytes.now i) a.kind i (length a.bytes.now / 512) (found-is ∙ c.if-found-ne0.false)).used in omega (arith, word-is c, used-ok)
-
-pub overflow_add-i-in-loop-i-2 : goal.overflow_add-i-in-loop-i-2
-overflow_add-i-in-loop-i-2 c = omega arith
-
-pub loop-i-smaller : goal.loop-i-smaller
-loop-i-smaller c = omega arith
-
-pub loop-i-preserved : goal.loop-i-preserved
-loop-i-preserved c =
-    let found-is : (let a = c.args in
-    fault (block_at a.bytes.now c.loop-i.i) a.kind c.loop-i.i (length a.bytes.now / 512) ≡ c.fault-found.result) = let a = c.args in
-    let i = c.loop-i.i in
-    sym (c.fault-found.ensures ∙ ap (λ (b : List ℕ). fault b a.kind i (length a.bytes.now / 512)) (block-part a.bytes.now i)) in
-    let inside : 512 * c.loop-i.i + 512 ≤ length c.args.bytes.now = omega arith in
-    let used-ok : two_at (block_at c.args.bytes.now c.loop-i.i) 6 ≤ 496 = let a = c.args in
-    let i = c.loop-i.i in
-    used_le i (length a.bytes.now / 512) _ (fault-good (block_at a.bytes.now i) a.kind i (length a.bytes.now / 512) (found-is ∙ c.if-found-ne0.false)).used in
-    let a = c.args in
-    let l = c.loop-i in
     let b = a.bytes.now in
-    let w = word-is c in
-    let u = used-ok in
-    let h : 512 * l.i + 512 ≤ length b = inside in (
-      omega arith,
-      blocks-good a.kind b (length b / 512) l.i l.invariant.1 (found-is ∙ c.if-found-ne0.false),
-      omega (arith, gathered-more b l.i h u),
-      omega arith,
+    let i = c.loop-place.place in
+    let n = c.as_chunks.ensures.front_len in
+    let block = ap (λ (l : List (List ℕ)). get_or l i _) c.as_chunks.ensures.front ∙ chunk_is (length b / 512) b i _ (omega arith) in
+    file-bad a.kind b c.in_ok-asked.ensures.1 (sym c.length_right.ensures ∙ c.if-not-length_right.false) i _ (omega arith)
+    (ap (λ (k : ℕ). blocks_judged a.kind b k i) (sym n) ∙ c.loop-place.invariant.0)
+    (sym (c.in-Err.ensures ∙ ap₂ (λ (l : List ℕ) (k : ℕ). fault l a.kind i k) block n)) (number-some c.in-Err.why)
+
+pub loop-place-preserved : goal.loop-place-preserved
+loop-place-preserved c =
+    let a = c.args in
+    let b = a.bytes.now in
+    let l = c.loop-place in
+    let count = length c.as_chunks.result.0.now in
+    let n = c.as_chunks.ensures.front_len in
+    let block = ap (λ (x : List (List ℕ)). get_or x l.place _) c.as_chunks.ensures.front ∙ chunk_is (length b / 512) b l.place _ (omega arith) in
+    let good = sym (c.in_default.ensures ∙ ap (λ (x : List ℕ). fault x a.kind l.place count) block) in
+    let used = used_le l.place count _ (fault-good (block_at b l.place) a.kind l.place count good).used in
+    let size = c.two_at-size.ensures.0 ∙ ap (λ (x : List ℕ). two_at x 6) block in (
+      blocks-good a.kind b _ l.place l.invariant.0 good,
+      omega (arith, size, gathered-more b l.place (omega arith) used),
+      omega (arith, size, used),
     )
 
-pub returns-then-size_fits : goal.returns-then-size_fits
-returns-then-size_fits c =
-    let kind_ok : kind_right c.args.kind ≡ true = sym c.kind_right.ensures ∙ c.if-not-kind_right.false in
-    let len-ok : length_right (length c.args.bytes.now) ≡ true = sym c.length_right.ensures ∙ c.if-not-length_right.false in
-    let settled : (let a = c.args in file_judged a.kind a.bytes.now ≡ cond (size_fits a.kind c.loop-i.size) (done c.loop-i.size) (refused 25 0)) = let a = c.args in
-    let b = a.bytes.now in
-    let l = c.loop-i in
-    let e : l.i ≡ length b / 512 = omega arith in
-    file-good a.kind b kind_ok len-ok l.size (sym (ap (blocks_judged a.kind b (length b / 512)) e) ∙ l.invariant.1) (l.invariant.2 ∙ ap (λ (k : ℕ). length (gathered b k)) e) in
-    let s = c.loop-i.size in
-    c.done.ensures ∙ sym (settled ∙ ap (λ (t : Bool). cond t (done s) (refused 25 0)) (sym c.size_fits.ensures ∙ c.if-size_fits.true))
+pub returns-then-not-size_fits : goal.returns-then-not-size_fits
+returns-then-not-size_fits c =
+    let b = c.args.bytes.now in
+    let l = c.loop-place in
+    let n = c.as_chunks.ensures.front_len in
+    let all : l.place ≡ length b / 512 = omega arith in
+    ap (λ (x : Refused). moved_of (Err x)) c.into-then-not-size_fits.ensures
+    ∙ sym (file-good c.args.kind b c.in_ok-asked.ensures.1 (sym c.length_right.ensures ∙ c.if-not-length_right.false) l.size
+    (sym (ap₂ (blocks_judged c.args.kind b) n all) ∙ l.invariant.0) (l.invariant.1 ∙ ap (λ (k : ℕ). length (gathered b k)) all)
+    ∙ ap (λ (t : Bool). cond t (done l.size) (refused 25 0))
+    (asked_fits _ c.size_fits.ensures c.in_ok-asked.ensures.0 c.if-not-size_fits.true))
 
 pub returns : goal.returns
 returns c =
-    let kind_ok : kind_right c.args.kind ≡ true = sym c.kind_right.ensures ∙ c.if-not-kind_right.false in
-    let len-ok : length_right (length c.args.bytes.now) ≡ true = sym c.length_right.ensures ∙ c.if-not-length_right.false in
-    let settled : (let a = c.args in file_judged a.kind a.bytes.now ≡ cond (size_fits a.kind c.loop-i.size) (done c.loop-i.size) (refused 25 0)) = let a = c.args in
-    let b = a.bytes.now in
-    let l = c.loop-i in
-    let e : l.i ≡ length b / 512 = omega arith in
-    file-good a.kind b kind_ok len-ok l.size (sym (ap (blocks_judged a.kind b (length b / 512)) e) ∙ l.invariant.1) (l.invariant.2 ∙ ap (λ (k : ℕ). length (gathered b k)) e) in
-    let s = c.loop-i.size in
-    c.refused-2.ensures ∙ sym (settled ∙ ap (λ (t : Bool). cond t (done s) (refused 25 0)) (sym c.size_fits.ensures ∙ c.if-size_fits.false))
+    let b = c.args.bytes.now in
+    let l = c.loop-place in
+    let n = c.as_chunks.ensures.front_len in
+    let all : l.place ≡ length b / 512 = omega arith in
+    sym (file-good c.args.kind b c.in_ok-asked.ensures.1 (sym c.length_right.ensures ∙ c.if-not-length_right.false) l.size
+    (sym (ap₂ (blocks_judged c.args.kind b) n all) ∙ l.invariant.0) (l.invariant.1 ∙ ap (λ (k : ℕ). length (gathered b k)) all)
+    ∙ ap (λ (t : Bool). cond t (done l.size) (refused 25 0))
+    (asked_fits _ c.size_fits.ensures c.in_ok-asked.ensures.0 c.if-not-size_fits.false))

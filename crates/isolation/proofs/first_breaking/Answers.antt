@@ -17,10 +17,7 @@ use Rattle.isolation.proofs.first_breaking.Goals as goal
 
 pub loop-k-init : goal.loop-k-init
 unfolding modes_after
-loop-k-init c = (omega arith, none-start (breaks_at _ _), refl)
-
-pub decode-i-requires : goal.decode-i-requires
-decode-i-requires c = omega arith
+loop-k-init c = (none-start (breaks_at _ _), refl)
 
 -- whether instruction k, as the walk comes to it, breaks the condition
 tested : (m m' : Modes) (list : List ℕ) (k : ℕ) (i : Instruction) (b t : Bool) → m' ≡ modes_after list m k → i ≡ instruction_at list k → b ≡ breaks m' i → b ≡ t
@@ -31,14 +28,8 @@ pub returns-then-breaks : goal.returns-then-breaks
 returns-then-breaks c =
     let l = c.loop-k in
     let a = c.args in
-    found (breaks_at a.m a.list.now) (length a.list.now / 8) l.k (omega arith) l.invariant.1
-    (tested a.m l.modes a.list.now l.k _ _ true l.invariant.2 c.decode-i.ensures c.breaks.ensures c.if-breaks.true)
-
-pub overflow_add-k : goal.overflow_add-k
-overflow_add-k c = omega arith
-
-pub loop-k-smaller : goal.loop-k-smaller
-loop-k-smaller c = omega arith
+    found (breaks_at a.m a.list.now) (length a.list.now / 8) l.k (omega arith) l.invariant.0
+    (tested a.m l.modes a.list.now l.k _ _ true l.invariant.1 c.decode-i.ensures c.breaks.ensures c.if-breaks.true)
 
 pub loop-k-preserved : goal.loop-k-preserved
 unfolding modes_after
@@ -47,14 +38,13 @@ loop-k-preserved c =
     let l = d.loop-k in
     let a = d.args in
     let i = d.decode-i.ensures in (
-      omega arith,
-      none_more (breaks_at a.m a.list.now) l.k l.invariant.1
-          (tested a.m l.modes a.list.now l.k _ _ false l.invariant.2 i d.breaks.ensures c.if-breaks.false),
-      ap (λ (x : Settled). x.modes) c.settle-settled.ensures ∙ ap₂ modes_by i l.invariant.2 ∙ sym (ap (modes_after a.list.now a.m) (add-one l.k)),
+      none_more (breaks_at a.m a.list.now) l.k l.invariant.0
+          (tested a.m l.modes a.list.now l.k _ _ false l.invariant.1 i d.breaks.ensures c.if-breaks.false),
+      ap (λ (x : Settled). x.modes) c.settle.ensures ∙ ap₂ modes_by i l.invariant.1 ∙ sym (ap (modes_after a.list.now a.m) (add-one l.k)),
     )
 
 pub returns : goal.returns
 returns c =
     let l = c.loop-k in
     let a = c.args in
-    found_none (breaks_at a.m a.list.now) (length a.list.now / 8) (λ j h. l.invariant.1 j (omega arith))
+    found_none (breaks_at a.m a.list.now) (length a.list.now / 8) (λ j h. l.invariant.0 j (omega arith))

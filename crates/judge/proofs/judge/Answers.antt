@@ -1,18 +1,13 @@
--- `judge::judge`: what a run is lent, then its list. Assumes nothing.
-use mathlib.Core.Path.{refl, sym, ap, ◌∙◌}
-use Prim.Native.Nat.{ℕ}
-use Rattle.bits.proofs.Rows.{number-none}
-use Rattle.judge.specs.Judge.{run_rows, refusal, or_else, judged_list, judged_by}
-use Rattle.judge.proofs.Accepted.{run-fit}
+-- `judge::judge`: what is lent, then the list. Assumes nothing.
+use mathlib.Core.Path.{◌∙◌}
+use Rattle.judge.specs.Judge.{run_rows}
+use Rattle.judge.proofs.Given.{lent-refused, lent-stands}
 use Rattle.judge.proofs.judge.Goals as goal
 
-pub judge_by-requires : goal.judge_by-requires
-judge_by-requires c =
+pub returns-in_err-run_lent : goal.returns-in_err-run_lent
+returns-in_err-run_lent c =
     let a = c.args in
-    λ z. run-fit a.l a.m a.list.now (number-none (run_rows a.l a.m a.list.now) refl (sym c.run_fault.ensures ∙ z))
+    lent-refused (run_rows a.l a.m a.list.now) a.l a.m a.list.now _ _ c.from_residual.ensures.1 c.in_err-run_lent.ensures
 
 pub returns : goal.returns
-unfolding judged_by
-returns c =
-    let a = c.args in
-    c.judge_by.ensures ∙ ap (λ (n : ℕ). or_else (refusal n 0 0) (judged_list a.l a.m a.list.now)) c.run_fault.ensures
+returns c = let a = c.args in c.judge_list.ensures ∙ lent-stands (run_rows a.l a.m a.list.now) a.l a.m a.list.now c.in_ok-run_lent.ensures

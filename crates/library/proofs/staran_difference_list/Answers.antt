@@ -2,10 +2,10 @@
 use Rattle.library.proofs.LeftLaws.{difference-small, difference-left}
 use Rattle.library.proofs.staran_difference_list.Goals as goal
 
-pub two-requires : goal.two-requires
-two-requires c =
+pub number_and_count-requires : goal.number_and_count-requires
+number_and_count-requires c =
     difference-small _ _ _ _ _ _ c.difference_list-r.ensures
 
 pub returns : goal.returns
 returns c =
-    difference-left _ _ _ _ _ _ _ c.difference_list-r.ensures c.two.ensures
+    difference-left _ _ _ _ _ _ _ c.difference_list-r.ensures c.number_and_count.ensures

@@ -2,10 +2,10 @@
 use Rattle.library.proofs.LeftLaws.{greatest-small, greatest-left}
 use Rattle.library.proofs.staran_greatest_list.Goals as goal
 
-pub two-requires : goal.two-requires
-two-requires c =
+pub number_and_count-requires : goal.number_and_count-requires
+number_and_count-requires c =
     greatest-small _ _ _ _ c.greatest_list-r.ensures
 
 pub returns : goal.returns
 returns c =
-    greatest-left _ _ _ _ _ c.greatest_list-r.ensures c.two.ensures
+    greatest-left _ _ _ _ _ c.greatest_list-r.ensures c.number_and_count.ensures

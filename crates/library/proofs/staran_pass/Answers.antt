@@ -4,4 +4,4 @@ use Rattle.library.proofs.staran_pass.Goals as goal
 
 pub returns : goal.returns
 returns c =
-    pass-left _ _ _ _ c.pass-r.ensures
+    pass-left _ _ _ _ _ _ c.pass.ensures c.put_pass.ensures.item c.put_pass.ensures.number

@@ -2,10 +2,10 @@
 use Rattle.library.proofs.LeftLaws.{sum-small, sum-left}
 use Rattle.library.proofs.staran_sum_list.Goals as goal
 
-pub two-requires : goal.two-requires
-two-requires c =
+pub number_and_count-requires : goal.number_and_count-requires
+number_and_count-requires c =
     sum-small _ _ _ _ _ _ c.sum_list-r.ensures
 
 pub returns : goal.returns
 returns c =
-    sum-left _ _ _ _ _ _ _ c.sum_list-r.ensures c.two.ensures
+    sum-left _ _ _ _ _ _ _ c.sum_list-r.ensures c.number_and_count.ensures

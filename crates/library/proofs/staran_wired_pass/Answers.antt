@@ -4,4 +4,4 @@ use Rattle.library.proofs.staran_wired_pass.Goals as goal
 
 pub returns : goal.returns
 returns c =
-    pass-left _ _ _ _ c.wired_pass-r.ensures
+    pass-left _ _ _ _ _ _ c.wired_pass.ensures c.put_pass.ensures.item c.put_pass.ensures.number

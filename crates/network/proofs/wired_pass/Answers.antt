@@ -1,24 +1,20 @@
 -- `wired_pass`: the two answers, by where the code was found; eight levels are the pass, by the agreement.
-use mathlib.Core.Path.{◌≡◌}
-use mathlib.Core.Bool.{false}
-use Rattle.network.specs.Shifts.{permitted}
-use Rattle.network.proofs.AnswerLaws.{found-permitted, lost-refused, given, refused, wired-passed}
+use mathlib.Core.Path.{sym, ◌∙◌}
+use Rattle.network.proofs.AnswerLaws.{given, refused, wired-passed}
+use Rattle.network.proofs.TableRules.{found-some, found_none}
 use Rattle.network.proofs.wired_pass.Goals as goal
 
-pub returns-then-s-lt37 : goal.returns-then-s-lt37
-returns-then-s-lt37 c =
-    let o = c in
-    let h = o.if-s-lt37.true in
-    let f = o.find-s in
-    let s = o in
-    given _ _ _ _ (found-permitted s.args.code f.result f.ensures h)
-    (wired-passed _ _ s.args.flip s.args.code f.result s.ranges.flip.fits f.ensures
-    h (c.wired_item.ensures f.result o.signals_of-signals.ensures))
-
 pub unlisted-requires : goal.unlisted-requires
-unlisted-requires c =
-    let lost : permitted c.args.code ≡ false = lost-refused c.args.code c.find-s.result c.find-s.ensures c.if-s-lt37.false in lost
+unlisted-requires c = found_none c.args.code (sym c.find.ensures ∙ c.in_default.is)
 
-pub returns-else-s-lt37 : goal.returns-else-s-lt37
-returns-else-s-lt37 c =
-    let lost : permitted c.args.code ≡ false = lost-refused c.args.code c.find-s.result c.find-s.ensures c.if-s-lt37.false in refused _ _ _ _ (lost) c.unlisted.ensures
+pub returns-in_default : goal.returns-in_default
+returns-in_default c = refused _ _ _ _ (found_none c.args.code (sym c.find.ensures ∙ c.in_default.is)) c.unlisted.ensures
+
+pub of-signals-requires : goal.of-signals-requires
+of-signals-requires c = (found-some c.args.code c.in-Some.s (sym c.find.ensures ∙ c.in-Some.is)).2
+
+pub returns : goal.returns
+returns c =
+    let a = c.args in
+    let w = found-some a.code c.in-Some.s (sym c.find.ensures ∙ c.in-Some.is) in
+    given _ _ _ _ w.0 (wired-passed _ _ a.flip a.code _ c.ranges.flip.fits w.0 (c.of-signals.ensures ∙ w.1) c.wired_item.ensures)

@@ -14,25 +14,13 @@ use Rattle.reach.proofs.put_all.Goals as goal
 
 pub loop-k-init : goal.loop-k-init
 unfolding modes_after
-loop-k-init c = (omega arith, refl, refl, unfold reach_bytes in sym (put-nil _ _))
-
-pub decode-i-requires : goal.decode-i-requires
-decode-i-requires c = omega arith
-
-pub overflow_mul-k : goal.overflow_mul-k
-overflow_mul-k c = omega arith
+loop-k-init c = (refl, refl, unfold reach_bytes in sym (put-nil _ _))
 
 pub put_two-requires : goal.put_two-requires
 put_two-requires c =
     let l = c.loop-k in
     let i = c.decode-i.result in
     (omega arith, omega (arith, c.reach_by.ensures, by_le l.modes i))
-
-pub overflow_add-k : goal.overflow_add-k
-overflow_add-k c = omega arith
-
-pub loop-k-smaller : goal.loop-k-smaller
-loop-k-smaller c = omega arith
 
 pub loop-k-preserved : goal.loop-k-preserved
 unfolding modes_after
@@ -43,11 +31,10 @@ loop-k-preserved c =
     let a = d.args in
     let i = d.decode-i.ensures in
     let o = p.put_two in (
-      omega arith,
-      o.auto.out ∙ l.invariant.1,
-      ap (λ (x : Settled). x.modes) c.settle-settled.ensures ∙ ap₂ modes_by i l.invariant.2 ∙ sym (ap (modes_after a.list.now a.m) (add-one l.k)),
-      bytes-more a.m a.list.now l.k _ l.modes d.decode-i.result a.out.now l.out o.new.out l.invariant.2 i p.reach_by.ensures
-          l.invariant.3 o.ensures,
+      o.auto.out ∙ l.invariant.0,
+      ap (λ (x : Settled). x.modes) c.settle.ensures ∙ ap₂ modes_by i l.invariant.1 ∙ sym (ap (modes_after a.list.now a.m) (add-one l.k)),
+      bytes-more a.m a.list.now l.k _ l.modes d.decode-i.result a.out.now l.out o.new.out l.invariant.1 i p.reach_by.ensures
+          l.invariant.2 o.ensures,
     )
 
 pub returns : goal.returns
@@ -55,4 +42,4 @@ returns c =
     let l = c.loop-k in
     let a = c.args in
     let e : l.k ≡ length a.list.now / 8 = omega arith in
-    l.invariant.3 ∙ ap (λ (n : ℕ). put_at 0 (reach_bytes a.m a.list.now n) a.out.now) e
+    l.invariant.2 ∙ ap (λ (n : ℕ). put_at 0 (reach_bytes a.m a.list.now n) a.out.now) e

@@ -1,20 +1,16 @@
--- `reach::put_two`: one byte behind the other. Assumes nothing.
-use mathlib.Core.Path.{ap₂, ◌∙◌}
-use mathlib.Core.List.{[], ◌∷◌}
-use Prim.Native.Nat.{ℕ}
+-- `reach::put_two`: the part that was lent came back as the two bytes. Assumes nothing.
+use mathlib.Core.Path.{ap, ◌∙◌}
+use mathlib.Core.List.{List}
+use Prim.Native.Nat.{ℕ, ◌+◌, ◌-◌}
+use borrow.Rule.Slice.PartMut.{put_mid}
+use Rattle.bits.specs.Bits.{two}
 use native.Mathlib.Omega.{arith}
-use lib.ListN.{length-set}
-use Rattle.bits.specs.Steps.{put_at}
-use Rattle.reach.proofs.Answers.{put-two-is}
+use Rattle.bits.proofs.Puts.{part-put}
+use Rattle.registers.proofs.ResolverLaws.{two-bytes}
 use Rattle.reach.proofs.put_two.Goals as goal
-
-pub bounds-out-at-2 : goal.bounds-out-at-2
-bounds-out-at-2 c =
-    let a = c.args in
-    omega (arith, length-set a.out.now a.at c.low.result)
 
 pub returns : goal.returns
 returns c =
     let a = c.args in
-    put-two-is a.at _ _ a.out.now c.requires.0
-    ∙ ap₂ (λ (x y : ℕ). put_at a.at (x ∷ y ∷ []) a.out.now) c.low.ensures c.high.ensures
+    ap (λ (l : List ℕ). put_mid a.at (a.at + 2 - a.at) a.out.now l) (c.copy_from_slice.ensures.after ∙ c.to_le_bytes.ensures ∙ two-bytes a.x c.requires.1)
+    ∙ part-put a.at (a.at + 2) a.out.now (two a.x) (omega arith)

@@ -1,30 +1,24 @@
 -- `reach::reach_by`: whether it stores, whether it has a number, and then its mode. Assumes nothing.
-use mathlib.Core.Path.{ap, ◌∙◌}
+use mathlib.Core.Path.{sym, ap, ◌∙◌}
 use mathlib.Core.Bool.{not}
-use native.Mathlib.Omega.{arith}
 use Rattle.judge.specs.declared.modes.Settled.{Settled}
+use Rattle.judge.specs.Answers.{fault_given}
+use Rattle.judge.proofs.Given.{fault-numbered, fault-numberless}
 use Rattle.reach.specs.Reach.{reach_of}
 use Rattle.reach.proofs.Answers.{idle-is, refused-is, reached-is}
 use Rattle.reach.proofs.reach_by.Goals as goal
 
 pub returns-then-not-stores : goal.returns-then-not-stores
-returns-then-not-stores c =
-    let s = c in
-    let a = s.args in
-    idle-is a.m a.i _ s.stores.ensures (ap not c.if-not-stores.true)
+returns-then-not-stores c = idle-is c.args.m c.args.i _ c.stores.ensures (ap not c.if-not-stores.true)
 
-pub returns-then-wrong-ne0 : goal.returns-then-wrong-ne0
-returns-then-wrong-ne0 c =
-    let f = c in
-    let s = f in
-    let a = s.args in
-    refused-is a.m a.i _ s.stores.ensures (ap not f.if-not-stores.false) _ f.fault-wrong.ensures (λ z. omega arith)
+pub returns-then-is_err : goal.returns-then-is_err
+returns-then-is_err c =
+    let a = c.args in
+    refused-is a.m a.i _ c.stores.ensures (ap not c.if-not-stores.false) (fault_given c.fault.result) c.fault.ensures (fault-numbered c.fault.result (sym c.is_err.ensures.value ∙ c.if-is_err.true))
 
 pub returns : goal.returns
 returns c =
-    let f = c in
-    let s = f in
-    let a = s.args in
+    let a = c.args in
     c.reach_of.ensures
-    ∙ ap (λ (x : Settled). reach_of x.mode) c.settle-settled.ensures
-    ∙ reached-is a.m a.i _ s.stores.ensures (ap not f.if-not-stores.false) _ f.fault-wrong.ensures (omega arith)
+    ∙ ap (λ (x : Settled). reach_of x.mode) c.settle.ensures
+    ∙ reached-is a.m a.i _ c.stores.ensures (ap not c.if-not-stores.false) (fault_given c.fault.result) c.fault.ensures (fault-numberless c.fault.result (sym c.is_err.ensures.value ∙ c.if-is_err.false))

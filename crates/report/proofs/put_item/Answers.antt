@@ -9,27 +9,26 @@ use Rattle.report.proofs.ReportLaws.{hexed-more}
 use native.Mathlib.Omega.{arith}
 use Rattle.report.proofs.put_item.Goals as goal
 
-pub loop-j-init : goal.loop-j-init
+pub loop-x-init : goal.loop-x-init
 unfolding hexed
-loop-j-init c = (omega arith, refl, omega arith, none-put _ _)
+loop-x-init c = (refl, omega arith, none-put _ _)
 
-pub loop-j-preserved : goal.loop-j-preserved
-loop-j-preserved c =
+pub loop-x-preserved : goal.loop-x-preserved
+loop-x-preserved c =
     let a = c.args in
-    let l = c.loop-j in
+    let l = c.loop-x in
     let r = c.put_byte-next in (
-      omega arith,
-      r.auto.text ∙ l.invariant.1,
+      r.auto.text ∙ l.invariant.0,
       omega (arith, r.ensures.0),
-      then-put (omega arith) l.invariant.3 r.ensures.1 (hexed-more a.item.now l.j (omega arith)),
+      then-put (omega arith) l.invariant.2 r.ensures.1 (hexed-more a.item.now l.x-index (omega arith)),
     )
 
 pub returns : goal.returns
 returns c =
     let a = c.args in
-    let l = c.loop-j in
+    let l = c.loop-x in
     let p = c.put in (
       omega (arith, p.ensures.behind),
-      then-put (omega arith) l.invariant.3 p.ensures
-          (ap (λ (x : List ℕ). hexed x ++ (10 ∷ [])) (take_all l.j a.item.now (omega arith))),
+      then-put (omega arith) l.invariant.2 p.ensures
+          (ap (λ (x : List ℕ). hexed x ++ (10 ∷ [])) (take_all l.x-index a.item.now (omega arith))),
     )

@@ -1,35 +1,40 @@
 -- `put_line`: each text behind what stands.
-use mathlib.Core.Path.{refl}
-use mathlib.Core.List.{append_assoc}
-use Rattle.report.specs.Report.{line}
-use Rattle.bits.proofs.Puts.{then-put}
+use mathlib.Core.Path.{◌≡◌, refl, subst, ◌∙◌}
+use mathlib.Core.List.{List, [], ◌∷◌}
+use Prim.Native.Nat.{ℕ}
+use lib.ListN.{take}
+use Rattle.std.specs.List.{flat_map}
+use Rattle.report.specs.Report.{line, spaced}
+use Rattle.bits.specs.Steps.{Put}
+use Rattle.bits.proofs.Puts.{none-put, then-put}
+use Rattle.report.proofs.ReportLaws.{spaced-more, line_spaced}
 use native.Mathlib.Omega.{arith}
 use Rattle.report.proofs.put_line.Goals as goal
+
+pub loop-n-init : goal.loop-n-init
+loop-n-init c = (refl, omega (arith, c.put-next.ensures.behind), none-put _ _)
+
+pub loop-n-preserved : goal.loop-n-preserved
+loop-n-preserved c =
+    let a = c.args.a in
+    let l = c.loop-n in
+    let s = c.put_spaced-next in
+    let items : List ℕ = a.number ∷ a.place ∷ a.byte ∷ a.steps ∷ a.taken ∷ a.given ∷ [] in (
+      s.auto.text ∙ l.invariant.0,
+      omega (arith, s.ensures.0),
+      then-put (omega (arith, c.put-next.ensures.behind)) l.invariant.2 s.ensures.1 (spaced-more items l.n-index c.loop-n-test.true),
+    )
 
 pub returns : goal.returns
 unfolding line
 returns c =
-    let c₇ = c in
-    let c₆ = c₇ in
-    let c₅ = c₆ in
-    let c₄ = c₅ in
-    let c₃ = c₄ in
-    let c₂ = c₃ in
-    let c₁ = c₂ in
-    let t₀ = c₁.put-start.ensures in
-    let t₁ = c₁.put_spaced-first.ensures in
-    let t₂ = c₂.put_spaced-second.ensures in
-    let t₃ = c₃.put_spaced-third.ensures in
-    let t₄ = c₄.put_spaced-fourth.ensures in
-    let t₅ = c₅.put_spaced-fifth.ensures in
-    let t₆ = c₆.put_spaced-sixth.ensures in
-    let t₇ = c₇.put.ensures in (
-      omega (arith, t₀.behind, t₁.0, t₂.0, t₃.0, t₄.0, t₅.0, t₆.0, t₇.behind),
-      then-put (omega arith)
-          (then-put (omega arith)
-          (then-put (omega arith)
-          (then-put (omega arith)
-          (then-put (omega arith)
-          (then-put (omega arith) (then-put (omega arith) t₀ t₁.1 refl) t₂.1 refl)
-          t₃.1 refl) t₄.1 refl) t₅.1 refl) t₆.1 refl) t₇ (simp append_assoc),
+    let a = c.args.a in
+    let l = c.loop-n in
+    let p = c.put in
+    let items : List ℕ = a.number ∷ a.place ∷ a.byte ∷ a.steps ∷ a.taken ∷ a.given ∷ [] in
+    let e : l.n-index ≡ 6 = omega arith in
+    let start = c.put-next.ensures in
+    let six = subst (λ (n : ℕ). Put c.put-next.result (flat_map spaced (take n items)) c.put-next.new.buffer l.next l.text) e l.invariant.2 in (
+      omega (arith, p.ensures.behind, l.invariant.1),
+      then-put (omega (arith, start.behind)) (then-put (omega arith) start six refl) p.ensures (line_spaced c.args.letter a.number a.place a.byte a.steps a.taken a.given),
     )

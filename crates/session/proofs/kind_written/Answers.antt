@@ -1,29 +1,20 @@
--- `kind_written`: each return is a test of the definition.
-use mathlib.Core.Path.{sym, ap, ap₂, ◌∙◌}
-use mathlib.Core.Bool.{Bool, cond, ◌||◌}
-use borrow.Author.Tests.{eq-eqb, ne_eqb}
-use Rattle.registers.specs.Modes.{modes_of, any_set}
-use Rattle.session.specs.Session.{kind_written}
+-- `kind_written`: each arm is a law of SessionLaws.
+use mathlib.Core.Path.{sym, ap, ◌∙◌}
+use Rattle.registers.specs.Modes.{any_set}
+use Rattle.session.proofs.SessionLaws.{written-modes, written-set, written-unset}
 use Rattle.session.proofs.kind_written.Goals as goal
 
-pub returns-then-took-eq-MODES_PICTURE : goal.returns-then-took-eq-MODES_PICTURE
-unfolding kind_written
-returns-then-took-eq-MODES_PICTURE c =
+pub returns-in-ModesPicture : goal.returns-in-ModesPicture
+returns-in-ModesPicture c = let a = c.args in written-modes a.registers.now a.took c.in-ModesPicture.is
+
+pub returns-in_default : goal.returns-in_default
+returns-in_default c =
     let a = c.args in
-    sym (ap (λ (t : Bool). cond (t || any_set (modes_of a.registers.now)) 4 1) (eq-eqb a.took 4 c.if-took-eq-MODES_PICTURE.true))
-
-pub returns-then-any_set : goal.returns-then-any_set
-unfolding kind_written
-returns-then-any_set c =
-    let e = c in
-    let a = e.args in
     let s = c.any_set.ensures ∙ ap (λ m. any_set m) c.modes_of.ensures in
-    sym (ap₂ (λ (t u : Bool). cond (t || u) 4 1) (ne_eqb a.took 4 e.if-took-eq-MODES_PICTURE.false) (sym s ∙ c.if-any_set.true))
+    written-set a.registers.now a.took (sym s ∙ c.if-any_set.true)
 
-pub returns : goal.returns
-unfolding kind_written
-returns c =
-    let e = c in
-    let a = e.args in
+pub returns-in_default-2 : goal.returns-in_default-2
+returns-in_default-2 c =
+    let a = c.args in
     let s = c.any_set.ensures ∙ ap (λ m. any_set m) c.modes_of.ensures in
-    sym (ap₂ (λ (t u : Bool). cond (t || u) 4 1) (ne_eqb a.took 4 e.if-took-eq-MODES_PICTURE.false) (sym s ∙ c.if-any_set.false))
+    written-unset a.registers.now a.took c.in_default-2.not-ModesPicture (sym s ∙ c.if-any_set.false)

@@ -1,56 +1,44 @@
 -- `put_word`: each turn is one character of the rest.
 use mathlib.Core.Path.{◌≡◌, refl, sym, subst, ap, ◌∙◌}
-use Prim.Native.Nat.{ℕ, ◌+◌, ◌-◌, ◌*◌, ◌/◌, ◌%◌}
-use borrow.Author.Rules.{rules}
+use mathlib.Core.List.{List}
+use Prim.Native.Nat.{ℕ, ◌+◌}
 use native.Mathlib.Omega.{arith}
-use lib.ListN.{length, length-append}
-use Rattle.spelling.specs.Words.{top_place, visible, spelled_in, spelled}
+use lib.ListN.{length, get_or, drop, length-append, drop_of_length-le}
+use Rattle.std.specs.List.{flat_map}
+use Rattle.spelling.specs.Words.{visible, spelled}
 use Rattle.bits.specs.Steps.{Put}
 use Rattle.bits.proofs.Puts.{none-put, then-put}
-use Rattle.spelling.proofs.SpellLaws.{spell-more}
+use Rattle.spelling.proofs.ByteLaws.{spelled_bytes, bytes-more}
 use Rattle.spelling.proofs.put_word.Goals as goal
 
-pub loop-j-init : goal.loop-j-init
-unfolding spelled
-loop-j-init c = (omega arith, omega arith, refl, c.requires, λ e final p. p)
-
-pub overflow_cast-rest : goal.overflow_cast-rest
-overflow_cast-rest c = omega arith
+pub loop-c-init : goal.loop-c-init
+loop-c-init c =
+    let a = c.args in
+    let e : flat_map visible c.to_be_bytes-c-items.result ≡ spelled a.w = ap (flat_map visible) c.to_be_bytes-c-items.ensures ∙ sym (spelled_bytes a.w (omega arith)) in
+    (refl, omega (arith, ap length e), λ last final q. subst (λ (l : List ℕ). Put a.at l a.text.now last final) e q)
 
 pub put_visible-next-requires : goal.put_visible-next-requires
 put_visible-next-requires c =
-    let l = c.loop-j in
-    let rest = spelled_in (8 - (l.j + 1)) (l.rest % top_place * 256) in
-    omega (arith, ap length (spell-more l.j l.rest c.loop-j-test.true) ∙ length-append (visible (l.rest / top_place)) rest)
+    let bs = c.to_be_bytes-c-items.result in
+    let k = c.loop-c.c-index in
+    omega (arith, ap length (bytes-more bs k (omega arith)) ∙ length-append (visible (get_or bs k 0)) (flat_map visible (drop (k + 1) bs)))
 
-pub overflow_mul-rest : goal.overflow_mul-rest
-overflow_mul-rest c = search rules
-
-pub overflow_add-j : goal.overflow_add-j
-overflow_add-j c = search rules
-
-pub loop-j-smaller : goal.loop-j-smaller
-loop-j-smaller c = search rules
-
-pub loop-j-preserved : goal.loop-j-preserved
-loop-j-preserved c =
-    let l = c.loop-j in
+pub loop-c-preserved : goal.loop-c-preserved
+loop-c-preserved c =
+    let bs = c.to_be_bytes-c-items.result in
+    let l = c.loop-c in
+    let k = l.c-index in
     let p = c.put_visible-next in
-    let rest = spelled_in (8 - (l.j + 1)) (l.rest % top_place * 256) in
-    let more = spell-more l.j l.rest (omega arith) in (
-      omega arith,
-      omega arith,
-      p.auto.text ∙ l.invariant.2,
-      omega (arith, ap length more ∙ length-append (visible (l.rest / top_place)) rest, p.ensures.behind, p.auto.text),
-      λ e final q. l.invariant.4 e final (then-put (omega arith) p.ensures q (sym more)),
+    let more = bytes-more bs k (omega arith) in
+    let size = ap length more ∙ length-append (visible (get_or bs k 0)) (flat_map visible (drop (k + 1) bs)) in (
+      p.auto.text ∙ l.invariant.0,
+      omega (arith, size, p.ensures.behind, p.auto.text),
+      λ e final q. l.invariant.2 e final (then-put (omega arith) p.ensures q (sym more)),
     )
 
-pub shape_of-text : goal.shape_of-text
-shape_of-text c = search rules
-
 pub returns : goal.returns
-unfolding spelled_in
 returns c =
-    let l = c.loop-j in
-    let z : 8 - l.j ≡ 0 = omega arith in
-    l.invariant.4 l.next l.text (subst (λ (n : ℕ). Put l.next (spelled_in n l.rest) l.text l.next l.text) (sym z) (none-put l.next l.text))
+    let l = c.loop-c in
+    let bs = c.to_be_bytes-c-items.result in
+    l.invariant.2 l.next l.text
+    (subst (λ (x : List ℕ). Put l.next (flat_map visible x) l.text l.next l.text) (sym (drop_of_length-le bs {i = l.c-index} (omega arith))) (none-put l.next l.text))

@@ -7,8 +7,7 @@ use Rattle.words.proofs.words_in.Goals as goal
 
 pub returns : goal.returns
 returns c =
-    let k = c in
-    let s = k in
-    let t = c.turned-bytes in
+    let a = c.args in
+    let t = c.turned in
     c.put_all.ensures
-    ∙ eight-in s.args.mem.now s.args.words.now s.args.v s.requires.0 (λ i. search rules) (omega arith) s.requires.2 t.result t.ensures
+    ∙ eight-in a.mem.now a.words.now a.v (search rules) (λ i. search rules) (omega arith) (search rules) t.result t.ensures

@@ -5,4 +5,4 @@ use Rattle.assembly.proofs.acts.put_greatest.Goals as goal
 pub returns : goal.returns
 returns c =
     let a = c.args in
-    greatest-left a.a a.n a.list.now c.requires.0 c.requires.1 c.greatest_list-built.ensures
+    greatest-left a.a.start a.a.width a.list.now c.requires.0 c.requires.1 c.greatest_list-built.ensures

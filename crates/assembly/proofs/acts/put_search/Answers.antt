@@ -1,16 +1,17 @@
 -- `acts::put_search`: either builder fills buffers of just its lengths.
-use mathlib.Core.Bool.{true, false}
+use Rattle.std.proofs.Common.{true, false, ap}
+use Rattle.assembly.specs.Steps.{is_less}
 use Rattle.assembly.proofs.BuildLaws.{search-left}
 use Rattle.assembly.proofs.acts.put_search.Goals as goal
 
-pub returns-then-less : goal.returns-then-less
-returns-then-less c =
+pub returns-in-Equal : goal.returns-in-Equal
+returns-in-Equal c =
     let a = c.args in
     let p = c.requires in
-    search-left true a.less a.a a.n a.v a.list.now a.items.now c.if-less.true p.0 p.1 p.2 p.3 c.less_list-built.ensures
+    search-left false (is_less a.search) a.a.start a.a.width a.v a.list.now a.items.now (ap is_less c.in-Equal.is) p.0 p.1 p.2 p.3 c.equal_list-built.ensures
 
-pub returns : goal.returns
-returns c =
+pub returns-in-Less : goal.returns-in-Less
+returns-in-Less c =
     let a = c.args in
     let p = c.requires in
-    search-left false a.less a.a a.n a.v a.list.now a.items.now c.if-less.false p.0 p.1 p.2 p.3 c.equal_list-built.ensures
+    search-left true (is_less a.search) a.a.start a.a.width a.v a.list.now a.items.now (ap is_less c.in-Less.is) p.0 p.1 p.2 p.3 c.less_list-built.ensures

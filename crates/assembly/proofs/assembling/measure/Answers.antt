@@ -1,118 +1,55 @@
 -- `assembling::measure`: each line in turn leads on to the outcome.
-use mathlib.Core.Path.{sym, ap, ◌∙◌}
-use native.Mathlib.Omega.{arith}
+use Rattle.std.proofs.Common.{ℕ, ◌+◌, length, sym, ap, subst, ◌∙◌, rules, of_calls, tests, arith}
+use Rattle.std.proofs.lemmas.Iterator.Splits.{YieldsList-from_slice_split}
+use Rattle.std.proofs.lemmas.Iterator.Consumers.{YieldsList-at, YieldsList-from_enumerate}
+use Rattle.std.proofs.lemmas.List.{length_push}
 use Rattle.assembly.specs.declared.assembling.Standing.{Standing}
-use Rattle.assembly.specs.Assembly.{begin}
-use Rattle.assembly.proofs.WalkLaws.{walk-begin, walk_refused, walk-fit, walk-next, walk_end}
+use Rattle.bits.proofs.RefusalLaws.{number-positive}
+use Rattle.assembly.specs.Steps.{made}
+use Rattle.assembly.specs.Assembly.{begin, applied, Outcome}
+use Rattle.assembly.proofs.ActLaws.{made-stands}
+use Rattle.assembly.proofs.LinesLaws.{numbered-turn, numbered-end, lines-most}
+use Rattle.assembly.proofs.WalkLaws.{Walking, walk-begin, walk_refused, walk-fit, walk-next, walk-end}
 use Rattle.assembly.proofs.assembling.measure.Goals as goal
 
-pub loop-at-init : goal.loop-at-init
-loop-at-init c =
-    let a = c.args in
-    let p = c.requires in
-    let e = c.begin-s.ensures in (
-      p.1,
-      p.2,
-      p.3,
-      omega (arith, ap (λ (x : Standing). x.count) e),
-      omega arith,
-      omega arith,
-      omega (arith, ap (λ (x : Standing). x.list) e),
-      omega (arith, ap (λ (x : Standing). x.items) e),
-      (begin, walk-begin a.text.now a.names.now a.starts.now a.widths.now e),
-    )
+pub loop-k-init : goal.loop-k-init
+loop-k-init c =
+    let e = c.begin-s.ensures in
+    (search (rules, of_calls), search (rules, of_calls), omega (arith, ap (λ (s : Standing). s.list) e), omega (arith, ap (λ (s : Standing). s.items) e), (begin, walk-begin c.args.text.now c.requires.1 e))
 
-pub next_act-act-requires : goal.next_act-act-requires
-next_act-act-requires c =
-    let o = c in
-    let l = o.loop-at in
-    let w = l.invariant.8.1 in
-    let h = o.loop-at-test.true in
-    let e = c.line_end-end.ensures in
-    (e.0, e.1, c.requires.0, omega (arith, l.invariant.0, l.invariant.3), omega (arith, l.invariant.1, l.invariant.3), omega (arith, l.invariant.2, l.invariant.3))
-
-pub shape_of-names-then-number-ne0 : goal.shape_of-names-then-number-ne0
-shape_of-names-then-number-ne0 c = c.loop-at.invariant.0 ∙ sym c.requires.1
-
-pub shape_of-starts-then-number-ne0 : goal.shape_of-starts-then-number-ne0
-shape_of-starts-then-number-ne0 c = c.loop-at.invariant.1 ∙ sym c.requires.2
-
-pub shape_of-widths-then-number-ne0 : goal.shape_of-widths-then-number-ne0
-shape_of-widths-then-number-ne0 c = c.loop-at.invariant.2 ∙ sym c.requires.3
-
-pub returns-then-number-ne0 : goal.returns-then-number-ne0
-returns-then-number-ne0 c =
-    let o = c in
-    let l = o.loop-at in
-    let w = l.invariant.8.1 in
-    let h = o.loop-at-test.true in
-    walk_refused w c.line_end-end.ensures.2 h c.next_act-act.ensures c.number_of-number.ensures c.if-number-ne0.true c.column_of.ensures
-
-pub put_name-count-requires : goal.put_name-count-requires
-put_name-count-requires c =
-    let o = c in
-    let l = o.loop-at in
-    let w = l.invariant.8.1 in
-    let h = o.loop-at-test.true in
-    let f = walk-fit w c.line_end-end.ensures.2 h c.next_act-act.ensures l.invariant.0 l.invariant.3 in
-    (f.0, l.invariant.0, l.invariant.1, l.invariant.2, l.invariant.3)
+pub put_name-requires : goal.put_name-requires
+put_name-requires c =
+    let at = numbered-turn c.args.text.now _ _ c.loop-k.yielded_by _ _ c.next.ensures.steps c.in-Some.k c.in-Some.line c.in-Some.is (YieldsList-at c.into_iter-k-iterator.ensures.into_iter_gives (YieldsList-from_enumerate (YieldsList-at c.enumerate-k-items.ensures.source (YieldsList-from_slice_split _ _ c.args.text.now c.split.ensures.rest c.split.ensures.done c.split.ensures.closure (λ x b q k. search (rules, tests)))) c.enumerate-k-items.ensures.count)) in
+    (walk-fit c.loop-k.invariant.4.1 at.0 at.2 c.in-Ok.ensures).0
 
 pub advance-s-requires : goal.advance-s-requires
 advance-s-requires c =
-    let o = c in
-    let l = o.loop-at in
-    let w = l.invariant.8.1 in
-    let h = o.loop-at-test.true in
-    (omega (arith, c.requires.0, l.invariant.6, h), omega (arith, c.requires.0, l.invariant.7, h))
+    let at = numbered-turn c.args.text.now _ _ c.loop-k.yielded_by _ _ c.next.ensures.steps c.in-Some.k c.in-Some.line c.in-Some.is (YieldsList-at c.into_iter-k-iterator.ensures.into_iter_gives (YieldsList-from_enumerate (YieldsList-at c.enumerate-k-items.ensures.source (YieldsList-from_slice_split _ _ c.args.text.now c.split.ensures.rest c.split.ensures.done c.split.ensures.closure (λ x b q k. search (rules, tests)))) c.enumerate-k-items.ensures.count)) in
+    let most = lines-most c.args.text.now in
+    (omega (arith, at.0, most, c.requires.0, c.loop-k.invariant.2), omega (arith, at.0, most, c.requires.0, c.loop-k.invariant.3))
 
-pub overflow_add-at : goal.overflow_add-at
-overflow_add-at c = omega (arith, c.line_end-end.ensures.1, c.requires.0)
+pub returns-in-Err : goal.returns-in-Err
+returns-in-Err c =
+    let at = numbered-turn c.args.text.now _ _ c.loop-k.yielded_by _ _ c.next.ensures.steps c.in-Some.k c.in-Some.line c.in-Some.is (YieldsList-at c.into_iter-k-iterator.ensures.into_iter_gives (YieldsList-from_enumerate (YieldsList-at c.enumerate-k-items.ensures.source (YieldsList-from_slice_split _ _ c.args.text.now c.split.ensures.rest c.split.ensures.done c.split.ensures.closure (λ x b q k. search (rules, tests)))) c.enumerate-k-items.ensures.count)) in
+    let o = walk_refused c.loop-k.invariant.4.1 at.0 at.2 c.in-Err.ensures (λ z. omega (arith, z, number-positive c.in-Err.fault.why)) in
+    (ap (λ (x : Outcome). x.number) o, ap (λ (x : Outcome). x.line) o ∙ ap (λ (n : ℕ). n + 1) (sym at.1), ap (λ (x : Outcome). x.column) o)
 
-pub overflow_add-n : goal.overflow_add-n
-overflow_add-n c =
-    let o = c in
-    let l = o.loop-at in
-    let w = l.invariant.8.1 in
-    let h = o.loop-at-test.true in
-    omega (arith, c.requires.0, l.invariant.5, h)
-
-pub loop-at-smaller : goal.loop-at-smaller
-loop-at-smaller c =
-    let o = c in
-    let l = o.loop-at in
-    let w = l.invariant.8.1 in
-    let h = o.loop-at-test.true in
-    omega (arith, c.line_end-end.ensures.0, c.line_end-end.ensures.1, h)
-
-pub loop-at-preserved : goal.loop-at-preserved
-loop-at-preserved c =
-    let o = c in
-    let l = o.loop-at in
-    let w = l.invariant.8.1 in
-    let h = o.loop-at-test.true in
-    let e = c.line_end-end in
-    let p = c.put_name-count in
+pub loop-k-preserved : goal.loop-k-preserved
+loop-k-preserved c =
+    let at = numbered-turn c.args.text.now _ _ c.loop-k.yielded_by _ _ c.next.ensures.steps c.in-Some.k c.in-Some.line c.in-Some.is (YieldsList-at c.into_iter-k-iterator.ensures.into_iter_gives (YieldsList-from_enumerate (YieldsList-at c.enumerate-k-items.ensures.source (YieldsList-from_slice_split _ _ c.args.text.now c.split.ensures.rest c.split.ensures.done c.split.ensures.closure (λ x b q k. search (rules, tests)))) c.enumerate-k-items.ensures.count)) in
+    let more = length_push c.loop-k.yielded (c.in-Some.k, c.in-Some.line) in
     let v = c.advance-s.ensures in
-    let z = sym c.number_of-number.ensures ∙ c.if-number-ne0.false in (
-      p.auto.names ∙ l.invariant.0,
-      p.auto.starts ∙ l.invariant.1,
-      p.auto.widths ∙ l.invariant.2,
-      omega (arith, ap (λ (x : Standing). x.count) v.2, p.ensures.0),
-      omega (arith, e.ensures.1),
-      omega (arith, e.ensures.0, l.invariant.5),
-      omega (arith, e.ensures.0, l.invariant.6, v.0),
-      omega (arith, e.ensures.0, l.invariant.7, v.1),
-      (_, walk-next w e.ensures.2 h c.next_act-act.ensures z p.ensures.1 v.2),
+    let next = walk-next c.loop-k.invariant.4.1 at.0 at.2 c.in-Ok.ensures (made-stands c.in-Ok.act) c.put_name.ensures v.2 in (
+      search (rules, of_calls),
+      search (rules, of_calls),
+      omega (arith, more, c.loop-k.invariant.2, v.0),
+      omega (arith, more, c.loop-k.invariant.3, v.1),
+      (_, subst (λ (n : ℕ). Walking c.args.text.now c.put_name.new.fields c.advance-s.result n (applied (made c.in-Ok.act) c.loop-k.invariant.4.0)) (sym more) next),
     )
 
-pub shape_of-names : goal.shape_of-names
-shape_of-names c = c.loop-at.invariant.0 ∙ sym c.requires.1
-
-pub shape_of-starts : goal.shape_of-starts
-shape_of-starts c = c.loop-at.invariant.1 ∙ sym c.requires.2
-
-pub shape_of-widths : goal.shape_of-widths
-shape_of-widths c = c.loop-at.invariant.2 ∙ sym c.requires.3
-
 pub returns : goal.returns
-returns c = walk_end c.loop-at.invariant.8.1 c.loop-at-test.false
+returns c =
+    let end = numbered-end c.args.text.now _ _ c.loop-k.yielded_by _ _ c.next.ensures.steps c.in-None.is (YieldsList-at c.into_iter-k-iterator.ensures.into_iter_gives (YieldsList-from_enumerate (YieldsList-at c.enumerate-k-items.ensures.source (YieldsList-from_slice_split _ _ c.args.text.now c.split.ensures.rest c.split.ensures.done c.split.ensures.closure (λ x b q k. search (rules, tests)))) c.enumerate-k-items.ensures.count)) in
+    let w = c.loop-k.invariant.4.1 in
+    let o = walk-end w end in
+    (ap (λ (x : Outcome). x.number) o, sym w.list ∙ ap (λ (x : Outcome). length x.state.list) (sym o), sym w.items ∙ ap (λ (x : Outcome). length x.state.items) (sym o))

@@ -1,135 +1,86 @@
 -- `assembling::write`: each line in turn puts what it makes behind what stands there.
-use mathlib.Core.Path.{refl, sym, ap, ◌∙◌}
-use mathlib.Core.List.{List}
-use Prim.Native.Nat.{ℕ}
-use native.Mathlib.Omega.{arith}
-use Rattle.assembly.specs.declared.assembling.Standing.{Standing}
+use Rattle.std.proofs.Common.{ℕ, sym, ap, subst, ◌∙◌, rules, of_calls, tests, arith}
+use Rattle.std.proofs.lemmas.Iterator.Splits.{YieldsList-from_slice_split}
+use Rattle.std.proofs.lemmas.Iterator.Consumers.{YieldsList-at}
+use Rattle.std.proofs.lemmas.List.{length_push}
 use Rattle.bits.specs.Steps.{put_at}
 use Rattle.bits.proofs.Puts.{put-nil}
-use Rattle.assembly.specs.Assembly.{begin}
-use Rattle.assembly.proofs.WalkLaws.{walk-begin, walk-stands, walk-fit, walk-room, walk-next, put_next, put-next-items, end_list, end-items}
+use Rattle.assembly.specs.declared.assembling.Standing.{Standing}
+use Rattle.bits.proofs.RefusalLaws.{number-positive}
+use Rattle.assembly.specs.Steps.{made}
+use Rattle.assembly.specs.Assembly.{begin, applied, Outcome}
+use Rattle.assembly.proofs.ActLaws.{made-stands}
+use Rattle.assembly.proofs.LinesLaws.{line-turn, line-end, lines-most}
+use Rattle.assembly.proofs.WalkLaws.{Walking, walk-begin, walk_refused, walk-fit, walk-room, walk-next, put_next, put-next-items, walk-end}
 use Rattle.assembly.proofs.assembling.write.Goals as goal
 
-pub loop-at-init : goal.loop-at-init
-loop-at-init c =
-    let a = c.args in
-    let p = c.requires in
-    let e = c.begin-s.ensures in (
-      p.1,
-      p.2,
-      p.3,
-      omega (arith, ap (λ (x : Standing). x.count) e),
-      omega arith,
-      omega (arith, ap (λ (x : Standing). x.list) e),
-      omega (arith, ap (λ (x : Standing). x.items) e),
-      refl,
-      refl,
-      (1, begin, walk-begin a.text.now a.names.now a.starts.now a.widths.now e, sym (put-nil 0 a.list.now), sym (put-nil 0 a.items.now)),
+pub loop-line-init : goal.loop-line-init
+loop-line-init c =
+    let e = c.begin-s.ensures in
+    let a = c.args in (
+      search (rules, of_calls),
+      search (rules, of_calls),
+      omega (arith, ap (λ (s : Standing). s.list) e),
+      omega (arith, ap (λ (s : Standing). s.items) e),
+      (begin, walk-begin a.text.now c.requires.1 e, sym (put-nil 0 a.list.now), sym (put-nil 0 a.items.now)),
     )
-
-pub next_act-act-requires : goal.next_act-act-requires
-next_act-act-requires c =
-    let o = c in
-    let l = o.loop-at in
-    let w = l.invariant.9.2 in
-    let h = o.loop-at-test.true in
-    let e = c.line_end-end.ensures in
-    (e.0, e.1, c.requires.0, omega (arith, l.invariant.0, l.invariant.3), omega (arith, l.invariant.1, l.invariant.3), omega (arith, l.invariant.2, l.invariant.3))
 
 pub place-requires : goal.place-requires
 place-requires c =
-    let o = c in
-    let l = o.loop-at in
-    let w = l.invariant.9.2 in
-    let h = o.loop-at-test.true in
-    let q = c.line_end-end.ensures.2 in
-    let a = c.next_act-act.ensures in
-    let p = c.requires in
-    let room = walk-room w q h a (walk-stands w q h a p.4) in
-    ((walk-fit w q h a l.invariant.0 l.invariant.3).1, omega (arith, room.0, p.5, l.invariant.7), omega (arith, room.1, p.6, l.invariant.8))
+    let at = line-turn c.args.text.now _ _ c.loop-line.yielded_by _ _ c.next.ensures.steps c.in-Some.line c.in-Some.is (YieldsList-at c.into_iter-line-iterator.ensures.into_iter_gives (YieldsList-from_slice_split _ _ c.args.text.now c.split-line-items.ensures.rest c.split-line-items.ensures.done c.split-line-items.ensures.closure (λ x b q k. search (rules, tests)))) in
+    let w = c.loop-line.invariant.4.1 in
+    let a = c.in-Ok.ensures in
+    let room = walk-room w at.0 at.1 a (made-stands c.in-Ok.act) in
+    ((walk-fit w at.0 at.1 a).1, omega (arith, room.0, c.requires.3, c.loop-line.auto.list), omega (arith, room.1, c.requires.4, c.loop-line.auto.items))
 
-pub put_name-count-requires : goal.put_name-count-requires
-put_name-count-requires c =
-    let o = c in
-    let l = o.loop-at in
-    let w = l.invariant.9.2 in
-    let h = o.loop-at-test.true in
-    let f = walk-fit w c.line_end-end.ensures.2 h c.next_act-act.ensures l.invariant.0 l.invariant.3 in
-    (f.0, l.invariant.0, l.invariant.1, l.invariant.2, l.invariant.3)
+pub put_name-requires : goal.put_name-requires
+put_name-requires c =
+    let at = line-turn c.args.text.now _ _ c.loop-line.yielded_by _ _ c.next.ensures.steps c.in-Some.line c.in-Some.is (YieldsList-at c.into_iter-line-iterator.ensures.into_iter_gives (YieldsList-from_slice_split _ _ c.args.text.now c.split-line-items.ensures.rest c.split-line-items.ensures.done c.split-line-items.ensures.closure (λ x b q k. search (rules, tests)))) in
+    let w = c.loop-line.invariant.4.1 in
+    (walk-fit w at.0 at.1 c.in-Ok.ensures).0
 
 pub advance-s-requires : goal.advance-s-requires
 advance-s-requires c =
-    let o = c in
-    let l = o.loop-at in
-    let w = l.invariant.9.2 in
-    let h = o.loop-at-test.true in
-    (omega (arith, c.requires.0, l.invariant.5, h), omega (arith, c.requires.0, l.invariant.6, h))
+    let at = line-turn c.args.text.now _ _ c.loop-line.yielded_by _ _ c.next.ensures.steps c.in-Some.line c.in-Some.is (YieldsList-at c.into_iter-line-iterator.ensures.into_iter_gives (YieldsList-from_slice_split _ _ c.args.text.now c.split-line-items.ensures.rest c.split-line-items.ensures.done c.split-line-items.ensures.closure (λ x b q k. search (rules, tests)))) in
+    let w = c.loop-line.invariant.4.1 in
+    let most = lines-most c.args.text.now in
+    (omega (arith, at.0, most, c.requires.0, c.loop-line.invariant.2), omega (arith, at.0, most, c.requires.0, c.loop-line.invariant.3))
 
-pub overflow_add-at : goal.overflow_add-at
-overflow_add-at c = omega (arith, c.line_end-end.ensures.1, c.requires.0)
-
-pub loop-at-smaller : goal.loop-at-smaller
-loop-at-smaller c =
-    let o = c in
-    let l = o.loop-at in
-    let w = l.invariant.9.2 in
-    let h = o.loop-at-test.true in
-    omega (arith, c.line_end-end.ensures.0, c.line_end-end.ensures.1, h)
-
-pub loop-at-preserved : goal.loop-at-preserved
-loop-at-preserved c =
-    let o = c in
-    let l = o.loop-at in
-    let w = l.invariant.9.2 in
-    let h = o.loop-at-test.true in
-    let e = c.line_end-end in
-    let a = c.next_act-act.ensures in
-    let b = c.place in
-    let p = c.put_name-count in
+pub loop-line-preserved-in-Ok : goal.loop-line-preserved-in-Ok
+loop-line-preserved-in-Ok c =
+    let at = line-turn c.args.text.now _ _ c.loop-line.yielded_by _ _ c.next.ensures.steps c.in-Some.line c.in-Some.is (YieldsList-at c.into_iter-line-iterator.ensures.into_iter_gives (YieldsList-from_slice_split _ _ c.args.text.now c.split-line-items.ensures.rest c.split-line-items.ensures.done c.split-line-items.ensures.closure (λ x b q k. search (rules, tests)))) in
+    let w = c.loop-line.invariant.4.1 in
+    let more = length_push c.loop-line.yielded c.in-Some.line in
+    let a = c.in-Ok.ensures in
     let v = c.advance-s.ensures in
-    let z = walk-stands w e.ensures.2 h a c.requires.4 in
-    let listed = l.invariant.9.3 in
-    let itemed = l.invariant.9.4 in (
-      p.auto.names ∙ l.invariant.0,
-      p.auto.starts ∙ l.invariant.1,
-      p.auto.widths ∙ l.invariant.2,
-      omega (arith, ap (λ (x : Standing). x.count) v.2, p.ensures.0),
-      omega (arith, e.ensures.1),
-      omega (arith, e.ensures.0, l.invariant.5, v.0),
-      omega (arith, e.ensures.0, l.invariant.6, v.1),
-      b.auto.list ∙ l.invariant.7,
-      b.auto.items ∙ l.invariant.8,
+    let p = c.place.ensures in
+    let next = walk-next w at.0 at.1 a (made-stands c.in-Ok.act) c.put_name.ensures v.2 in (
+      search (rules, of_calls),
+      search (rules, of_calls),
+      omega (arith, more, c.loop-line.invariant.2, v.0),
+      omega (arith, more, c.loop-line.invariant.3, v.1),
       (
         _,
-        _,
-        walk-next w e.ensures.2 h a z p.ensures.1 v.2,
-        put_next w e.ensures.2 h a c.args.list.now listed b.ensures.0,
-        put-next-items w e.ensures.2 h a c.args.items.now itemed b.ensures.1,
+        subst (λ (n : ℕ). Walking c.args.text.now c.put_name.new.fields c.advance-s.result n (applied (made c.in-Ok.act) c.loop-line.invariant.4.0)) (sym more) next,
+        put_next w at.0 at.1 a c.args.list.now c.loop-line.invariant.4.2 p.0,
+        put-next-items w at.0 at.1 a c.args.items.now c.loop-line.invariant.4.3 p.1,
       ),
     )
 
-pub shape_of-names : goal.shape_of-names
-shape_of-names c = c.loop-at.invariant.0 ∙ sym c.requires.1
-
-pub shape_of-starts : goal.shape_of-starts
-shape_of-starts c = c.loop-at.invariant.1 ∙ sym c.requires.2
-
-pub shape_of-widths : goal.shape_of-widths
-shape_of-widths c = c.loop-at.invariant.2 ∙ sym c.requires.3
-
-pub shape_of-list : goal.shape_of-list
-shape_of-list c = c.loop-at.invariant.7
-
-pub shape_of-items : goal.shape_of-items
-shape_of-items c = c.loop-at.invariant.8
+pub loop-line-preserved : goal.loop-line-preserved
+loop-line-preserved c =
+    let at = line-turn c.args.text.now _ _ c.loop-line.yielded_by _ _ c.next.ensures.steps c.in-Some.line c.in-Some.is (YieldsList-at c.into_iter-line-iterator.ensures.into_iter_gives (YieldsList-from_slice_split _ _ c.args.text.now c.split-line-items.ensures.rest c.split-line-items.ensures.done c.split-line-items.ensures.closure (λ x b q k. search (rules, tests)))) in
+    let w = c.loop-line.invariant.4.1 in
+    let some = number-positive c.in_default.field-0.why in
+    let o = walk_refused w at.0 at.1 c.in_default.ensures (λ z. omega (arith, z, some)) in
+    absurd (omega (arith, some, c.requires.2, ap (λ (x : Outcome). x.number) o))
 
 pub returns : goal.returns
 returns c =
-    let l = c.loop-at in
-    let w = l.invariant.9.2 in
-    let listed = l.invariant.9.3 in
-    let itemed = l.invariant.9.4 in
+    let end = line-end c.args.text.now _ _ c.loop-line.yielded_by _ _ c.next.ensures.steps c.in-None.is (YieldsList-at c.into_iter-line-iterator.ensures.into_iter_gives (YieldsList-from_slice_split _ _ c.args.text.now c.split-line-items.ensures.rest c.split-line-items.ensures.done c.split-line-items.ensures.closure (λ x b q k. search (rules, tests)))) in
+    let w = c.loop-line.invariant.4.1 in
+    let o = walk-end w end in
     let a = c.args in (
-      listed ∙ ap (λ (x : List ℕ). put_at 0 x a.list.now) (end_list w c.loop-at-test.false),
-      itemed ∙ ap (λ (x : List ℕ). put_at 0 x a.items.now) (end-items w c.loop-at-test.false),
+      c.loop-line.invariant.4.2 ∙ ap (λ (x : Outcome). put_at 0 x.state.list a.list.now) (sym o),
+      c.loop-line.invariant.4.3 ∙ ap (λ (x : Outcome). put_at 0 x.state.items a.items.now) (sym o),
     )

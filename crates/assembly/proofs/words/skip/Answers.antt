@@ -1,26 +1,16 @@
--- `words::skip`: the blanks that are left are the rest of the way.
-use mathlib.Core.Path.{refl, sym, ◌∙◌}
-use native.Mathlib.Omega.{arith}
-use Rattle.assembly.proofs.WordLaws.{blanks-here, blanks-more, blanks-end}
+-- `words::skip`: the blanks are those before the first that is none.
+use Rattle.std.proofs.Common.{ℕ, ◌+◌, ◌-◌, length, take, drop, not, rules, ◌∙◌, sym, ap}
+use borrow.Author.Tests.{tests}
+use Rattle.std.proofs.lemmas.Iterator.{YieldsList-from_slice}
+use Rattle.std.proofs.lemmas.Iterator.Search.{position_from_yields_List}
+use Rattle.text.specs.Make.{blank}
+use Rattle.assembly.proofs.WordLaws.{blanks-position, first-place}
 use Rattle.assembly.proofs.words.skip.Goals as goal
-
-pub loop-i-init : goal.loop-i-init
-loop-i-init c = (c.requires, refl)
-
-pub returns-then-not-blank : goal.returns-then-not-blank
-returns-then-not-blank c =
-    let l = c.loop-i in
-    let a = c.args in
-    (omega arith, blanks-here a.line.now l.i _ c.loop-i-test.true (sym c.blank.ensures ∙ c.if-not-blank.true) l.invariant.1)
-
-pub loop-i-preserved : goal.loop-i-preserved
-loop-i-preserved c =
-    let l = c.loop-i in
-    let a = c.args in
-    (omega arith, blanks-more a.line.now l.i _ c.loop-i-test.true (sym c.blank.ensures ∙ c.if-not-blank.false) l.invariant.1)
 
 pub returns : goal.returns
 returns c =
-    let l = c.loop-i in
-    let a = c.args in
-    (l.invariant.0, blanks-end a.line.now l.i _ c.loop-i-test.false l.invariant.1)
+    let l = c.args.line.now in
+    let left = take (length l - c.args.at) (drop c.args.at l) in
+    let e = position_from_yields_List (λ (x : ℕ). not (blank x)) _ _ c.position.result c.position.ensures.ran (YieldsList-from_slice left (cc)) (λ x b q k. search (rules, tests)) in
+    let f = first-place (λ (x : ℕ). not (blank x)) l c.args.at c.requires e c.unwrap_or.ensures in
+    (f.0, ap (λ (k : ℕ). c.args.at + k) (f.1 ∙ sym (blanks-position (drop c.args.at l))))

@@ -21,13 +21,12 @@ returns-then-on-eq0 c =
 
 pub returns : goal.returns
 returns c =
-    let s = c in
-    let a = s.args in
+    let a = c.args in
     let once : a.on ≡ 1 = omega arith in
     let is = exchanged-is a.q a.m a.k in
     four (quarter_of (λ l. line_at a.q (bit_xor l a.k))) _ _ _ _
-    (is 0 _ s.requires.1 s.requires.2 (omega arith) c.exchange.ensures)
-    (is 1 _ s.requires.1 s.requires.2 (omega arith) c.exchange-2.ensures)
-    (is 2 _ s.requires.1 s.requires.2 (omega arith) c.exchange-3.ensures)
-    (is 3 _ s.requires.1 s.requires.2 (omega arith) c.exchange-4.ensures)
+    (is 0 _ c.requires.1 c.requires.2 (omega arith) c.exchange.ensures)
+    (is 1 _ c.requires.1 c.requires.2 (omega arith) c.exchange-2.ensures)
+    (is 2 _ c.requires.1 c.requires.2 (omega arith) c.exchange-3.ensures)
+    (is 3 _ c.requires.1 c.requires.2 (omega arith) c.exchange-4.ensures)
     ∙ ap (flipped_quarters a.q) (sym (ap (λ (x : ℕ). x * a.k) once ∙ one-mul a.k))

@@ -7,24 +7,17 @@ use Rattle.bits.proofs.flips.flip_quarters.Goals as goal
 
 pub returns : goal.returns
 returns c =
-    let halves = c in
-    let sixteens = halves in
-    let eights = sixteens in
-    let fours = eights in
-    let twos = fours in
-    let ones = twos in
-    let s = ones in
-    let more = flipped-more s.args.q in
+    let more = flipped-more c.args.q in
     c.order.ensures
     ∙ more _ _ _ (omega arith)
-    (halves.exchange_if-halves.ensures
+    (c.exchange_if-halves.ensures
     ∙ more _ _ _ (omega arith)
-    (sixteens.exchange_if-sixteens.ensures
+    (c.exchange_if-sixteens.ensures
     ∙ more _ _ _ (omega arith)
-    (eights.exchange_if-eights.ensures
+    (c.exchange_if-eights.ensures
     ∙ more _ _ _ (omega arith)
-    (fours.exchange_if-fours.ensures ∙ more _ _ _ (omega arith) (twos.exchange_if-twos.ensures ∙ more _ _ _ (omega arith) ones.exchange_if-ones.ensures)))))
-    ∙ ap (flipped_quarters s.args.q) (by-digits s.args.f (omega arith))
+    (c.exchange_if-fours.ensures ∙ more _ _ _ (omega arith) (c.exchange_if-twos.ensures ∙ more _ _ _ (omega arith) c.exchange_if-ones.ensures)))))
+    ∙ ap (flipped_quarters c.args.q) (by-digits c.args.f (omega arith))
 
 pub exchange_if-ones-requires : goal.exchange_if-ones-requires
 exchange_if-ones-requires c = (omega arith, omega arith, flips-1)

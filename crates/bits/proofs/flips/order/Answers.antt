@@ -9,21 +9,18 @@ use mir.Val.{Fits}
 use borrow.Author.Rules.{rules}
 use Rattle.bits.specs.Bits.{listed}
 use Rattle.bits.specs.Quarters.{quarter_of, line_at}
-use Rattle.bits.proofs.Items.{fill_more, fill_done}
+use Rattle.bits.proofs.Items.{fill_more}
 use Rattle.bits.proofs.FlipLaws.{ordered-is}
 use Rattle.bits.proofs.flips.order.Goals as goal
 use Rattle.bits.proofs.flips.order.Goals.{In-loop-i}
 
 pub loop-i-init : goal.loop-i-init
 unfolding listed
-loop-i-init c = (omega arith, refl, refl)
+loop-i-init c = (refl, refl)
 
 -- the quarter that is read is one of the four
 within : (c : In-loop-i) → bit_xor c.args.g c.loop-i.i < 4
 within c = xor_lt 2 c.args.g c.loop-i.i (omega arith) (omega arith)
-
-pub offset_bounds-q-g : goal.offset_bounds-q-g
-offset_bounds-q-g c = record { fits = omega (arith, within c) }
 
 pub bounds-q-g : goal.bounds-q-g
 bounds-q-g c = within c
@@ -33,11 +30,7 @@ loop-i-preserved c =
     let a = c.args in
     let l = c.loop-i in
     let fits : (i : ℕ) → Fits w64 (get_or a.q i 0) = λ i. search rules in (
-      omega arith,
-      simp length-set l.invariant.1,
-      fill_more (quarter_of (λ l. line_at a.q (bit_xor l (64 * a.g)))) l.out l.i _ (omega arith) l.invariant.2
+      simp length-set l.invariant.0,
+      fill_more (quarter_of (λ l. line_at a.q (bit_xor l (64 * a.g)))) l.out l.i _ (omega arith) l.invariant.1
           (ordered-is a.q a.g l.i _ (fits (bit_xor a.g l.i)).fits refl),
     )
-
-pub returns : goal.returns
-returns c = fill_done _ c.loop-i.out 4 _ c.loop-i.invariant.1 (omega arith) c.loop-i.invariant.2

@@ -1,25 +1,22 @@
--- `quarters::quarter_at`: after n bytes it has the first 8 n digits.
-use mathlib.Core.Path.{◌≡◌, refl, ap, ◌∙◌}
-use Prim.Native.Nat.{◌+◌, ◌*◌}
+-- `quarters::quarter_at`: the number of its eight bytes.
+use mathlib.Core.Path.{◌≡◌, ap, ◌∙◌}
+use mathlib.Core.List.{List}
+use Prim.Native.Nat.{ℕ, ◌+◌, ◌-◌, ◌*◌}
 use native.Mathlib.Omega.{arith}
-use Rattle.bits.specs.Bits.{bit_of, digits_of}
-use Rattle.bits.specs.Quarters.{quarter_of}
-use Rattle.bits.proofs.QuarterLaws.{or_byte}
+use lib.ListN.{get_or, take, drop}
+use lib.Seq.{get_or-take, get_or-drop}
+use borrow.Author.Rules.{rules}
+use Rattle.bits.proofs.QuarterLaws.{quarter-bytes}
 use Rattle.bits.proofs.quarters.quarter_at.Goals as goal
 
-pub loop-n-init : goal.loop-n-init
-unfolding digits_of
-loop-n-init c = (omega arith, refl)
-
-pub loop-n-preserved : goal.loop-n-preserved
-loop-n-preserved c =
-    let s = c in
-    let l = c.loop-n in
-    (omega arith, or_byte s.args.lines.now s.args.i l.n c.wide.result l.q (omega arith) c.wide.ensures.1 c.wide.ensures.0 l.invariant.1)
-
 pub returns : goal.returns
-unfolding quarter_of
 returns c =
-    let l = c.loop-n in
-    let e : 8 * l.n ≡ 64 = omega arith in
-    l.invariant.1 ∙ ap (digits_of (λ j. bit_of c.args.lines.now (64 * c.args.i + j))) e
+    let a = c.args in
+    let from = 8 * a.i in
+    let part : c.unwrap.result.now ≡ take (from + 8 - from) (drop from a.lines.now) = search rules in
+    c.from_le_bytes.ensures
+    ∙ quarter-bytes a.lines.now c.unwrap.result.now a.i (λ k. search rules)
+    (λ n h.
+    ap (λ (x : List ℕ). get_or x n 0) part
+    ∙ get_or-take (from + 8 - from) (drop from a.lines.now) n 0 (omega arith)
+    ∙ get_or-drop from a.lines.now n 0)

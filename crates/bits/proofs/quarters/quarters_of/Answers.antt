@@ -6,6 +6,5 @@ use Rattle.bits.proofs.quarters.quarters_of.Goals as goal
 
 pub returns : goal.returns
 returns c =
-    let s = c in
-    four (quarter_of (bit_of s.args.lines.now)) _ _ _ _ c.quarter_at.ensures c.quarter_at-2.ensures
+    four (quarter_of (bit_of c.args.lines.now)) _ _ _ _ c.quarter_at.ensures c.quarter_at-2.ensures
     c.quarter_at-3.ensures c.quarter_at-4.ensures

@@ -7,7 +7,4 @@ use Rattle.builders.proofs.writing.put.Goals as goal
 
 pub returns : goal.returns
 unfolding encoded
-returns c =
-    let a = c.args in
-    let w = c.copy in
-    part-copied (8 * a.at) 8 a.list.now w.new.dst _ refl w.ensures
+returns c = part-copied (8 * c.args.at) 8 c.args.list.now _ _ refl c.copy_from_slice.ensures.after

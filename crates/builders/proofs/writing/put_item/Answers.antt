@@ -4,7 +4,4 @@ use Rattle.builders.proofs.PutLaws.{part-copied}
 use Rattle.builders.proofs.writing.put_item.Goals as goal
 
 pub returns : goal.returns
-returns c =
-    let s = c in
-    let w = c.copy in
-    part-copied (32 * s.args.at) 32 s.args.items.now w.new.dst _ s.requires.1 w.ensures
+returns c = part-copied (32 * c.args.at) 32 c.args.items.now _ _ c.requires.1 c.copy_from_slice.ensures.after

@@ -1,11 +1,7 @@
 -- `closing::masks::arrivals`: after w words the mask is `SoFar`, by `mask-more` where word w's value arrives. Assumes nothing.
-use Prim.Native.Nat.{◌-◌}
 use Rattle.closing.specs.Closing.{marked}
 use Rattle.closing.proofs.MaskLaws.{SoFar}
 use Rattle.closing.proofs.masks.arrivals.Given as goal
 
 abbrev pub invariant-loop-w : goal.invariant-loop-w
 invariant-loop-w l = SoFar (marked l.marks) l.t l.u l.w l.rank l.out
-
-abbrev pub decreases-loop-w : goal.decreases-loop-w
-decreases-loop-w l = 256 - l.w

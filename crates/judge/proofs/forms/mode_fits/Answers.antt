@@ -1,24 +1,23 @@
 -- `judge::forms::mode_fits`: by the tag. Assumes nothing.
 use borrow.Author.Tests.{eq-eqb, ne_eqb}
+use native.Mathlib.Omega.{arith}
 use Rattle.judge.specs.Instructions.{instruction_at}
 use Rattle.judge.proofs.forms.mode_fits.Goals as goal
 
-pub returns-then-tag-eq-TAG_GIVEN : goal.returns-then-tag-eq-TAG_GIVEN
+pub returns-in-1 : goal.returns-in-1
 unfolding instruction_at
-returns-then-tag-eq-TAG_GIVEN c = simp (eq-eqb _ 1 c.if-tag-eq-TAG_GIVEN.true)
+returns-in-1 c = simp (eq-eqb _ 1 c.in-1.is)
 
-pub returns-then-tag-eq-TAG_A : goal.returns-then-tag-eq-TAG_A
+pub returns-in-2 : goal.returns-in-2
 unfolding instruction_at
-returns-then-tag-eq-TAG_A c = simp (ne_eqb _ 1 c.if-tag-eq-TAG_GIVEN.false, eq-eqb _ 2 c.if-tag-eq-TAG_A.true)
+returns-in-2 c = simp c.in-2.is
 
-pub returns-then-tag-eq-TAG_B : goal.returns-then-tag-eq-TAG_B
+pub returns-in-3 : goal.returns-in-3
 unfolding instruction_at
-returns-then-tag-eq-TAG_B c =
-    let d = c in
-    simp (ne_eqb _ 1 d.if-tag-eq-TAG_GIVEN.false, ne_eqb _ 2 d.if-tag-eq-TAG_A.false, eq-eqb _ 3 c.if-tag-eq-TAG_B.true)
+returns-in-3 c = simp c.in-3.is
 
-pub returns : goal.returns
+pub returns-in_default : goal.returns-in_default
 unfolding instruction_at
-returns c =
-    let d = c in
-    simp (ne_eqb _ 1 d.if-tag-eq-TAG_GIVEN.false, ne_eqb _ 2 d.if-tag-eq-TAG_A.false, ne_eqb _ 3 c.if-tag-eq-TAG_B.false)
+returns-in_default c =
+    let t = (instruction_at c.args.list.now c.args.k).tag in
+    simp (ne_eqb t 1 (λ e. omega arith), ne_eqb t 2 (λ e. omega arith), ne_eqb t 3 (λ e. omega arith))

@@ -4,14 +4,10 @@ use Rattle.judge.proofs.FormLaws.{code-found, code-lost}
 use Rattle.judge.proofs.rows.shift_fault.Goals as goal
 
 pub returns-then-is_code : goal.returns-then-is_code
-returns-then-is_code c =
-    let a = c.args in
-    code-found a.code a.behind (sym c.is_code.ensures ∙ c.if-is_code.true)
+returns-then-is_code c = code-found c.args.code _ (sym c.is_code.ensures ∙ c.if-is_code.true)
 
 pub unlisted-requires : goal.unlisted-requires
 unlisted-requires c = sym c.is_code.ensures ∙ c.if-is_code.false
 
 pub returns : goal.returns
-returns c =
-    let a = c.args in
-    code-lost a.code a.behind _ (sym c.is_code.ensures ∙ c.if-is_code.false) c.unlisted.ensures
+returns c = code-lost c.args.code _ _ (sym c.is_code.ensures ∙ c.if-is_code.false) c.unlisted.ensures

@@ -1,16 +1,16 @@
--- `wording::head`: one answer for each branch, by what its tests said and its calls gave.
-use borrow.Author.Tests.{eq-eqb, le-ltb, lt-ltb, ne_eqb}
+-- `wording::head`: the name stands before the table's last, and what its kind goes on with.
+use Rattle.std.proofs.Common.{◌≡◌, ◌<◌, arith}
+use Rattle.std.proofs.lemmas.Grind.{common_steps}
+use borrow.Author.Tests.{lt-ltb}
+use Rattle.spelling.specs.Tables.{heads}
+use Rattle.bits.specs.Search.{index_of}
+use Rattle.spelling.proofs.FindLaws.{index_of_found}
 use Rattle.lines.specs.Worded.{head_word}
 use Rattle.lines.proofs.wording.head.Goals as goal
 
-pub returns-then-k-lt7 : goal.returns-then-k-lt7
+pub returns-in-Some : goal.returns-in-Some
 unfolding head_word
-returns-then-k-lt7 c = simp (← c.find-k.ensures, lt-ltb _ _ c.if-k-lt7.true, c.after_head.ensures, c.of_kind.ensures, c.line.ensures)
-
-pub returns-then-k-eq7 : goal.returns-then-k-eq7
-unfolding head_word
-returns-then-k-eq7 c = simp (← c.find-k.ensures, le-ltb _ _ c.if-k-lt7.false, eq-eqb _ _ c.if-k-eq7.true, c.of_kind-then-k-eq7.ensures, c.line-then-k-eq7.ensures)
-
-pub returns : goal.returns
-unfolding head_word
-returns c = simp (← c.find-k.ensures, le-ltb _ _ c.if-k-lt7.false, ne_eqb _ _ c.if-k-eq7.false, c.of_kind-2.ensures, c.line-2.ensures)
+returns-in-Some c =
+    let e : index_of c.args.w heads ≡ c.in-Some.k = grind (arith, common_steps, index_of_found) in
+    let h : c.in-Some.k < 7 = grind (arith, common_steps) in
+    simp (e, lt-ltb _ _ h, c.after_head.ensures, c.of_kind-in-Some.ensures, c.line-in-Some.ensures)

@@ -1,4 +1,4 @@
--- `byte_at`: the code is the definition, once the wide numbers are known; its range is that of the definition.
+-- `byte_at`: the code is the definition, once the numbers are widened; its range is that of the definition.
 use mathlib.Core.Path.{ap₂, sym, subst}
 use Prim.Native.Nat.{ℕ, ◌<◌}
 use lib.Bits.{bit_and, bit_xor}
@@ -9,5 +9,5 @@ use Rattle.memory.proofs.places.byte_at.Goals as goal
 pub returns : goal.returns
 returns c =
     let a = c.args in
-    let e = ap₂ (λ (x y : ℕ). bit_xor x (bit_and y a.k)) c.wide.ensures c.wide-2.ensures in
+    let e = ap₂ (λ (x y : ℕ). bit_xor x (bit_and y a.k)) c.from.ensures c.from-2.ensures in
     (e, subst (λ (x : ℕ). x < 32) (sym e) (byte_at-lt a.mode a.addr a.k (omega arith) (omega arith)))

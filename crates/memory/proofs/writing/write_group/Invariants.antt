@@ -1,13 +1,10 @@
 -- `write_group`: each turn is one write more.
 use mathlib.Core.Path.{◌≡◌}
-use Prim.Native.Nat.{◌≤◌, ◌-◌, ◌+◌, ◌*◌}
+use Prim.Native.Nat.{◌+◌, ◌*◌}
 use lib.ListN.{length, get_or}
 use Rattle.bits.specs.Steps.{written}
 use Rattle.memory.specs.Groups.{renewed}
 use Rattle.memory.proofs.writing.write_group.Given as goal
 
 abbrev pub invariant-loop-t : goal.invariant-loop-t
-invariant-loop-t l = (l.t ≤ 8) × (length l.mem ≡ 8192) × (l.mem ≡ written (λ n. 32 * (8 * l.k + n) + l.at) (λ n o. renewed o (get_or l.keep (32 * n + l.j) 0) (get_or l.put (32 * n + l.i) 0)) l.initial.mem l.t)
-
-abbrev pub decreases-loop-t : goal.decreases-loop-t
-decreases-loop-t l = 8 - l.t
+invariant-loop-t l = (length l.mem ≡ 8192) × (l.mem ≡ written (λ n. 32 * (8 * l.k + n) + l.at) (λ n o. renewed o (get_or l.keep (32 * n + l.j) 0) (get_or l.put (32 * n + l.i) 0)) l.initial.mem l.t)

@@ -1,23 +1,18 @@
 -- `acting::keep`: by its kind. Assumes nothing.
 use mathlib.Core.Path.{◌∙◌}
 use borrow.Author.Tests.{eq-eqb, ne_eqb}
+use native.Mathlib.Omega.{arith}
 use Rattle.module.specs.Act.{mem_after}
-use borrow.Author.Rules.{rules}
 use Rattle.module.proofs.acting.keep.Goals as goal
 
-pub returns-then-i-eq-STORE : goal.returns-then-i-eq-STORE
+pub returns-in-2 : goal.returns-in-2
 unfolding mem_after
-returns-then-i-eq-STORE c = c.store.ensures ∙ simp (eq-eqb _ _ c.if-i-eq-STORE.true)
+returns-in-2 c = c.store.ensures ∙ simp (eq-eqb _ _ c.in-2.is)
 
-pub store_masked-requires : goal.store_masked-requires
-store_masked-requires c = search rules
-
-pub returns-then-i-eq-MASKED_STORE : goal.returns-then-i-eq-MASKED_STORE
+pub returns-in-3 : goal.returns-in-3
 unfolding mem_after
-returns-then-i-eq-MASKED_STORE c =
-    c.store_masked.ensures
-    ∙ simp (ne_eqb _ _ c.if-i-eq-STORE.false, eq-eqb _ _ c.if-i-eq-MASKED_STORE.true)
+returns-in-3 c = c.store_masked.ensures ∙ simp (ne_eqb c.args.i.kind 2 (λ e. omega arith), eq-eqb _ _ c.in-3.is)
 
-pub returns-else-i-eq-MASKED_STORE : goal.returns-else-i-eq-MASKED_STORE
+pub returns-in_default : goal.returns-in_default
 unfolding mem_after
-returns-else-i-eq-MASKED_STORE c = simp (ne_eqb _ _ c.if-i-eq-STORE.false, ne_eqb _ _ c.if-i-eq-MASKED_STORE.false)
+returns-in_default c = simp (ne_eqb c.args.i.kind 2 (λ e. omega arith), ne_eqb c.args.i.kind 3 (λ e. omega arith))

@@ -5,6 +5,4 @@ use Rattle.module.proofs.PartLaws.{part-put}
 use Rattle.module.proofs.acting.put_out.Goals as goal
 
 pub returns : goal.returns
-returns c =
-    let a = c.args in
-    part-put a.out.now a.given _ ∙ ap (put_part a.out.now a.given) c.copy.ensures
+returns c = let a = c.args in part-put a.out.now a.given _ ∙ ap (put_part a.out.now a.given) c.copy_from_slice.ensures.after

@@ -1,10 +1,8 @@
--- `codes::is_code`: found below 37 is permitted, by definition.
-use mathlib.Core.Path.{ap}
-use Prim.Native.Nat.{ℕ}
-use lib.Dec.{ltb}
-use Rattle.network.specs.Shifts.{permitted}
+-- `codes::is_code`: it is found exactly where it is permitted.
+use mathlib.Core.Path.{ap, ◌∙◌}
+use Rattle.std.specs.Option.{is_some}
+use Rattle.network.proofs.TableRules.{found-test}
 use Rattle.network.proofs.codes.is_code.Goals as goal
 
 pub returns : goal.returns
-unfolding permitted
-returns c = ap (λ (x : ℕ). ltb x 37) c.find.ensures
+returns c = c.is_some.ensures ∙ ap is_some c.find.ensures ∙ found-test c.args.code

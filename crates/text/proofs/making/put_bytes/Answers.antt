@@ -1,11 +1,14 @@
--- `making::put_bytes`: one part, and the other behind it.
-use mathlib.Core.Path.{refl}
+-- `making::put_bytes`: the part that was lent came back as the eight bytes.
+use mathlib.Core.Path.{refl, ap, ◌∙◌}
+use mathlib.Core.List.{List}
+use Prim.Native.Nat.{ℕ, ◌+◌, ◌-◌}
+use borrow.Rule.Slice.PartMut.{put_mid}
+use Rattle.lines.specs.Alone.{bytes_of}
 use native.Mathlib.Omega.{arith}
-use Rattle.bits.proofs.Puts.{then-put}
+use Rattle.bits.proofs.Puts.{part-put}
 use Rattle.text.proofs.making.put_bytes.Goals as goal
 
 pub returns : goal.returns
 returns c =
-    let p = c.put_four-next in
-    let q = c.put_four in
-    (omega (arith, p.ensures.0, q.ensures.0), then-put (omega arith) p.ensures.1 q.ensures.1 refl)
+    let a = c.args in
+    record { behind = refl; left = ap (λ (l : List ℕ). put_mid a.at (a.at + 8 - a.at) a.out.now l) c.copy_from_slice.ensures.after ∙ part-put a.at (a.at + 8) a.out.now (bytes_of a.i) (omega arith) }

@@ -17,19 +17,16 @@ loop-k-init c =
     let a = c.args in
     let z : a.n - 0 ≡ a.n = omega arith in
     let e = ap (λ (m : ℕ). shown_from a.list.now 0 m) z in
-    (omega arith, refl, omega (arith, ap length e), c.none_set-modes.ensures, λ last final q. subst (λ (x : List ℕ). Put 0 x a.text.now last final) e q)
-
-pub decode-i-requires : goal.decode-i-requires
-decode-i-requires c = omega (arith, c.requires.0, c.loop-k-test.true)
+    (refl, omega (arith, ap length e), c.none_set-modes.ensures, λ last final q. subst (λ (x : List ℕ). Put 0 x a.text.now last final) e q)
 
 pub put_instruction-next-requires : goal.put_instruction-next-requires
 put_instruction-next-requires c =
     let l = c.loop-k in
     let a = c.args in
     let list = a.list.now in
-    let same = ap length (line-is list l.k l.invariant.3 c.decode-i.ensures) in
+    let same = ap length (line-is list l.k l.invariant.2 c.decode-i.ensures) in
     let more = ap length (shown-more list a.n l.k (omega arith)) ∙ length-append (shown_at list l.k) (shown_from list (l.k + 1) (a.n - (l.k + 1))) in
-    omega (arith, same, more, l.invariant.2)
+    omega (arith, same, more, l.invariant.1)
 
 pub loop-k-preserved : goal.loop-k-preserved
 loop-k-preserved c =
@@ -41,18 +38,17 @@ loop-k-preserved c =
     let i = d.decode-i.ensures in
     let shown = shown-more list a.n l.k (omega arith) in
     let put : Put l.next (shown_at list l.k) l.text p.result p.new.text =
-    subst (λ (x : List ℕ). Put l.next x l.text p.result p.new.text) (line-is list l.k l.invariant.3 i) p.ensures in
+    subst (λ (x : List ℕ). Put l.next x l.text p.result p.new.text) (line-is list l.k l.invariant.2 i) p.ensures in
     let more = ap length shown ∙ length-append (shown_at list l.k) (shown_from list (l.k + 1) (a.n - (l.k + 1))) in (
-      omega arith,
-      p.auto.text ∙ l.invariant.1,
-      omega (arith, more, put.behind, p.auto.text, l.invariant.2),
-      modes-next list l.k l.invariant.3 i c.settle-settled.ensures,
-      λ e final q. l.invariant.4 e final (then-put (omega (arith, l.invariant.2)) put q (sym shown)),
+      p.auto.text ∙ l.invariant.0,
+      omega (arith, more, put.behind, p.auto.text, l.invariant.1),
+      modes-next list l.k l.invariant.2 i c.settle.ensures,
+      λ e final q. l.invariant.3 e final (then-put (omega (arith, l.invariant.1)) put q (sym shown)),
     )
 
 pub returns : goal.returns
 returns c =
     let a = c.args in
     let l = c.loop-k in
-    l.invariant.4 l.next l.text
+    l.invariant.3 l.next l.text
     (subst (λ (x : List ℕ). Put l.next x l.text l.next l.text) (sym (shown-end a.list.now a.n l.k (omega arith))) (none-put l.next l.text))

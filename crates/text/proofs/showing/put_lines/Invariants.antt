@@ -10,8 +10,5 @@ use Rattle.text.specs.Show.{shown_from}
 use Rattle.text.proofs.showing.put_lines.Given as goal
 
 abbrev pub invariant-loop-k : goal.invariant-loop-k
-invariant-loop-k l = (l.k ≤ l.n) × (length l.text ≡ length l.initial.text) × (l.next + length (shown_from l.list l.k (l.n - l.k)) ≤ length l.text) × (l.modes ≡ modes_after l.list none_set l.k)
+invariant-loop-k l = (length l.text ≡ length l.initial.text) × (l.next + length (shown_from l.list l.k (l.n - l.k)) ≤ length l.text) × (l.modes ≡ modes_after l.list none_set l.k)
     × ((e : ℕ) (final : List ℕ) → Put l.next (shown_from l.list l.k (l.n - l.k)) l.text e final → Put 0 (shown_from l.list 0 l.n) l.initial.text e final)
-
-abbrev pub decreases-loop-k : goal.decreases-loop-k
-decreases-loop-k l = l.n - l.k

@@ -15,7 +15,7 @@ unfolding shown_text
 returns-then-unfit c =
     let a = c.args in
     let given = unfitting a.list.now a.text.now (sym c.unfit.ensures ∙ c.if-unfit.true) in
-    record { answer = c.shown.ensures ∙ sym given.0; text = sym given.1 }
+    record { answer = sym given.0; text = sym given.1 }
 
 pub returns-then-text-size : goal.returns-then-text-size
 unfolding shown_text
@@ -24,7 +24,7 @@ returns-then-text-size c =
     let a = size.args in
     let given =
     too_short a.list.now a.text.now (sym size.unfit.ensures ∙ size.if-unfit.false) (omega (arith, size.text_size-size.ensures, c.if-text-size.true)) in
-    record { answer = c.shown-then-text-size.ensures ∙ sym given.0; text = sym given.1 }
+    record { answer = sym given.0; text = sym given.1 }
 
 pub returns : goal.returns
 unfolding shown_text
@@ -34,13 +34,13 @@ returns c =
     let a = size.args in
     let list = a.list.now in
     let out = a.text.now in
-    let whole = put_whole c.put_lines-end.ensures in
-    let given = done list out (sym size.unfit.ensures ∙ size.if-unfit.false) (omega (arith, size.text_size-size.ensures, test.if-text-size.false)) in record { answer = c.shown-2.ensures ∙ ap (λ (x : ℕ). shown_as 0 x) whole.0 ∙ sym given.0; text = whole.1 ∙ ap (λ (x : ℕ). shown_text list ++ drop x out) whole.0 ∙ sym given.1 }
+    let whole = put_whole c.put_lines.ensures in
+    let given = done list out (sym size.unfit.ensures ∙ size.if-unfit.false) (omega (arith, size.text_size-size.ensures, test.if-text-size.false)) in record { answer = ap (λ (x : ℕ). shown_as 0 x) whole.0 ∙ sym given.0; text = whole.1 ∙ ap (λ (x : ℕ). shown_text list ++ drop x out) whole.0 ∙ sym given.1 }
 
 pub text_size-size-requires : goal.text_size-size-requires
 text_size-size-requires c =
     let most = fit-size 8 (length c.args.list.now) (sym c.unfit.ensures ∙ c.if-unfit.false) in
     (omega arith, omega (arith, most))
 
-pub put_lines-end-requires : goal.put_lines-end-requires
-put_lines-end-requires c = (omega arith, omega (arith, c.text_size-size.ensures, c.if-text-size.false))
+pub put_lines-requires : goal.put_lines-requires
+put_lines-requires c = (omega arith, omega (arith, c.text_size-size.ensures, c.if-text-size.false))

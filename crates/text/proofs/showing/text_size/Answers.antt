@@ -13,10 +13,7 @@ unfolding modes_after
 loop-k-init c =
     let a = c.args in
     let z : a.n - 0 ≡ a.n = omega arith in
-    (omega arith, c.none_set-modes.ensures, omega arith, omega (arith, ap (λ (m : ℕ). length (shown_from a.list.now 0 m)) z))
-
-pub decode-i-requires : goal.decode-i-requires
-decode-i-requires c = omega (arith, c.requires.0, c.loop-k-test.true)
+    (c.none_set-modes.ensures, omega arith, omega (arith, ap (λ (m : ℕ). length (shown_from a.list.now 0 m)) z))
 
 pub loop-k-preserved : goal.loop-k-preserved
 loop-k-preserved c =
@@ -26,12 +23,12 @@ loop-k-preserved c =
     let list = a.list.now in
     let size = c.line_size-total in
     let i = d.decode-i.ensures in
-    let same = ap length (line-is list l.k l.invariant.1 i) in
+    let same = ap length (line-is list l.k l.invariant.0 i) in
     let more = ap length (shown-more list a.n l.k (omega arith)) ∙ length-append (shown_at list l.k) (shown_from list (l.k + 1) (a.n - (l.k + 1))) in
-    (omega arith, modes-next list l.k l.invariant.1 i c.settle-settled.ensures, omega (arith, size.ensures.0), omega (arith, size.ensures.1, same, more, l.invariant.3))
+    (modes-next list l.k l.invariant.0 i c.settle.ensures, omega (arith, size.ensures.0), omega (arith, size.ensures.1, same, more, l.invariant.2))
 
 pub returns : goal.returns
 returns c =
     let a = c.args in
     let l = c.loop-k in
-    omega (arith, ap length (shown-end a.list.now a.n l.k (omega arith)), l.invariant.3)
+    omega (arith, ap length (shown-end a.list.now a.n l.k (omega arith)), l.invariant.2)

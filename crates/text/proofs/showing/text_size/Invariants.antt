@@ -8,7 +8,4 @@ use Rattle.text.specs.Show.{shown_from}
 use Rattle.text.proofs.showing.text_size.Given as goal
 
 abbrev pub invariant-loop-k : goal.invariant-loop-k
-invariant-loop-k l = (l.k ≤ l.n) × (l.modes ≡ modes_after l.list none_set l.k) × (l.total ≤ 192 * l.k) × (l.total + length (shown_from l.list l.k (l.n - l.k)) ≡ length (shown_from l.list 0 l.n))
-
-abbrev pub decreases-loop-k : goal.decreases-loop-k
-decreases-loop-k l = l.n - l.k
+invariant-loop-k l = (l.modes ≡ modes_after l.list none_set l.k) × (l.total ≤ 192 * l.k) × (l.total + length (shown_from l.list l.k (l.n - l.k)) ≡ length (shown_from l.list 0 l.n))

@@ -1,12 +1,8 @@
 -- `gather_word`: each turn is one lane more, whose digits stand where they belong.
 use mathlib.Core.Path.{◌≡◌}
-use Prim.Native.Nat.{◌≤◌, ◌-◌}
 use Rattle.bits.specs.Bits.{listed, digits_of}
 use Rattle.memory.specs.Groups.{line_digit}
 use Rattle.words.proofs.ordering.gather_word.Given as goal
 
 abbrev pub invariant-loop-j : goal.invariant-loop-j
-invariant-loop-j l = (l.j ≤ 8) × (l.out ≡ listed (λ i. digits_of (line_digit l.bytes 255 l.addr i) l.j) 32)
-
-abbrev pub decreases-loop-j : goal.decreases-loop-j
-decreases-loop-j l = 8 - l.j
+invariant-loop-j l = (l.out ≡ listed (λ i. digits_of (line_digit l.bytes 255 l.addr i) l.j) 32)

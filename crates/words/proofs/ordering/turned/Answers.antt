@@ -11,19 +11,17 @@ use Rattle.words.proofs.ordering.turned.Goals as goal
 
 pub loop-a-init : goal.loop-a-init
 unfolding listed
-loop-a-init c = (omega arith, refl, refl)
+loop-a-init c = (refl, refl)
 
 pub loop-a-preserved : goal.loop-a-preserved
 loop-a-preserved c =
-    let s = c in
     let l = c.loop-a in
-    let g = c.gather_word-row in
-    let w = c.copy in (
-      omega arith,
-      same_len_mid (32 * l.a) (32 * l.a + 32 - 32 * l.a) l.out w.new.dst w.auto.dst ∙ l.invariant.1,
-      turned_more s.args.bytes.now l.a l.out _ (omega arith) l.invariant.1 l.invariant.2 (w.ensures ∙ g.ensures),
+    let g = c.gather_word in
+    let w = c.copy_from_slice in (
+      same_len_mid (32 * l.a) (32 * l.a + 32 - 32 * l.a) l.out w.new.self w.auto.self ∙ l.invariant.0,
+      turned_more c.args.bytes.now l.a l.out _ (omega arith) l.invariant.0 l.invariant.1 (w.ensures.after ∙ g.ensures),
     )
 
 pub returns : goal.returns
 unfolding turned
-returns c = fill_done _ c.loop-a.out 256 _ c.loop-a.invariant.1 (omega arith) c.loop-a.invariant.2
+returns c = fill_done _ c.loop-a.out 256 _ c.loop-a.invariant.0 (omega arith) c.loop-a.invariant.1
