@@ -9,20 +9,27 @@ use lib.Dec.{eqb, ltb}
 use mir.Val.{bool_byte}
 use lib.ListN.{length}
 use borrow.Author.Tests.{ltb-true, ltb-false}
+use Rattle.std.specs.Prelude.{Result}
+use Rattle.std.specs.Result.{is_err, IsErr}
 use Rattle.bits.specs.declared.refusals.Refusal.{Refusal}
 use Rattle.bits.specs.Refusals.{number_of_refusal}
 use Rattle.bits.proofs.RefusalLaws.{number-never-zero}
 use Rattle.bits.specs.Search.{first, count}
-use Rattle.bits.proofs.Search.{NoneBelow, found, found_none, found_at, none_found, count-more}
+use Rattle.bits.proofs.Search.{NoneBelow, found, found_none, found_at, none_found, found-le, count-more}
 use Rattle.registers.specs.declared.Modes.{Modes}
 use Rattle.judge.specs.declared.Instruction.{Instruction}
 use Rattle.judge.specs.declared.Lengths.{Lengths}
-use Rattle.judge.specs.Answers.{Fault, Answer}
-use Rattle.judge.specs.Instructions.{instruction_at}
-use Rattle.judge.specs.Judge.{lacks, fault_at, faulty, refusal, or_else, judged_alone, judged_list, done}
+use Rattle.judge.specs.declared.Fault.{Fault as Wrong}
+use Rattle.judge.specs.declared.Tally.{Tally}
+use Rattle.judge.specs.Answers.{Fault, Answer, fault_given}
+use Rattle.judge.specs.Instructions.{instruction_at, takes, gives}
+use Rattle.judge.specs.Modes.{modes_after}
+use Rattle.judge.specs.Judge.{lacks, fault_of, fault_at, faulty, refusal, or_else, judged_alone, judged_list, done}
+use Rattle.judge.specs.Steps.{tally_of}
 use Rattle.judge.specs.Numbers.{Served}
 use Rattle.judge.proofs.Numbers.{has-it, it-has, bad_at, alone-bad, alone-formed, list-bad}
 use Rattle.judge.proofs.Accepted.{count_fits}
+use Rattle.judge.proofs.Given.{fault-numberless}
 
 -- a test as the code counts it
 pub counts : (b : Bool) → bool_byte b ≡ cond b 1 0
@@ -84,6 +91,35 @@ module _ (modes : Modes) (list : List ℕ) where
   abbrev size : ℕ
   size = length list / 8
 
+  -- the first instruction that has a number, or how many there are
+  abbrev stop : ℕ
+  stop = first (faulty modes list) 0 (length list / 8)
+
+  pub tally-is : (k taken given : ℕ) (after : Modes) → k ≡ stop → taken ≡ before takes list k → given ≡ before gives list k → after ≡ modes_after list modes k
+      → ◌≡◌ {A = Tally} (record { place = k; taken = taken; given = given; modes = after }) (tally_of modes list)
+  unfolding tally_of
+  tally-is k taken given after e p q r =
+      λ j. record { place = e j; taken = (p ∙ ap (before takes list) e) j; given = (q ∙ ap (before gives list) e) j; modes = (r ∙ ap (modes_after list modes) e) j }
+
+  pub tally-place : (t : Tally) → t ≡ tally_of modes list → t.place ≡ stop
+  unfolding tally_of
+  tally-place t e = ap (λ (x : Tally). x.place) e
+
+  -- what is wrong at the place, by the mode registers that the walk has there
+  pub tally-fault : (t : Tally) → t ≡ tally_of modes list → (i : Instruction) → i ≡ instruction_at list t.place
+      → fault_of t.modes i ≡ fault_at modes list stop
+  unfolding tally_of
+  tally-fault t e i d = ap₂ fault_of (ap (λ (x : Tally). x.modes) e) (d ∙ ap (instruction_at list) (tally-place t e))
+
+  -- where no instruction has a number the counts are the whole list's
+  pub tally-whole : (t : Tally) → t ≡ tally_of modes list → length list / 8 ≤ t.place
+      → (length list / 8 ≤ stop) × (t.taken ≡ (done list).taken) × (t.given ≡ (done list).given)
+  unfolding tally_of
+  tally-whole t e h =
+      let p = tally-place t e in
+      let n : stop ≡ length list / 8 = omega (arith, found-le (faulty modes list) (length list / 8)) in
+      (omega arith, ap (λ (x : Tally). x.taken) e ∙ ap (before takes list) n, ap (λ (x : Tally). x.given) e ∙ ap (before gives list) n)
+
   -- what it gives back
   abbrev walk : Answer
   walk = or_else (judged_alone modes list) (done list)
@@ -103,6 +139,30 @@ module _ (modes : Modes) (list : List ℕ) where
   walk-ends none taken given p q =
       ap₂ {A = ℕ} {B = ℕ} {C = Answer} (λ (x y : ℕ). record { number = 0; place = 0; byte = 0; steps = size; taken = x; given = y }) p q
       ∙ sym (alone-formed (record { memory = 0; registers = 0; items = 0; out = 0 }) modes list (omega (arith, found_none (faulty modes list) size none)) (done list))
+
+  -- ---- and what the count makes of it
+
+  -- at its place is a fault
+  pub tally-faulty : (t : Tally) → t ≡ tally_of modes list → t.place < size → {A : Type 0} (r : Result A Wrong) → fault_given r ≡ fault_of t.modes (instruction_at list t.place) → IsErr r
+  tally-faulty t e h r f = go (is_err r) refl
+    where
+      go : (b : Bool) → is_err r ≡ b → is_err r ≡ true
+      go true q = q
+      go false q =
+          let none : (fault_at modes list stop).number ≡ 0 = ap (λ (x : Fault). x.number) (sym (f ∙ tally-fault t e _ refl)) ∙ fault-numberless r q in
+          absurd (true≢false (sym (found_at (faulty modes list) size (omega (arith, tally-place t e))) ∙ ap (λ (n : ℕ). not (eqb n 0)) none))
+
+  pub tally-stops : (t : Tally) → t ≡ tally_of modes list → t.place < size → (r : Refusal) (b : ℕ) → record { number = number_of_refusal r; byte = b } ≡ fault_of t.modes (instruction_at list t.place)
+      → refusal (number_of_refusal r) t.place b ≡ walk
+  tally-stops t e h r b f =
+      let p = tally-place t e in
+      walk-stops t.place h (λ j l. none_found (faulty modes list) size j (omega (arith, p))) r b (f ∙ tally-fault t e _ refl ∙ sym (ap (fault_at modes list) p))
+
+  pub tally-ends : (t : Tally) → t ≡ tally_of modes list → size ≤ t.place
+      → record { number = 0; place = 0; byte = 0; steps = size; taken = t.taken; given = t.given } ≡ walk
+  tally-ends t e h =
+      let w = tally-whole t e h in
+      walk-ends (λ j l. none_found (faulty modes list) size j (omega (arith, w.0))) t.taken t.given w.1 w.2
 
   -- a refusal of the walk is one of the list
   pub walk-refused : (l : Lengths) (a : Answer) → eqb a.number 0 ≡ false → a ≡ walk → a ≡ judged_list l modes list

@@ -13,7 +13,7 @@ ghost use Rattle.bits.specs.Refusals.{number_given};
 ghost use Rattle.judge.specs.Answers.{answer_of};
 ghost use Rattle.judge.specs.Kinds.{most_bytes};
 ghost use Rattle.judge.specs.Instructions.{instruction_at};
-ghost use Rattle.judge.specs.Judge.{unfit, run_rows, step_rows, judged_list, judged, judged_step};
+ghost use Rattle.judge.specs.Judge.{unfit, run_rows, step_rows, judged_alone, done, or_else, judged_list, judged, judged_step};
 
 use bits::refusals::Refusal;
 use registers::Modes;
@@ -99,6 +99,15 @@ impl From<Refusal> for Refused {
     }
 }
 
+// The first instruction that has a number, how many before it take an item and give one, and the mode registers before it.
+#[derive(Clone, Copy)]
+pub struct Tally {
+    pub place: usize,
+    pub taken: usize,
+    pub given: usize,
+    pub modes: Modes,
+}
+
 // Instruction `k` of a list.
 // A list and a number, here and wherever instructions are walked (`8 * k + 8 ≤ length list`): `instruction_at` is of both, and a chunk of 8 would have to be joined to it by a law at each use.
 pub fn decode(list: &[u8], k: usize) -> Instruction
@@ -168,24 +177,42 @@ fn step_lent(l: Lengths, m: Modes, instruction: &[u8]) -> Result<(), Refusal>
     Ok(())
 }
 
+// Each instruction in turn: the first that has a number refuses the list; what a list without one takes and gives is counted.
+fn judge_alone(m: Modes, list: &[u8]) -> Result<Done, Refused>
+    ensures { answer_of result ≡ or_else (judged_alone m list.now) (done list.now) }
+{
+    let n = list.len() / 8;
+    let tally = searches::tally(m, list);
+    let bad = tally.place;
+    if bad < n {
+        let fault = searches::fault_at(tally.modes, list, bad).unwrap_err();
+        return Err(fault.at(bad));
+    }
+    Ok(Done {
+        steps: n,
+        taken: tally.taken,
+        given: tally.given,
+    })
+}
+
 // Each instruction in turn; then 12; then 13. A list that stands is walked once: what all of it takes and gives is there exactly if each instruction
 // finds its own, so that only a list that lacks some is searched for the instruction.
 fn judge_list(l: Lengths, m: Modes, list: &[u8]) -> Result<Done, Refused>
     requires { length list.now ≤ most_bytes }
     ensures { answer_of result ≡ judged_list l m list.now }
 {
-    let done = searches::tally(m, list)?;
+    let done = judge_alone(m, list)?;
     if l.items < 32 * done.taken {
         return Err(Refused {
             why: Refusal::ItemsTooFew,
-            place: searches::shortage(|i| rows::takes(i), list, l.items),
+            place: searches::shortage(false, list, l.items),
             byte: 0,
         });
     }
     if l.out < 32 * done.given {
         return Err(Refused {
             why: Refusal::OutTooShort,
-            place: searches::shortage(|i| rows::gives(i), list, l.out),
+            place: searches::shortage(true, list, l.out),
             byte: 0,
         });
     }

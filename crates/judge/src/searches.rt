@@ -3,52 +3,56 @@ ghost use Rattle.std.specs.Prelude.{◌≡◌, Bool, ◌+◌, ◌*◌, ◌/◌, 
 ghost use Rattle.bits.specs.Search.{first};
 ghost use Rattle.judge.specs.declared.Instruction.{Instruction};
 ghost use Rattle.judge.specs.Kinds.{most_bytes};
-ghost use Rattle.judge.specs.Answers.{answer_of, fault_given};
+ghost use Rattle.judge.specs.Answers.{fault_given};
 ghost use Rattle.judge.specs.Instructions.{instruction_at};
-ghost use Rattle.judge.specs.Judge.{lacks, fault_of, judged_alone, done, or_else};
+ghost use Rattle.judge.specs.Judge.{lacks, uses, fault_of};
+ghost use Rattle.judge.specs.Steps.{tally_of};
 
 use crate::modes::modes_by;
-use crate::{Done, Fault, Instruction, Refused, decode, forms, rows};
+use crate::{Fault, Instruction, Tally, decode, forms, rows};
 use registers::Modes;
 
-// What is wrong with instruction `k`, if anything. Most stand, which the quick test says by itself.
-fn fault_at(m: Modes, list: &[u8], k: usize) -> Result<(), Fault>
+// What is wrong with instruction `k`, if anything.
+pub(crate) fn fault_at(m: Modes, list: &[u8], k: usize) -> Result<(), Fault>
     requires { 8 * k + 8 ≤ length list.now }
     ensures { fault_given result ≡ fault_of m (instruction_at list.now k) }
 {
-    if forms::stands(m, list, k) {
-        return Ok(());
-    }
     rows::fault(m, decode(list, k))
 }
 
-// Each instruction in turn: the first that has a number refuses the list; what a list without one takes and gives is counted. The mode registers are carried along as a run would.
-pub fn tally(m: Modes, list: &[u8]) -> Result<Done, Refused>
-    ensures { answer_of result ≡ or_else (judged_alone m list.now) (done list.now) }
+// The first instruction that has a number, or how many there are, what those before it take and give, and what they make of the mode registers, which are carried along as a run would.
+pub fn tally(m: Modes, list: &[u8]) -> Tally
+    ensures { result ≡ tally_of m list.now }
 {
     let n = list.len() / 8;
     let mut modes = m;
     let mut taken: usize = 0;
     let mut given: usize = 0;
     for k in 0..n {
-        if let Err(fault) = fault_at(modes, list, k) {
-            return Err(fault.at(k));
+        if !forms::stands(modes, list, k) {
+            return Tally {
+                place: k,
+                taken,
+                given,
+                modes,
+            };
         }
         let i = decode(list, k);
         modes = modes_by(i, modes);
         taken += usize::from(rows::takes(i));
         given += usize::from(rows::gives(i));
     }
-    Ok(Done {
-        steps: n,
+    Tally {
+        place: n,
         taken,
         given,
-    })
+        modes,
+    }
 }
 
 // The first instruction that wants its room, or its item, and lacks it in a buffer of `have` bytes, or how many there are.
 // How many there are for none, as `first` of specs/Search says it: it is called only where there is one.
-pub fn shortage<F: Fn(Instruction) -> bool>(wants: F, list: &[u8], have: usize) -> usize
+fn shortage_of<F: Fn(Instruction) -> bool>(wants: F, list: &[u8], have: usize) -> usize
     requires callable { F.IsAlwaysCallable wants }
     requires size { length list.now ≤ most_bytes }
     ensures { (uses : Instruction → Bool) → ((i : Instruction) (w : Bool) → F.post wants i w → w ≡ uses i) →
@@ -64,4 +68,16 @@ pub fn shortage<F: Fn(Instruction) -> bool>(wants: F, list: &[u8], have: usize) 
         used += usize::from(u);
     }
     n
+}
+
+// The first instruction that lacks its room, or its item, in a buffer of `have` bytes, or how many there are.
+pub fn shortage(room: bool, list: &[u8], have: usize) -> usize
+    requires { length list.now ≤ most_bytes }
+    ensures { result ≡ first (lacks (uses room) list.now have) 0 (length list.now / 8) }
+{
+    if room {
+        shortage_of(|i| rows::gives(i), list, have)
+    } else {
+        shortage_of(|i| rows::takes(i), list, have)
+    }
 }

@@ -241,8 +241,8 @@ module _ {M : Type 1} {𝓤 : Ura M} (𝓛 : Logic 𝓤) (memory : Memory → SP
         fault = converted 𝓤 (λ κs r e. fault_given r) fault_back _ (λ κs r e. fault-back r) (λ κs a g r e. refl);
         takes = equation 𝓤 _ (λ κs a g r e. refl);
         gives = equation 𝓤 _ (λ κs a g r e. refl);
-        tally = converted 𝓤 (λ κs r e. answer_of r) answer_back _ (λ κs r e. answer-back r) (λ κs a g r e. refl);
-        shortage = λ F h d₁ d₂ d₃ d₄ uses computes. record { told = _; tells = λ κs a g r e. fact_mono 𝓤 _ _ (λ k. k uses (λ i w. computes a.0 (i, _) w)) };
+        tally = equation 𝓤 _ (λ κs a g r e. refl);
+        shortage = equation 𝓤 _ (λ κs a g r e. refl);
       }
 
   of-builders : OfBuilders 𝓛 memory runs

@@ -1,6 +1,6 @@
 -- One outcome: of every function that another crate can name, "the answer, and every lent byte afterwards, can be computed from the input, refused calls too". Document 01, Tightness of the contracts.
 -- A field says it of the function's contract as the check reads it from the source, `NAME.clauses`, so that a clause that leaves anything open is refused in proofs/Uniqueness.antt, which proves them all. Public entries first, then the library, the program and the inner functions by crate. Assumes nothing.
-use Rattle.std.specs.Prelude.{◌≡◌, Bool, List, ℕ, Result}
+use Rattle.std.specs.Prelude.{◌≡◌, List, ℕ, Result}
 use seplogic.Ra.Ura.{Ura}
 use base.Logic.{SProp, ent, sep}
 use prog.Memory.{Memory}
@@ -75,7 +75,6 @@ use Rattle.builders.specs.contracts.writing.put as put
 use Rattle.builders.specs.contracts.writing.put_all as put_all
 use Rattle.builders.specs.contracts.writing.put_item as put_item
 use Rattle.registers.specs.declared.Registers.{Registers}
-use Rattle.judge.specs.declared.Instruction.{Instruction}
 use Rattle.judge.specs.declared.Done.{Done}
 use Rattle.judge.specs.declared.Refused.{Refused}
 use Rattle.module.specs.Run.{Left}
@@ -323,10 +322,7 @@ module _ {M : Type 1} {𝓤 : Ura M} (𝓛 : Logic 𝓤) (memory : Memory → SP
     pub takes : OneOutcome 𝓤 takes.ended (takes.clauses 𝓛 memory runs) (λ κs r e. r)
     pub gives : OneOutcome 𝓤 gives.ended (gives.clauses 𝓛 memory runs) (λ κs r e. r)
     pub tally : OneOutcome 𝓤 tally.ended (tally.clauses 𝓛 memory runs) (λ κs r e. r)
-    -- whatever it is asked of an instruction, where that is computed
-    pub shortage : (F : RattleType) (h : record { pre : F.Denot → Instruction × Unit {0} → Type 0; post : F.Denot → Instruction × Unit {0} → Bool → Type 0; steps : F.Denot → Instruction × Unit {0} → Bool → F.Denot → Type 0 }) (d₁ : _) (d₂ : _) (d₃ : _) (d₄ : _)
-        (uses : Instruction → Bool) → ((f : F.Denot) (x : Instruction × Unit {0}) (w : Bool) → h.post f x w → w ≡ uses x.0)
-        → OneOutcome 𝓤 (shortage.ended F h d₁ d₂ d₃ d₄) (shortage.clauses F h d₁ d₂ d₃ d₄ 𝓛 memory runs) (λ κs r e. r)
+    pub shortage : OneOutcome 𝓤 shortage.ended (shortage.clauses 𝓛 memory runs) (λ κs r e. r)
 
   -- `builders`
   pub record OfBuilders : Type 2 where

@@ -3,7 +3,6 @@ use mathlib.Core.Path.{refl, sym, ap, ◌∙◌}
 use Prim.Native.Nat.{ℕ, ◌/◌}
 use native.Mathlib.Omega.{arith}
 use lib.ListN.{length}
-use Rattle.std.proofs.Common.{rules}
 use Rattle.bits.proofs.RefusalLaws.{number-never-zero}
 use Rattle.bits.proofs.Search.{count-le}
 use Rattle.judge.specs.Answers.{Answer}
@@ -30,7 +29,7 @@ returns-then-l-done c =
     let list = a.list.now in
     let w = walk-done a.m list a.l _ refl c.in_ok-done.ensures in
     let l = lacking takes list a.l.items (length list / 8) (omega (arith, ap (λ (a : Answer). a.taken) w.1)) in
-    ap (λ (k : ℕ). refusal 12 k 0) (c.shortage.ensures takes (λ i w h. search rules)) ∙ sym (list-item a.l a.m list w.0 l)
+    ap (λ (k : ℕ). refusal 12 k 0) c.shortage.ensures ∙ sym (list-item a.l a.m list w.0 l)
 
 pub overflow_mul-done-2 : goal.overflow_mul-done-2
 overflow_mul-done-2 c =
@@ -45,7 +44,7 @@ returns-then-l-done-2 c =
     let w = walk-done a.m list a.l _ refl c.in_ok-done.ensures in
     let f = enough takes list a.l.items (length list / 8) (omega (arith, ap (λ (a : Answer). a.taken) w.1)) in
     let l = lacking gives list a.l.out (length list / 8) (omega (arith, ap (λ (a : Answer). a.given) w.1)) in
-    ap (λ (k : ℕ). refusal 13 k 0) (c.shortage-then-l-done-2.ensures gives (λ i w h. search rules)) ∙ sym (list-room a.l a.m list w.0 f l)
+    ap (λ (k : ℕ). refusal 13 k 0) c.shortage-then-l-done-2.ensures ∙ sym (list-room a.l a.m list w.0 f l)
 
 pub returns : goal.returns
 returns c =

@@ -1,4 +1,4 @@
--- `judge::searches::shortage`: none of the instructions passed lacks what it wants, and those that want some were counted. Assumes nothing.
+-- `judge::searches::shortage_of`: none of the instructions passed lacks what it wants, and those that want some were counted. Assumes nothing.
 use mathlib.Core.Path.{◌≡◌}
 use mathlib.Core.Bool.{Bool}
 use Prim.Native.Nat.{◌≤◌}
@@ -7,7 +7,7 @@ use Rattle.bits.proofs.Search.{NoneBelow}
 use Rattle.judge.specs.declared.Instruction.{Instruction}
 use Rattle.judge.specs.Instructions.{instruction_at}
 use Rattle.judge.specs.Judge.{lacks}
-use Rattle.judge.proofs.searches.shortage.Given as goal
+use Rattle.judge.proofs.searches.shortage_of.Given as goal
 
 abbrev pub invariant-loop-k : goal.invariant-loop-k
 invariant-loop-k g l = (l.used ≤ l.k)
