@@ -12,7 +12,7 @@ use crate::modes::modes_by;
 use crate::{Fault, Instruction, Tally, decode, forms, rows};
 use registers::Modes;
 
-// What is wrong with instruction `k`, if anything.
+// What is wrong with instruction `k`, if anything. Only the one that refuses a list is asked this: the quick test passes the others.
 pub(crate) fn fault_at(m: Modes, list: &[u8], k: usize) -> Result<(), Fault>
     requires { 8 * k + 8 ≤ length list.now }
     ensures { fault_given result ≡ fault_of m (instruction_at list.now k) }
@@ -71,6 +71,7 @@ fn shortage_of<F: Fn(Instruction) -> bool>(wants: F, list: &[u8], have: usize) -
 }
 
 // The first instruction that lacks its room, or its item, in a buffer of `have` bytes, or how many there are.
+// `room`, and no test of the caller's: so it asks for nothing but the length, and says what it finds without a condition.
 pub fn shortage(room: bool, list: &[u8], have: usize) -> usize
     requires { length list.now ≤ most_bytes }
     ensures { result ≡ first (lacks (uses room) list.now have) 0 (length list.now / 8) }
