@@ -8,7 +8,6 @@ use native.Mathlib.Omega.{arith}
 use lib.Dec.{eqb, ltb}
 use borrow.Author.Tests.{ne_eqb, eqb-true, eqb-false, le-ltb, ltb-false}
 use Rattle.spelling.specs.Words.{extended}
-use Rattle.bits.specs.declared.refusals.Refusal.{Refusal}
 use Rattle.judge.specs.declared.Instruction.{Instruction}
 use Rattle.lines.specs.declared.Line.{Line}
 use Rattle.lines.specs.declared.Phase.{Phase}
@@ -24,7 +23,7 @@ pub data Like : Line → Line → Type 0 where
   same : {l : Line} → Like l l
   head : {g h : Instruction} → Like (line Head g) (line Head h)
   remark : {g h : Instruction} → Like (line Comment g) (line Comment h)
-  refusal : {n : Refusal} {g h : Instruction} → Like (line (Refused n) g) (line (Refused n) h)
+  refusal : {n : ℕ} {g h : Instruction} → Like (line (Refused n) g) (line (Refused n) h)
 
 pub like-phase : {l m : Line} → Like l m → l.phase ≡ m.phase
 like-phase same = refl

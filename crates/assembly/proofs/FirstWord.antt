@@ -13,9 +13,6 @@ use borrow.Author.Tests.{ne_eqb, eqb-true, le-ltb}
 use Rattle.bits.specs.Search.{index_of}
 use Rattle.bits.proofs.Find.{found_at}
 use Rattle.bits.proofs.Rows.{and_left, and_right}
-use Rattle.bits.specs.declared.refusals.Refusal.{Refusal}
-use Rattle.bits.specs.declared.refusals.Refusal.TheVariants.{TextName}
-use Rattle.bits.specs.Refusals.{number_of_refusal}
 use Rattle.judge.specs.declared.Instruction.{Instruction}
 use Rattle.spelling.specs.Tables.{heads}
 use Rattle.spelling.specs.Words.{unreadable, extended, extended_by}
@@ -39,7 +36,7 @@ abbrev ending : Reading → ℕ → List ℕ → ℕ
 ending r at cs = number_of (ends r at cs).line.phase
 
 -- a refusal stays
-stays : (n : Refusal) (g : Instruction) (w start : ℕ) (r : Bool) (at : ℕ) (cs : List ℕ) → ending (reading (line (Refused n) g) w start r) at cs ≡ number_of_refusal n
+stays : (n : ℕ) (g : Instruction) (w start : ℕ) (r : Bool) (at : ℕ) (cs : List ℕ) → ending (reading (line (Refused n) g) w start r) at cs ≡ n
 unfolding ends stepped
 stays n g w start r at [] = refl
 stays n g w start r at (c ∷ cs) = stays n g w start false (at + 1) cs
@@ -49,12 +46,12 @@ abbrev Headed : ℕ → Type 0
 Headed v = (v ≡ 0) ⊎ (index_of v heads < 8)
 
 -- the word w at the end of a line that has no other leads on only if it is a name
-unheaded : (w : ℕ) (g : Instruction) → (w ≡ 0 → ⊥) → 8 ≤ index_of w heads → ended (line Head g) w ≡ line (Refused TextName) (of_kind 0)
+unheaded : (w : ℕ) (g : Instruction) → (w ≡ 0 → ⊥) → 8 ≤ index_of w heads → ended (line Head g) w ≡ line (Refused 60) (of_kind 0)
 unfolding ended worded head_word
 unheaded w g u h = simp (ne_eqb w 0 u, le-ltb (index_of w heads) 7 (omega arith), ne_eqb (index_of w heads) 7 (λ e. omega arith))
 
 -- where it ends, with what the character does to a line that was refused
-ended-headed : (w : ℕ) (g : Instruction) (n : ℕ) → n ≡ 0 → ((l : Line) → ended (line Head g) w ≡ line (Refused TextName) (of_kind 0) → n ≡ 60) → Headed w
+ended-headed : (w : ℕ) (g : Instruction) (n : ℕ) → n ≡ 0 → ((l : Line) → ended (line Head g) w ≡ line (Refused 60) (of_kind 0) → n ≡ 60) → Headed w
 ended-headed w g n z f = go (ℕ_discrete w 0) (dec_le 8 (index_of w heads))
   where
     go : Dec (w ≡ 0) → Dec (8 ≤ index_of w heads) → Headed w
@@ -111,11 +108,11 @@ letters-read g (c ∷ cs) w start at r f z = go (eqb c 59) (blank c) refl refl (
     go true x ey ex next =
         let z' = sym (ap (λ (s : Reading). ending s (at + 1) tail) (at-comment g w start at r c f.0 ey)) ∙ z in
         found 0 (size true (ap (λ (b : Bool). blank c || b) ey ∙ or-true (blank c)))
-        (ended-headed w g _ z' (λ l e. ap (λ (x : Line). ending (closed Comment x at start) (at + 1) tail) e ∙ stays TextName (of_kind 0) 0 start false (at + 1) tail))
+        (ended-headed w g _ z' (λ l e. ap (λ (x : Line). ending (closed Comment x at start) (at + 1) tail) e ∙ stays 60 (of_kind 0) 0 start false (at + 1) tail))
     go false true ey ex next =
         let z' = sym (ap (λ (s : Reading). ending s (at + 1) tail) (at-blank g w start at r c f.0 ey ex)) ∙ z in
         found 0 (size true (ap (λ (b : Bool). b || eqb c 59) ex))
-        (ended-headed w g _ z' (λ l e. ap (λ (x : Line). ending (reading x 0 start false) (at + 1) tail) e ∙ stays TextName (of_kind 0) 0 start false (at + 1) tail))
+        (ended-headed w g _ z' (λ l e. ap (λ (x : Line). ending (reading x 0 start false) (at + 1) tail) e ∙ stays 60 (of_kind 0) 0 start false (at + 1) tail))
     go false false ey ex next =
         found (suc (letters cs)) (size false (ap₂ (λ (a b : Bool). a || b) ex ey))
         (next (sym (ap (λ (s : Reading). ending s (at + 1) tail) (at-letter g w start at r c f.0 ey ex)) ∙ z))

@@ -8,7 +8,6 @@ use native.Mathlib.Omega.{arith}
 use lib.Dec.{eqb, ltb}
 use lib.ListN.{length, get_or, length-append}
 use borrow.Author.Tests.{eq-eqb, ne_eqb, le-ltb, ltb-false}
-use Rattle.bits.specs.declared.refusals.Refusal.TheVariants.{TextTooEarly}
 use Rattle.judge.specs.Instructions.{instruction_at}
 use Rattle.spelling.specs.Words.{extended}
 use Rattle.lines.specs.declared.Line.{Line}
@@ -74,14 +73,14 @@ closed_none l at start cs f = go (ℕ_discrete (sort_of l.phase) 1) (ℕ_discret
 
     all : (x y z : Bool) → eqb s 1 ≡ x → eqb s 2 ≡ y → eqb s 4 ≡ z
         → closed Comment l at start
-        ≡ cond x (reading (line Comment l.got) 0 at false) (cond y (reading (line Comment l.got) 0 at true) (cond z (reading l 0 start false) (reading (line (Refused TextTooEarly) l.got) 0 at false)))
+        ≡ cond x (reading (line Comment l.got) 0 at false) (cond y (reading (line Comment l.got) 0 at true) (cond z (reading l 0 start false) (reading (line (Refused 69) l.got) 0 at false)))
     all x y z ex ey ez = simp (ex, ey, ez)
 
     go : Dec (s ≡ 1) → Dec (s ≡ 2) → Dec (s ≡ 4) → emitted (closed Comment l at start) (at + 1) (fed cs) ≡ []
     go (yes a) b c = ap (λ (x : Reading). emitted x (at + 1) (fed cs)) (all true _ _ (eq-eqb s 1 a) refl refl) ∙ comment-none cs (line Comment l.got) 0 at (at + 1) false refl f
     go (no a) (yes b) c = ap (λ (x : Reading). emitted x (at + 1) (fed cs)) (all false true _ (ne_eqb s 1 a) (eq-eqb s 2 b) refl) ∙ comment-none cs (line Comment l.got) 0 at (at + 1) true refl f
     go (no a) (no b) (yes c) = ap (λ (x : Reading). emitted x (at + 1) (fed cs)) (all false false true (ne_eqb s 1 a) (ne_eqb s 2 b) (eq-eqb s 4 c)) ∙ idle-none (fed cs) l 0 start (at + 1) false (omega (arith, c))
-    go (no a) (no b) (no c) = ap (λ (x : Reading). emitted x (at + 1) (fed cs)) (all false false false (ne_eqb s 1 a) (ne_eqb s 2 b) (ne_eqb s 4 c)) ∙ idle-none (fed cs) (line (Refused TextTooEarly) l.got) 0 at (at + 1) false (omega arith)
+    go (no a) (no b) (no c) = ap (λ (x : Reading). emitted x (at + 1) (fed cs)) (all false false false (ne_eqb s 1 a) (ne_eqb s 2 b) (ne_eqb s 4 c)) ∙ idle-none (fed cs) (line (Refused 69) l.got) 0 at (at + 1) false (omega arith)
 
 -- the end of a line
 end-few : (s : Reading) (at : ℕ) → length (emitted s at (10 ∷ [])) ≤ 8

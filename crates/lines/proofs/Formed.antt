@@ -5,8 +5,6 @@ use Prim.Native.Nat.{ℕ, zero, suc, ◌+◌, ◌*◌, ◌/◌, ◌<◌}
 use native.Mathlib.Omega.{arith}
 use lib.Dec.{eqb, ltb}
 use borrow.Author.Tests.{le-ltb, ne_eqb, ltb-true}
-use Rattle.bits.specs.declared.refusals.Refusal.{Refusal}
-use Rattle.bits.specs.declared.refusals.Refusal.TheVariants.{TextName, TextChoice, TextFunction, TextSource, TextNumber, TextWord, TextShift, TextTooMuch, TextByte}
 use Rattle.bits.specs.Rows.{NoRow}
 use Rattle.bits.specs.Search.{index_of}
 use Rattle.bits.proofs.Rows.{and_left, and_right}
@@ -178,8 +176,8 @@ either true x y p q = p refl
 either false x y p q = q refl
 
 -- a line where a test holds, else a refusal
-tested : (b : Bool) (x : Line) (r : Refusal) (i : Instruction) → (b ≡ true → Formed x) → Formed (cond b x (line (Refused r) i))
-tested b x r i p = either b x (line (Refused r) i) p (λ e. tt)
+tested : (b : Bool) (x : Line) (n : ℕ) (i : Instruction) → (b ≡ true → Formed x) → Formed (cond b x (line (Refused n) i))
+tested b x n i p = either b x (line (Refused n) i) p (λ e. tt)
 
 found-direct : (s : ℕ) → (ltb 0 s && ltb s 5) ≡ true → Direct s
 found-direct s e =
@@ -214,14 +212,14 @@ unfolding head_word
 head-formed w =
     let k = index_of w heads in
     let bytes = line (Byte 0) (of_kind 0) in
-    either (ltb k 7) (line (after_head k) (of_kind k)) (cond (eqb k 7) bytes (line (Refused TextName) (of_kind 0)))
-    (λ e. kind-formed k (ltb-true k 7 e)) (λ e. tested (eqb k 7) bytes TextName (of_kind 0) (λ e. tt))
+    either (ltb k 7) (line (after_head k) (of_kind k)) (cond (eqb k 7) bytes (line (Refused 60) (of_kind 0)))
+    (λ e. kind-formed k (ltb-true k 7 e)) (λ e. tested (eqb k 7) bytes 60 (of_kind 0) (λ e. tt))
 
 choice-formed : (i : Instruction) (w : ℕ) → Logical i → Formed (choice_word i w)
 unfolding choice_word
 choice-formed i w (logical {l} h) =
     let c = index_of w choices in
-    tested (ltb c 5) (line Function (made 0 0 0 0 0 0 0 (16 * c))) TextChoice (made 0 0 0 0 0 0 0 l)
+    tested (ltb c 5) (line Function (made 0 0 0 0 0 0 0 (16 * c))) 61 (made 0 0 0 0 0 0 0 l)
     (λ e. logical (omega (arith, ltb-true c 5 e)))
 
 function-formed : (i : Instruction) (w : ℕ) → Logical i → Formed (function_word i w)
@@ -232,8 +230,8 @@ function-formed i w (logical {l} h) =
     let n = number w in
     let good : (x : ℕ) → ltb x 16 ≡ true → Formed (with_function i x) =
     λ x e. opened (logic {l = 16 * (l / 16) + x} (omega (arith, ltb-true x 16 e))) in
-    either (ltb f 16) (with_function i f) (cond (ltb n 16) (with_function i n) (line (Refused TextFunction) i)) (good f)
-    (λ e. tested (ltb n 16) (with_function i n) TextFunction i (good n))
+    either (ltb f 16) (with_function i f) (cond (ltb n 16) (with_function i n) (line (Refused 62) i)) (good f)
+    (λ e. tested (ltb n 16) (with_function i n) 62 i (good n))
 
 -- a mode that stands
 moded : (i : Instruction) (t m : ℕ) → Placing i → Moded t m → Addressing (with_mode i t m)
@@ -247,9 +245,9 @@ place-formed i w h =
     let slice = line Address (with_mode i 1 0) in
     let word = line Address (with_mode i 1 255) in
     let mode = line Mode (with_mode i 1 0) in
-    let last = cond (eqb k 2) mode (line (Refused TextSource) i) in
+    let last = cond (eqb k 2) mode (line (Refused 63) i) in
     either (eqb k 0) slice (cond (eqb k 1) word last) (λ e. moded i 1 0 h given)
-    (λ e. either (eqb k 1) word last (λ e. moded i 1 255 h given) (λ e. tested (eqb k 2) mode TextSource i (λ e. (moded i 1 0 h given).0)))
+    (λ e. either (eqb k 1) word last (λ e. moded i 1 255 h given) (λ e. tested (eqb k 2) mode 63 i (λ e. (moded i 1 0 h given).0)))
 
 source-formed : (i : Instruction) (w : ℕ) → Opened i → Formed (source_word i w)
 unfolding source_word
@@ -263,7 +261,7 @@ register-formed : (i : Instruction) (w : ℕ) → Filling i → Formed (register
 unfolding register_word
 register-formed i w (filling {k} {t} {m} {g} h d) =
     let s = index_of w sources in
-    tested (ltb 0 s && ltb s 5) (line Moves (made k s t m g 0 0 0)) TextSource (made k 0 t m g 0 0 0) (λ e. stored h (found-direct s e) d)
+    tested (ltb 0 s && ltb s 5) (line Moves (made k s t m g 0 0 0)) 63 (made k 0 t m g 0 0 0) (λ e. stored h (found-direct s e) d)
 
 mode-formed : (i : Instruction) (w : ℕ) → Placing i → Formed (mode_number i w)
 unfolding mode_number
@@ -271,14 +269,14 @@ mode-formed i w h =
     let t = index_of w mode_registers in
     let m = number w in
     let said = line AddressWord (with_mode i 1 m) in
-    either (register_tag t) (line AddressWord (with_mode i t 0)) (cond (ltb m 256) said (line (Refused TextNumber) i))
-    (λ e. moded i t 0 h (by (found-register t e))) (λ e. tested (ltb m 256) said TextNumber i (λ e. moded i 1 m h given))
+    either (register_tag t) (line AddressWord (with_mode i t 0)) (cond (ltb m 256) said (line (Refused 64) i))
+    (λ e. moded i t 0 h (by (found-register t e))) (λ e. tested (ltb m 256) said 64 i (λ e. moded i 1 m h given))
 
 address-formed : (i : Instruction) (w : ℕ) → Addressing i → Formed (address_number i w)
 unfolding address_number stores
 address-formed i w (h, d) =
     let g = number w in
-    tested (ltb g 256) (line (after_place i.kind) (with_addr i g)) TextNumber i (λ e. go i g h d)
+    tested (ltb g 256) (line (after_place i.kind) (with_addr i g)) 64 i (λ e. go i g h d)
   where
     go : (i : Instruction) (g : ℕ) → Placing i → Moded i.tag i.mode → Formed (line (after_place i.kind) (with_addr i g))
     go i g (in_source (logic h)) d = loaded (placed (logic h) d)
@@ -289,7 +287,7 @@ address-formed i w (h, d) =
 
 flip-formed : (i : Instruction) (w : ℕ) → Accessed i → Formed (flip_number i w)
 unfolding flip_number
-flip-formed i w h = tested (ltb (number w) 256) (line AfterFlip (with_flip i (number w))) TextNumber i (λ e. go i (number w) h)
+flip-formed i w h = tested (ltb (number w) 256) (line AfterFlip (with_flip i (number w))) 64 i (λ e. go i (number w) h)
   where
     go : (i : Instruction) (f : ℕ) → Accessed i → Accessed (with_flip i f)
     go i f (loaded h) = loaded h
@@ -299,7 +297,7 @@ shift-formed : (i : Instruction) (w : ℕ) → Accessed i → Formed (shift_head
 unfolding shift_head stores
 shift-formed i w h =
     let free = not (stores i.kind) in
-    tested (eqb w shift_word && free) (line Amount i) TextTooMuch i (λ e. go i h (and_right (eqb w shift_word) free e))
+    tested (eqb w shift_word && free) (line Amount i) 67 i (λ e. go i h (and_right (eqb w shift_word) free e))
   where
     go : (i : Instruction) → Accessed i → not (stores i.kind) ≡ true → Shifting i
     go i (loaded h) e = h
@@ -312,7 +310,7 @@ moves-formed i w h = either (eqb w flip_word) (line Flip i) (shift_head i w) (λ
 
 amount-formed : (i : Instruction) (w : ℕ) → Shifting i → Formed (amount_word i w)
 unfolding amount_word
-amount-formed i w h = tested (ltb (index_of w powers) 8) (line Modulo (with_code i (index_of w powers))) TextShift i (λ e. h)
+amount-formed i w h = tested (ltb (index_of w powers) 8) (line Modulo (with_code i (index_of w powers))) 66 i (λ e. h)
 
 group-formed : (i : Instruction) (w : ℕ) → Shifting i → Formed (group_word i w)
 unfolding group_word
@@ -320,8 +318,8 @@ group-formed i w h =
     let m = i.code in
     let p = index_of w powers in
     let c = 16 * p + m in
-    tested (ltb m p) (cond (ltb p 9) (line End (with_code i c)) (line (Refused TextShift) i)) TextShift i
-    (λ below. tested (ltb p 9) (line End (with_code i c)) TextShift i
+    tested (ltb m p) (cond (ltb p 9) (line End (with_code i c)) (line (Refused 66) i)) 66 i
+    (λ below. tested (ltb p 9) (line End (with_code i c)) 66 i
     (λ top. loaded-stands i.kind i.source i.tag i.mode i.addr i.flip c i.logic h
     ((listed-none c).1 (pair-permitted p m (ltb-true m p below) (omega (arith, ltb-true p 9 top))))))
 
@@ -329,21 +327,21 @@ which-formed : (i : Instruction) (w : ℕ) → Setting i → Formed (which_word 
 unfolding which_word
 which-formed i w (setting {t} {m}) =
     let k = index_of w mode_registers in
-    tested (register_tag k) (line SetTo (made 6 0 k 0 0 0 0 0)) TextSource (made 6 0 t m 0 0 0 0) (λ e. (setting, found-register k e))
+    tested (register_tag k) (line SetTo (made 6 0 k 0 0 0 0 0)) 63 (made 6 0 t m 0 0 0 0) (λ e. (setting, found-register k e))
 
 set-formed : (i : Instruction) (w : ℕ) → Setting i → Registered i.tag → Formed (set_number i w)
 unfolding set_number
 set-formed i w (setting {t} {m}) r =
     let n = number w in
-    tested (ltb n 256) (line End (made 6 0 t n 0 0 0 0)) TextNumber (made 6 0 t m 0 0 0 0) (λ e. set-stands t n r)
+    tested (ltb n 256) (line End (made 6 0 t n 0 0 0 0)) 64 (made 6 0 t m 0 0 0 0) (λ e. set-stands t n r)
 
 only-formed : (word : ℕ) (p : Phase) (i : Instruction) (w : ℕ) → FormedAt p i → Formed (only word p i w)
 unfolding only
-only-formed word p i w h = tested (eqb w word) (line p i) TextWord i (λ e. h)
+only-formed word p i w h = tested (eqb w word) (line p i) 65 i (λ e. h)
 
 byte-formed : (i : Instruction) (n w : ℕ) → Formed (byte_word i n w)
 unfolding byte_word
-byte-formed i n w = tested (ltb (pair_value w) 256) (line (after_byte n) (with_byte i (pair_value w))) TextByte i (λ e. go (ltb n 7))
+byte-formed i n w = tested (ltb (pair_value w) 256) (line (after_byte n) (with_byte i (pair_value w))) 68 i (λ e. go (ltb n 7))
   where
     go : (b : Bool) → FormedAt (cond b (Byte (n + 1)) Whole) (with_byte i (pair_value w))
     go true = tt

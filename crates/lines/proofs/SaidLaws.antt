@@ -9,7 +9,6 @@ use native.Mathlib.Omega.{arith}
 use lib.Dec.{eqb, ltb}
 use lib.ListN.{get_or}
 use borrow.Author.Tests.{lt-ltb, eq-eqb, ne_eqb, ltb-false, eqb-true, eqb-false, not-true, not-false}
-use Rattle.bits.specs.declared.refusals.Refusal.TheVariants.{TextTooMuch}
 use Rattle.bits.specs.Search.{index_of}
 use Rattle.bits.proofs.Rows.{and_none, or-none}
 use Rattle.network.proofs.TableRules.{listed-none, permitted-pair}
@@ -73,7 +72,7 @@ module _ (k s t m g l : ℕ) where
 
   shift-head : (p : Phase) (f : ℕ) → MovesTo p → stores k ≡ false → worded.worded (line p (made k s t m g f 0 l)) shift_word ≡ line Amount (made k s t m g f 0 l)
   unfolding worded.worded shift_head
-  shift-head p f h q = h.1 (made k s t m g f 0 l) ∙ ap (λ (b : Bool). cond (true && not b) (line Amount (made k s t m g f 0 l)) (line (Refused TextTooMuch) (made k s t m g f 0 l))) q
+  shift-head p f h q = h.1 (made k s t m g f 0 l) ∙ ap (λ (b : Bool). cond (true && not b) (line Amount (made k s t m g f 0 l)) (line (Refused 67) (made k s t m g f 0 l))) q
 
   flip-word : (f : ℕ) → f < 256 → worded.worded (line Flip (made k s t m g 0 0 l)) (decimal f) ≡ line AfterFlip (made k s t m g f 0 l)
   unfolding worded.worded flip_number

@@ -7,7 +7,6 @@ use Rattle.judge.specs.declared.Instruction.{Instruction}
 use Rattle.lines.specs.declared.Line.{Line}
 use Rattle.lines.specs.declared.Phase.{Phase}
 use Rattle.lines.specs.declared.Phase.TheVariants.{Head, Choice, Function, Source, Place, Mode, AddressWord, Address, From, Register, Moves, Flip, AfterFlip, Amount, Modulo, Group, SetWhich, SetTo, End, Byte, Whole, Comment, Refused}
-use Rattle.bits.specs.declared.refusals.Refusal.TheVariants.{TextName, TextChoice, TextFunction, TextSource, TextNumber, TextWord, TextShift, TextTooMuch, TextByte}
 use Rattle.lines.specs.Alone.{of_kind, stores}
 
 abbrev pub line : Phase → Instruction → Line
@@ -45,11 +44,11 @@ unfoldable pub head_word : ℕ → Line
 head_word w =
     cond (ltb (index_of w heads) 7) (line (after_head (index_of w heads)) (of_kind (index_of w heads)))
     (cond (eqb (index_of w heads) 7) (line (Byte 0) (of_kind 0))
-    (line (Refused TextName) (of_kind 0)))
+    (line (Refused 60) (of_kind 0)))
 
 -- 61: no choice.
 unfoldable pub choice_word : Instruction → ℕ → Line
-choice_word i w = cond (ltb (index_of w choices) 5) (line Function (with_logic i (16 * index_of w choices))) (line (Refused TextChoice) i)
+choice_word i w = cond (ltb (index_of w choices) 5) (line Function (with_logic i (16 * index_of w choices))) (line (Refused 61) i)
 
 -- 62: no function: neither a name nor a number below 16.
 abbrev pub with_function : Instruction → ℕ → Line
@@ -59,7 +58,7 @@ unfoldable pub function_word : Instruction → ℕ → Line
 function_word i w =
     cond (ltb (index_of w functions) 16) (with_function i (index_of w functions))
     (cond (ltb (number w) 16) (with_function i (number w))
-    (line (Refused TextFunction) i))
+    (line (Refused 62) i))
 
 -- 63: no source, no place, or no mode register.
 unfoldable pub place_word : Instruction → ℕ → Line
@@ -67,57 +66,57 @@ place_word i w =
     cond (eqb (index_of w places) 0) (line Address (with_mode i 1 0))
     (cond (eqb (index_of w places) 1) (line Address (with_mode i 1 255))
     (cond (eqb (index_of w places) 2) (line Mode (with_mode i 1 0))
-    (line (Refused TextSource) i)))
+    (line (Refused 63) i)))
 
 unfoldable pub source_word : Instruction → ℕ → Line
 source_word i w = cond (ltb 0 (index_of w sources) && ltb (index_of w sources) 5) (line Moves (with_source i (index_of w sources))) (place_word i w)
 
 unfoldable pub register_word : Instruction → ℕ → Line
-register_word i w = cond (ltb 0 (index_of w sources) && ltb (index_of w sources) 5) (line Moves (with_source i (index_of w sources))) (line (Refused TextSource) i)
+register_word i w = cond (ltb 0 (index_of w sources) && ltb (index_of w sources) 5) (line Moves (with_source i (index_of w sources))) (line (Refused 63) i)
 
 -- The tag of a mode register, 2 or 3.
 abbrev pub register_tag : ℕ → Bool
 register_tag t = ltb 1 t && ltb t 4
 
 unfoldable pub which_word : Instruction → ℕ → Line
-which_word i w = cond (register_tag (index_of w mode_registers)) (line SetTo (with_mode i (index_of w mode_registers) 0)) (line (Refused TextSource) i)
+which_word i w = cond (register_tag (index_of w mode_registers)) (line SetTo (with_mode i (index_of w mode_registers) 0)) (line (Refused 63) i)
 
 -- 64: no number below 256; behind `mode`, no mode register either.
 unfoldable pub mode_number : Instruction → ℕ → Line
 mode_number i w =
     cond (register_tag (index_of w mode_registers)) (line AddressWord (with_mode i (index_of w mode_registers) 0))
     (cond (ltb (number w) 256) (line AddressWord (with_mode i 1 (number w)))
-    (line (Refused TextNumber) i))
+    (line (Refused 64) i))
 
 unfoldable pub set_number : Instruction → ℕ → Line
-set_number i w = cond (ltb (number w) 256) (line End (with_mode i i.tag (number w))) (line (Refused TextNumber) i)
+set_number i w = cond (ltb (number w) 256) (line End (with_mode i i.tag (number w))) (line (Refused 64) i)
 
 abbrev pub after_place : ℕ → Phase
 after_place kind = cond (stores kind) From Moves
 
 unfoldable pub address_number : Instruction → ℕ → Line
-address_number i w = cond (ltb (number w) 256) (line (after_place i.kind) (with_addr i (number w))) (line (Refused TextNumber) i)
+address_number i w = cond (ltb (number w) 256) (line (after_place i.kind) (with_addr i (number w))) (line (Refused 64) i)
 
 unfoldable pub flip_number : Instruction → ℕ → Line
-flip_number i w = cond (ltb (number w) 256) (line AfterFlip (with_flip i (number w))) (line (Refused TextNumber) i)
+flip_number i w = cond (ltb (number w) 256) (line AfterFlip (with_flip i (number w))) (line (Refused 64) i)
 
 -- 65: not the word that has to stand here, `address`, `from` or `mod`.
 unfoldable pub only : ℕ → Phase → Instruction → ℕ → Line
-only word p i w = cond (eqb w word) (line p i) (line (Refused TextWord) i)
+only word p i w = cond (eqb w word) (line p i) (line (Refused 65) i)
 
 -- 66: no shift of 2^m modulo 2^p.
 unfoldable pub amount_word : Instruction → ℕ → Line
-amount_word i w = cond (ltb (index_of w powers) 8) (line Modulo (with_code i (index_of w powers))) (line (Refused TextShift) i)
+amount_word i w = cond (ltb (index_of w powers) 8) (line Modulo (with_code i (index_of w powers))) (line (Refused 66) i)
 
 unfoldable pub group_word : Instruction → ℕ → Line
 group_word i w =
     cond (ltb i.code (index_of w powers))
-    (cond (ltb (index_of w powers) 9) (line End (with_code i (16 * index_of w powers + i.code))) (line (Refused TextShift) i))
-    (line (Refused TextShift) i)
+    (cond (ltb (index_of w powers) 9) (line End (with_code i (16 * index_of w powers + i.code))) (line (Refused 66) i))
+    (line (Refused 66) i)
 
 -- 67: more than the instruction takes.
 unfoldable pub shift_head : Instruction → ℕ → Line
-shift_head i w = cond (eqb w shift_word && not (stores i.kind)) (line Amount i) (line (Refused TextTooMuch) i)
+shift_head i w = cond (eqb w shift_word && not (stores i.kind)) (line Amount i) (line (Refused 67) i)
 
 unfoldable pub moves_word : Instruction → ℕ → Line
 moves_word i w = cond (eqb w flip_word) (line Flip i) (shift_head i w)
@@ -127,7 +126,7 @@ abbrev pub after_byte : ℕ → Phase
 after_byte n = cond (ltb n 7) (Byte (n + 1)) Whole
 
 unfoldable pub byte_word : Instruction → ℕ → ℕ → Line
-byte_word i n w = cond (ltb (pair_value w) 256) (line (after_byte n) (with_byte i (pair_value w))) (line (Refused TextByte) i)
+byte_word i n w = cond (ltb (pair_value w) 256) (line (after_byte n) (with_byte i (pair_value w))) (line (Refused 68) i)
 
 -- ---- the line
 
@@ -151,11 +150,11 @@ worded_at Modulo i w = only mod_word Group i w
 worded_at Group i w = group_word i w
 worded_at SetWhich i w = which_word i w
 worded_at SetTo i w = set_number i w
-worded_at End i w = line (Refused TextTooMuch) i
+worded_at End i w = line (Refused 67) i
 worded_at (Byte n) i w = byte_word i n w
-worded_at Whole i w = line (Refused TextTooMuch) i
+worded_at Whole i w = line (Refused 67) i
 worded_at Comment i w = line Comment i
-worded_at (Refused r) i w = line (Refused r) i
+worded_at (Refused n) i w = line (Refused n) i
 
 unfoldable pub worded : Line → ℕ → Line
 worded l w = worded_at l.phase l.got w
@@ -184,7 +183,7 @@ sort_of End = 2
 sort_of (Byte n) = 0
 sort_of Whole = 2
 sort_of Comment = 3
-sort_of (Refused r) = 4
+sort_of (Refused n) = 4
 
 -- A whole instruction that is said in words: not in `bytes`.
 abbrev pub in_words : Phase → Bool
@@ -210,4 +209,4 @@ in_words End = true
 in_words (Byte n) = false
 in_words Whole = false
 in_words Comment = false
-in_words (Refused r) = false
+in_words (Refused n) = false

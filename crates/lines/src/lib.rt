@@ -8,7 +8,6 @@ ghost use Rattle.std.specs.Prelude.{◌≡◌};
 ghost use Rattle.judge.specs.Answers.{fault_given};
 ghost use Rattle.lines.specs.Alone.{of_kind, stores, touches, both_set, fault_alone};
 
-use bits::refusals::Refusal;
 use judge::{Fault, Instruction};
 use registers::{ModeRegister, Modes};
 
@@ -50,8 +49,9 @@ pub enum Phase {
     Whole,
     // a comment
     Comment,
-    // what comes does not matter: the line was refused, for this reason
-    Refused(Refusal),
+    // what comes does not matter: the line was refused, with this number
+    // No Refusal: any number may be handed in, and a line that is refused keeps it.
+    Refused(u8),
 }
 
 // What the end of a line finds there: the line ends too early, or it holds no instruction yet, a whole one, a comment behind one, or a refusal.

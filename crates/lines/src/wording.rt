@@ -1,10 +1,12 @@
 // Words as an instruction: what each word makes of a line.
 ghost use Rattle.std.specs.Prelude.{◌≡◌, ◌<◌, ◌&&◌, cond, ltb};
+ghost use Rattle.bits.specs.Refusals.{number_of_refusal};
 ghost use Rattle.bits.specs.Search.{index_of};
 ghost use Rattle.spelling.specs.Tables.{sources, mode_registers};
 ghost use Rattle.spelling.specs.Words.{number};
 ghost use Rattle.lines.specs.Worded.{line, with_mode, with_function, register_tag, with_byte, after_place, after_byte, after_head, head_word, choice_word, function_word, place_word, source_word, register_word, which_word, set_number, mode_number, address_number, flip_number, only, amount_word, group_word, shift_head, moves_word, byte_word, worded, sort_of};
 ghost use Rattle.lines.specs.Sorts.{number_of_sort};
+ghost use Rattle.lines.specs.declared.Phase.TheVariants.{Refused};
 
 use crate::{Line, Phase, Sort, of_kind, stores};
 use bits::refusals::Refusal;
@@ -17,6 +19,13 @@ fn line(phase: Phase, got: Instruction) -> Line
     ensures { result ≡ line phase got }
 {
     Line { phase, got }
+}
+
+// A line that is refused, for this reason.
+fn refused(why: Refusal, got: Instruction) -> Line
+    ensures { result ≡ line (Refused (number_of_refusal why)) got }
+{
+    line(Phase::Refused(why.number()), got)
 }
 
 // A mode, and the tag that says whose it is.
@@ -92,7 +101,7 @@ fn head(w: u64) -> Line
     match find(&HEADS, w) {
         Some(7) => line(Phase::Byte(0), of_kind(0)),
         Some(k) => line(after_head(k as u8), of_kind(k as u8)),
-        None => line(Phase::Refused(Refusal::TextName), of_kind(0)),
+        None => refused(Refusal::TextName, of_kind(0)),
     }
 }
 
@@ -109,7 +118,7 @@ fn choice(i: Instruction, w: u64) -> Line
                 ..i
             },
         ),
-        None => line(Phase::Refused(Refusal::TextChoice), i),
+        None => refused(Refusal::TextChoice, i),
     }
 }
 
@@ -135,7 +144,7 @@ fn function(i: Instruction, w: u64) -> Line
     match (find(&FUNCTIONS, w), number(w)) {
         (Some(k), _) => with_function(i, k as u8),
         (None, n @ 0..=15) => with_function(i, n as u8),
-        (None, _) => line(Phase::Refused(Refusal::TextFunction), i),
+        (None, _) => refused(Refusal::TextFunction, i),
     }
 }
 
@@ -148,7 +157,7 @@ fn place(i: Instruction, w: u64) -> Line
         Some(0) => line(Phase::Address, with_mode(i, TAG_GIVEN, 0)),
         Some(1) => line(Phase::Address, with_mode(i, TAG_GIVEN, 255)),
         Some(2) => line(Phase::Mode, with_mode(i, TAG_GIVEN, 0)),
-        _ => line(Phase::Refused(Refusal::TextSource), i),
+        _ => refused(Refusal::TextSource, i),
     }
 }
 
@@ -171,7 +180,7 @@ fn register(i: Instruction, w: u64) -> Line
 {
     match direct_source(w) {
         Some(source) => line(Phase::Moves, Instruction { source, ..i }),
-        None => line(Phase::Refused(Refusal::TextSource), i),
+        None => refused(Refusal::TextSource, i),
     }
 }
 
@@ -182,7 +191,7 @@ fn which(i: Instruction, w: u64) -> Line
 {
     match register_tag(w) {
         Some(tag) => line(Phase::SetTo, with_mode(i, tag, 0)),
-        None => line(Phase::Refused(Refusal::TextSource), i),
+        None => refused(Refusal::TextSource, i),
     }
 }
 
@@ -193,7 +202,7 @@ fn set_to(i: Instruction, w: u64) -> Line
 {
     match byte_number(w) {
         Some(mode) => line(Phase::End, Instruction { mode, ..i }),
-        None => line(Phase::Refused(Refusal::TextNumber), i),
+        None => refused(Refusal::TextNumber, i),
     }
 }
 
@@ -205,7 +214,7 @@ fn mode(i: Instruction, w: u64) -> Line
     match (register_tag(w), byte_number(w)) {
         (Some(tag), _) => line(Phase::AddressWord, with_mode(i, tag, 0)),
         (None, Some(mode)) => line(Phase::AddressWord, with_mode(i, TAG_GIVEN, mode)),
-        (None, None) => line(Phase::Refused(Refusal::TextNumber), i),
+        (None, None) => refused(Refusal::TextNumber, i),
     }
 }
 
@@ -227,7 +236,7 @@ fn address(i: Instruction, w: u64) -> Line
 {
     match byte_number(w) {
         Some(addr) => line(after_place(i.kind), Instruction { addr, ..i }),
-        None => line(Phase::Refused(Refusal::TextNumber), i),
+        None => refused(Refusal::TextNumber, i),
     }
 }
 
@@ -238,7 +247,7 @@ fn flip(i: Instruction, w: u64) -> Line
 {
     match byte_number(w) {
         Some(flip) => line(Phase::AfterFlip, Instruction { flip, ..i }),
-        None => line(Phase::Refused(Refusal::TextNumber), i),
+        None => refused(Refusal::TextNumber, i),
     }
 }
 
@@ -250,7 +259,7 @@ fn only(word: u64, phase: Phase, i: Instruction, w: u64) -> Line
     if w == word {
         line(phase, i)
     } else {
-        line(Phase::Refused(Refusal::TextWord), i)
+        refused(Refusal::TextWord, i)
     }
 }
 
@@ -261,7 +270,7 @@ fn amount(i: Instruction, w: u64) -> Line
 {
     match find(&POWERS, w) {
         Some(k @ 0..=7) => line(Phase::Modulo, Instruction { code: k as u8, ..i }),
-        _ => line(Phase::Refused(Refusal::TextShift), i),
+        _ => refused(Refusal::TextShift, i),
     }
 }
 
@@ -280,7 +289,7 @@ fn group(i: Instruction, w: u64) -> Line
                 },
             )
         }
-        _ => line(Phase::Refused(Refusal::TextShift), i),
+        _ => refused(Refusal::TextShift, i),
     }
 }
 
@@ -292,7 +301,7 @@ fn shift(i: Instruction, w: u64) -> Line
     if (w == SHIFT) & !stores(i.kind) {
         line(Phase::Amount, i)
     } else {
-        line(Phase::Refused(Refusal::TextTooMuch), i)
+        refused(Refusal::TextTooMuch, i)
     }
 }
 
@@ -326,7 +335,7 @@ fn byte(i: Instruction, n: u8, w: u64) -> Line
 {
     match u8::try_from(pair_value(w)) {
         Ok(v) => line(after_byte(n), with_byte(i, v)),
-        Err(_) => line(Phase::Refused(Refusal::TextByte), i),
+        Err(_) => refused(Refusal::TextByte, i),
     }
 }
 
@@ -355,8 +364,8 @@ pub fn worded(l: Line, w: u64) -> Line
         Phase::Group => group(i, w),
         Phase::SetWhich => which(i, w),
         Phase::SetTo => set_to(i, w),
-        Phase::End => line(Phase::Refused(Refusal::TextTooMuch), i),
-        Phase::Whole => line(Phase::Refused(Refusal::TextTooMuch), i),
+        Phase::End => refused(Refusal::TextTooMuch, i),
+        Phase::Whole => refused(Refusal::TextTooMuch, i),
         Phase::Byte(n) => byte(i, n, w),
         Phase::Comment | Phase::Refused(_) => l,
     }

@@ -7,7 +7,6 @@ use Rattle.bits.proofs.Rows.{taken}
 use Rattle.spelling.specs.Words.{extended}
 use Rattle.lines.specs.declared.Line.{Line}
 use Rattle.lines.specs.declared.Phase.{Phase}
-use Rattle.bits.specs.declared.refusals.Refusal.TheVariants.{TextTooEarly}
 use Rattle.lines.specs.declared.Phase.TheVariants.{Head, Comment, Refused}
 use Rattle.lines.specs.Worded.{line, worded, sort_of}
 use Rattle.text.specs.declared.Reading.{Reading}
@@ -18,7 +17,7 @@ pub record Carries (P : Line → Type 0) : Type 0 where
   pub word : (l : Line) (w : ℕ) → P l → P (worded l w)
   pub head : (l : Line) → P l → P (line Head l.got)
   pub comment : (l : Line) → P l → P (line Comment l.got)
-  pub early : (l : Line) → P l → P (line (Refused TextTooEarly) l.got)
+  pub early : (l : Line) → P l → P (line (Refused 69) l.got)
 
 module _ (P : Line → Type 0) (carries : Carries P) where
   abbrev Read : Reading → Type 0
@@ -33,7 +32,7 @@ module _ (P : Line → Type 0) (carries : Carries P) where
   closed-carried next l at start n h =
       taken Read (reading (line next l.got) 0 at false) _ (eqb (sort_of l.phase) 1) n
       (taken Read (reading (line next l.got) 0 at true) _ (eqb (sort_of l.phase) 2) n
-      (taken Read (reading l 0 start false) (reading (line (Refused TextTooEarly) l.got) 0 at false) (eqb (sort_of l.phase) 4) h (carries.early l h)))
+      (taken Read (reading l 0 start false) (reading (line (Refused 69) l.got) 0 at false) (eqb (sort_of l.phase) 4) h (carries.early l h)))
 
   module _ (s : Reading) (at c : ℕ) (h : P s.line) where
     character-carried : Read (character s at c)

@@ -14,7 +14,7 @@ use Rattle.judge.specs.declared.Instruction.{Instruction}
 use Rattle.lines.specs.declared.Line.{Line}
 use Rattle.lines.specs.declared.Phase.{Phase}
 use Rattle.lines.specs.declared.Phase.TheVariants.{Head, Choice, Function, Source, Place, Mode, AddressWord, Address, From, Register, Moves, Flip, AfterFlip, Amount, Modulo, Group, SetWhich, SetTo, End, Byte, Whole, Comment, Refused}
-use Rattle.lines.specs.Alone.{stores}
+use Rattle.lines.specs.Alone.{of_kind, stores}
 use Rattle.lines.specs.Worded.{line, register_tag, after_head, after_place, after_byte, head_word, choice_word, function_word, place_word, source_word, register_word, which_word, mode_number, set_number, address_number, flip_number, only, amount_word, group_word, shift_head, moves_word, byte_word, worded_at, worded, sort_of}
 use Rattle.text.specs.Make.{reading, begin, ends, number_of, last_of}
 use Rattle.text.proofs.Carried.{Carries, ends-carried}
@@ -177,3 +177,8 @@ line-numbers text u =
     or-none-left : (a b : Bool) → a ≡ false → (a || b) ≡ true → b ≡ true
     or-none-left true b f e = absurd (true≢false f)
     or-none-left false b f e = e
+
+-- what it was refused with
+pub refused-numbers : (text : List ℕ) → let p = (last_of text).line.phase in sort_of p ≡ 4 → (60 ≤ number_of p) × (number_of p ≤ 69)
+unfolding last_of
+refused-numbers text e = line-numbers text (refused-some (last_of text).line (ends-numbered (of_kind 0) 0 0 false (text ++ (10 ∷ []))) (omega (arith, e)))

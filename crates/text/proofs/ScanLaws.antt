@@ -13,7 +13,6 @@ use Rattle.bits.proofs.Rows.{taken}
 use Rattle.spelling.specs.Words.{extended}
 use Rattle.lines.specs.declared.Line.{Line}
 use Rattle.lines.specs.declared.Phase.{Phase}
-use Rattle.bits.specs.declared.refusals.Refusal.TheVariants.{TextTooEarly}
 use Rattle.lines.specs.declared.Phase.TheVariants.{Head, Comment, Refused}
 use Rattle.lines.specs.Alone.{bytes_of}
 use Rattle.lines.specs.Worded.{line, sort_of}
@@ -96,7 +95,7 @@ module _ (s : Reading) (at c : ℕ) (h : s.start ≤ at) where
   closed-start next l =
       taken Reached (reading (line next l.got) 0 at false) _ (eqb (sort_of l.phase) 1) (omega arith)
       (taken Reached (reading (line next l.got) 0 at true) _ (eqb (sort_of l.phase) 2) (omega arith)
-      (taken Reached (reading l 0 s.start false) (reading (line (Refused TextTooEarly) l.got) 0 at false) (eqb (sort_of l.phase) 4) h (omega arith)))
+      (taken Reached (reading l 0 s.start false) (reading (line (Refused 69) l.got) 0 at false) (eqb (sort_of l.phase) 4) h (omega arith)))
 
   character-start : Reached (character s at c)
   unfolding character

@@ -2,8 +2,6 @@
 use Rattle.std.specs.Prelude.{Bool, true, false, cond, ◌||◌, List, [], ◌∷◌, ◌++◌, ℕ, zero, suc, ◌+◌, eqb, ltb, length, get_or, drop}
 use Rattle.spelling.specs.Words.{extended}
 use Rattle.judge.specs.Kinds.{most_bytes}
-use Rattle.bits.specs.declared.refusals.Refusal.TheVariants.{TextTooEarly}
-use Rattle.bits.specs.Refusals.{number_of_refusal}
 use Rattle.lines.specs.declared.Line.{Line}
 use Rattle.lines.specs.declared.Phase.{Phase}
 use Rattle.lines.specs.declared.Phase.TheVariants.{Head, Choice, Function, Source, Place, Mode, AddressWord, Address, From, Register, Moves, Flip, AfterFlip, Amount, Modulo, Group, SetWhich, SetTo, End, Byte, Whole, Comment, Refused}
@@ -40,7 +38,7 @@ closed next l at start =
     cond (eqb (sort_of l.phase) 1) (reading (line next l.got) 0 at false)
     (cond (eqb (sort_of l.phase) 2) (reading (line next l.got) 0 at true)
     (cond (eqb (sort_of l.phase) 4) (reading l 0 start false)
-    (reading (line (Refused TextTooEarly) l.got) 0 at false)))
+    (reading (line (Refused 69) l.got) 0 at false)))
 
 -- The character c at place `at`, in a line that is neither refused nor in its comment.
 unfoldable pub character : Reading → ℕ → ℕ → Reading
@@ -79,7 +77,7 @@ line_so_far cs = let s = ends begin 0 cs in ended s.line s.word
 
 -- The number of a refusal: 0 where there is none.
 abbrev pub number_of : Phase → ℕ
-number_of (Refused r) = number_of_refusal r
+number_of (Refused n) = n
 number_of Head = 0
 number_of Comment = 0
 number_of Choice = 0

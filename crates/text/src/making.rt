@@ -2,6 +2,7 @@
 ghost use Rattle.std.specs.Prelude.{◌≡◌, ◌+◌, ◌*◌, ◌≤◌, length};
 ghost use Rattle.bits.specs.Steps.{Put};
 ghost use Rattle.lines.specs.Alone.{bytes_of};
+ghost use Rattle.lines.specs.Worded.{sort_of};
 ghost use Rattle.text.specs.Make.{reading, ended, closed, character, commented, stepped, begin, brought, made_bytes, last_of, line_at, column_at, number_of, refused_at, made_answer, made_out};
 ghost use Rattle.text.specs.Results.{made_of};
 ghost use Rattle.bits.specs.Refusals.{number_of_refusal, number_given};
@@ -42,7 +43,7 @@ fn closed(next: Phase, l: Line, at: usize, start: usize) -> Reading
         Sort::Whole => reading(Line { phase: next, ..l }, 0, at, true),
         Sort::Refused => reading(l, 0, start, false),
         Sort::TooEarly | Sort::Comment => {
-            let phase = Phase::Refused(Refusal::TextTooEarly);
+            let phase = Phase::Refused(Refusal::TextTooEarly.number());
             reading(Line { phase, ..l }, 0, at, false)
         }
     }
@@ -186,12 +187,22 @@ fn write(out: &mut [u8], text: &[u8]) -> usize
     put_brought(out, next, step(s, text.len(), b'\n'))
 }
 
-// Why a line is refused, if it is.
+// Why a line is refused, if it is: its words and its end give 60 to 69 alone.
 fn refusal(p: Phase) -> Result<(), Refusal>
+    requires { sort_of p ≡ 4 → (60 ≤ number_of p) × (number_of p ≤ 69) }
     ensures { number_given result ≡ number_of p }
 {
     match p {
-        Phase::Refused(why) => Err(why),
+        Phase::Refused(60) => Err(Refusal::TextName),
+        Phase::Refused(61) => Err(Refusal::TextChoice),
+        Phase::Refused(62) => Err(Refusal::TextFunction),
+        Phase::Refused(63) => Err(Refusal::TextSource),
+        Phase::Refused(64) => Err(Refusal::TextNumber),
+        Phase::Refused(65) => Err(Refusal::TextWord),
+        Phase::Refused(66) => Err(Refusal::TextShift),
+        Phase::Refused(67) => Err(Refusal::TextTooMuch),
+        Phase::Refused(68) => Err(Refusal::TextByte),
+        Phase::Refused(_) => Err(Refusal::TextTooEarly),
         _ => Ok(()),
     }
 }

@@ -12,6 +12,7 @@ use Rattle.text.specs.declared.Refused.{Refused}
 use Rattle.text.specs.Make.{answer, number_of, last_of, made_bytes, refused_at}
 use Rattle.text.specs.Results.{made_of}
 use Rattle.text.proofs.MadeLaws.{too_long, bad, too_many, too_short, done}
+use Rattle.text.proofs.LineNumbers.{refused-numbers}
 use Rattle.text.proofs.making.make.Goals as goal
 
 pub returns-then-text-gt1048576 : goal.returns-then-text-gt1048576
@@ -19,6 +20,9 @@ returns-then-text-gt1048576 c =
     let a = c.args in
     let given = too_long a.text.now a.out.now c.if-text-gt1048576.true in
     record { answer = ap (λ (r : Refused). made_of (Err r)) c.into.ensures ∙ sym given.0; bytes = sym given.1 }
+
+pub refusal-requires : goal.refusal-requires
+refusal-requires c = rw c.scan-count.ensures.0 (refused-numbers c.args.text.now)
 
 -- the number of the text's last line, as it was asked for
 numbered : (text : List ℕ) {r : Reading} {n : ℕ} → n ≡ number_of r.line.phase → r ≡ last_of text → n ≡ number_of (last_of text).line.phase
