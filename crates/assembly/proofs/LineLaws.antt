@@ -3,15 +3,18 @@ use mathlib.Core.Path.{◌≡◌, sym, ap, ◌∙◌}
 use mathlib.Core.Bool.{Bool, true, false, cond}
 use mathlib.Core.List.{List}
 use Prim.Native.Nat.{ℕ}
-use borrow.Author.Tests.{ne_eqb}
+use borrow.Author.Tests.{eq-eqb, ne_eqb}
 use lib.Dec.{eqb}
 use lib.Pointwise.{pointwise}
 use Rattle.assembly.proofs.WordLaws.{same-pointwise}
 use Rattle.bits.specs.Search.{index_of}
+use Rattle.judge.specs.Instructions.{instruction_at}
+use Rattle.text.specs.Make.{Made, made_answer, made_out}
 use Rattle.assembly.specs.declared.Word.{Word}
+use Rattle.assembly.specs.Act.{Nothing, Refused, One}
 use Rattle.assembly.specs.Words.{part}
 use Rattle.assembly.specs.Fields.{Named}
-use Rattle.assembly.specs.Statements.{statements, difference, sum_line, instruction_line, named_line, line_by}
+use Rattle.assembly.specs.Statements.{statements, difference, sum_line, eight, instruction_line, named_line, line_by}
 
 -- ---- by its first word
 
@@ -42,3 +45,26 @@ module _ (t : Named) (line : List ℕ) (w : Word) {b : Bool} (long : b ≡ point
         ne_eqb 0x6772656174657374 w.word (λ z. x₄ (sym z)),
         ne_eqb 0x7265616368 w.word (λ z. x₅ (sym z)),
       )
+
+-- ---- an instruction
+
+module _ (line : List ℕ) {r : Made} (e : r ≡ made_answer line 8) where
+  number-as : r.number ≡ (made_answer line 8).number
+  number-as = ap (λ (x : Made). x.number) e
+
+  count-as : r.count ≡ (made_answer line 8).count
+  count-as = ap (λ (x : Made). x.count) e
+
+  pub instruction-refused : (r.number ≡ 0 → ⊥) → Refused r.number r.column ≡ instruction_line line
+  unfolding instruction_line
+  instruction-refused u = ap (λ (x : Made). Refused x.number x.column) e ∙ sym (simp (ne_eqb (made_answer line 8).number 0 (λ z. u (number-as ∙ z))))
+
+  pub instruction-nothing : r.number ≡ 0 → r.count ≡ 0 → Nothing ≡ instruction_line line
+  unfolding instruction_line
+  instruction-nothing z k = sym (simp (eq-eqb (made_answer line 8).number 0 (sym number-as ∙ z), eq-eqb (made_answer line 8).count 0 (sym count-as ∙ k)))
+
+  pub instruction-one : r.number ≡ 0 → (r.count ≡ 0 → ⊥) → (l : List ℕ) → l ≡ made_out line eight → One (instruction_at l 0) ≡ instruction_line line
+  unfolding instruction_line
+  instruction-one z u l q =
+      ap (λ (x : List ℕ). One (instruction_at x 0)) q
+      ∙ sym (simp (eq-eqb (made_answer line 8).number 0 (sym number-as ∙ z), ne_eqb (made_answer line 8).count 0 (λ k. u (count-as ∙ k))))

@@ -82,6 +82,10 @@ same-pointwise (x ∷ a) (y ∷ b) = ap (λ (t : Bool). eqb x y && t) (same-poin
 
 -- ---- one digit more, by what its tests say
 
+pub digit-none : (v : Value) (c : ℕ) → v.stands ≡ false → with_digit v c ≡ valued false 0
+unfolding with_digit
+digit-none v c s = simp s
+
 module _ (v c : ℕ) where
   pub digit-bad : 9 < number c → with_digit (valued true v) c ≡ valued false 0
   unfolding with_digit

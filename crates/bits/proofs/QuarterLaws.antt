@@ -4,16 +4,17 @@ use mathlib.Core.List.{List, [], ◌∷◌}
 use Prim.Native.Nat.{ℕ, zero, suc, ◌+◌, ◌*◌, ◌/◌, ◌%◌, ◌^◌, ◌<◌, ◌≤◌}
 use native.Mathlib.Nat.{div-one, add-zero, add-suc, add_comm, mul_assoc, add_assoc, add-mul, pow-suc}
 use native.Mathlib.Omega.{arith}
+use lib.Bits.{bit_or, or_shifted_r}
 use lib.ListN.{length, get_or}
-use lib.Pow.{pow-add}
+use lib.Pow.{pow-add, shl_exact}
 use mir.Syntax.{w64}
 use Rattle.std.specs.Prelude.{slice_index}
 use Rattle.std.specs.Int.{byte_at, byte_worth, bytes_low_first, sum_through, from_le_bytes, to_le_bytes}
 use Rattle.bits.specs.Bits.{digit, bit_of, listed, digits_of, byte_of}
 use Rattle.bits.specs.Quarters.{quarter_of, quarters, line_at}
 use Rattle.bits.proofs.Binary.{Bit, digit-bit}
-use Rattle.bits.proofs.Digits.{digit-mod, digit-down, digits_of-at, digits_of-ext, digits_are}
-use Rattle.bits.proofs.Items.{get_d-listed, listed-ext, listed-is, byte_of-is, bit_of-at}
+use Rattle.bits.proofs.Digits.{digit-mod, digit-down, digits_of-lt, digits_of-at, digits_of-ext, digits_are}
+use Rattle.bits.proofs.Items.{get_d-listed, listed-ext, listed-is, bit_of-bit, byte_of-is, bit_of-at}
 
 -- ---- numbers of an item by its quarters
 
@@ -74,6 +75,24 @@ digits_of-append f a (suc b) =
     ∙ ap (λ (x : ℕ). x + digits_of f a)
     (ap (λ (x : ℕ). x + more * 2 ^ a) (sym (mul_assoc (f (a + b)) (2 ^ b) (2 ^ a))) ∙ sym (add-mul (f (a + b) * 2 ^ b) more (2 ^ a)))
 
+-- one byte more, put in by "or"
+pub or_byte : (l : List ℕ) (i n x q : ℕ) → n < 8 → x < 256 → x ≡ get_or l (8 * i + n) 0 → q ≡ digits_of (λ j. bit_of l (64 * i + j)) (8 * n)
+    → bit_or q (x * 2 ^ (8 * n) % 2 ^ 64) ≡ digits_of (λ j. bit_of l (64 * i + j)) (8 * (n + 1))
+or_byte l i n x q h b ex eq =
+    let f : ℕ → ℕ = λ j. bit_of l (64 * i + j) in
+    let bits : (j : ℕ) → Bit (f j) = λ j. bit_of-bit l (64 * i + j) in
+    let e : 8 * n + 8 ≡ 8 * (n + 1) = omega arith in
+    let byte : x ≡ digits_of (λ j. f (8 * n + j)) 8 =
+    digits_are (λ j. f (8 * n + j)) 8 x b
+    (λ j k.
+    let p : 8 * (8 * i + n) + j ≡ 64 * i + (8 * n + j) = omega arith in
+    ap (λ (y : ℕ). digit y j) ex ∙ sym (bit_of-at l (8 * i + n) j k) ∙ ap (bit_of l) p) in
+    ap₂ bit_or eq (shl_exact 8 (8 * n) 64 b (omega arith))
+    ∙ or_shifted_r x (8 * n) (digits_of f (8 * n)) (digits_of-lt f bits (8 * n))
+    ∙ ap (λ (y : ℕ). y * 2 ^ (8 * n) + digits_of f (8 * n)) byte
+    ∙ sym (digits_of-append f (8 * n) 8)
+    ∙ ap (digits_of f) e
+
 bytes_worth : (n : ℕ) → 256 ^ n ≡ 2 ^ (8 * n)
 bytes_worth zero = refl
 bytes_worth (suc n) =
@@ -106,7 +125,7 @@ quarter-bytes l part i b h =
 
 -- ---- and its bytes from a quarter
 
-byte-is : (q : List ℕ) (i r : ℕ) → r < 256 → r ≡ get_or q (i / 8) 0 / 2 ^ (8 * (i % 8)) % 256 → r ≡ byte_of (line_at q) i
+pub byte-is : (q : List ℕ) (i r : ℕ) → r < 256 → r ≡ get_or q (i / 8) 0 / 2 ^ (8 * (i % 8)) % 256 → r ≡ byte_of (line_at q) i
 byte-is q i r b e =
     byte_of-is (line_at q) i r b
     (λ j h.

@@ -3,12 +3,28 @@ use mathlib.Core.Path.{◌≡◌, refl, sym, ap, ◌∙◌}
 use mathlib.Core.Bool.{Bool, true, false, cond, not, ◌&&◌, ◌||◌}
 use mathlib.Core.List.{List, [], ◌∷◌}
 use Prim.Native.Nat.{ℕ, zero, suc, ◌+◌, ◌<◌, ◌≤◌}
+use native.Mathlib.Numerals.{add-one}
 use native.Mathlib.Omega.{arith}
 use lib.Dec.{eqb, leb, ltb}
-use lib.ListN.{length, replicate}
+use lib.ListN.{length, drop, replicate, get_or, drop_of_length-le}
+use lib.Seq.{drop-cons}
 use borrow.Author.Tests.{ne_eqb, eq-eqb, eqb-true, leb-true, ltb-true, lt-ltb}
 use Rattle.bits.proofs.Rows.{and_left, and_right}
 use Rattle.blocks.specs.Block.{two_at, sums_right, used_right, all_zero, zeros_right, fault}
+
+-- ---- zeros from a place on
+
+pub zero_more : (s : List ℕ) (i : ℕ) → i < length s → get_or s i 0 ≡ 0 → all_zero (drop (i + 1) s) ≡ all_zero (drop i s)
+unfolding all_zero
+zero_more s i h e = sym (ap all_zero (drop-cons s i 0 h) ∙ ap (λ (x : ℕ). eqb x 0 && all_zero (drop (suc i) s)) e ∙ ap (λ (k : ℕ). all_zero (drop k s)) (sym (add-one i)))
+
+pub zero-stop : (s : List ℕ) (i : ℕ) → i < length s → (get_or s i 0 ≡ 0 → ⊥) → all_zero (drop i s) ≡ false
+unfolding all_zero
+zero-stop s i h u = ap all_zero (drop-cons s i 0 h) ∙ ap (λ (t : Bool). t && all_zero (drop (suc i) s)) (ne_eqb (get_or s i 0) 0 u)
+
+pub zero-end : (s : List ℕ) (i : ℕ) → length s ≤ i → all_zero (drop i s) ≡ true
+unfolding all_zero
+zero-end s i h = ap all_zero (drop_of_length-le s h)
 
 -- ---- zeros
 

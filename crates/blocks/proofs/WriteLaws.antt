@@ -1,6 +1,6 @@
 -- Laws of a block that is written: its length, and what code that writes it part by part leaves. Assumes nothing.
 use mathlib.Core.Path.{◌≡◌, refl, sym, ap, ap₂, ◌∙◌}
-use mathlib.Core.List.{List, ◌++◌, append_assoc}
+use mathlib.Core.List.{List, ◌∷◌, ◌++◌, append_assoc}
 use Prim.Native.Nat.{ℕ, ◌+◌, ◌-◌, ◌≤◌}
 use native.Mathlib.Omega.{arith}
 use lib.ListN.{length, take, drop, replicate, drop_of_length-le, length-append, length-replicate, length-drop}
@@ -67,3 +67,7 @@ module _ (kind place count n : ℕ) (out h z t : List ℕ) where
       ap₂ (λ (u v : List ℕ). u ++ (v ++ post_of 508 4 o2)) b (et ∙ ap₂ (λ (u v : ℕ). two u ++ two v) (s1-front o2 bd b) (s2-front o2 bd b))
       ∙ ap (λ (u : List ℕ). bd ++ ((two (s1 bd) ++ two (s2 bd)) ++ u)) (drop-drop 4 508 o2 ∙ drop_of_length-le o2 {i = 508 + 4} (omega arith))
       ∙ sym (append_assoc bd (two (s1 bd)) (two (s2 bd)))
+
+-- four bytes and a rest
+pub four : {a a' b b' c c' d d' : ℕ} {r r' : List ℕ} → a ≡ a' → b ≡ b' → c ≡ c' → d ≡ d' → r ≡ r' → a ∷ b ∷ c ∷ d ∷ r ≡ a' ∷ b' ∷ c' ∷ d' ∷ r'
+four p q r s t = cc

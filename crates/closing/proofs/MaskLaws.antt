@@ -121,6 +121,7 @@ module _ (m : ℕ → Bool) (t u : ℕ) where
 
 -- the words below w are done: k of them are marked, and `out` has the values that have arrived
 pub record SoFar (m : ℕ → Bool) (t u w k : ℕ) (out : List ℕ) : Type 0 where
+  pub words : w ≤ 256
   pub below : k ≤ w
   pub ranked : k ≡ count m w
   pub filled : out ≡ item (landed m t u w)
@@ -160,7 +161,7 @@ module _ {m : ℕ → Bool} {t u w k : ℕ} {out : List ℕ} (s : SoFar m t u w 
   pub so_far : (b : Bool) {k' : ℕ} {out' : List ℕ} → m w ≡ b → k' ≡ k + cond b 1 0 → out' ≡ item (landed m t u (w + 1)) → SoFar m t u (w + 1) k' out'
   so_far b x e o =
       let r = e ∙ rank-more m w k b s.ranked x in
-      record { below = omega (arith, count-le m (w + 1)); ranked = r; filled = o }
+      record { words = omega arith; below = omega (arith, count-le m (w + 1)); ranked = r; filled = o }
 
 -- ---- the words from number a on
 

@@ -3,10 +3,11 @@ use mathlib.Core.Path.{◌≡◌, sym, ap, ap₂, ◌∙◌}
 use mathlib.Core.List.{List}
 use Prim.Native.Nat.{ℕ, ◌+◌, ◌-◌, ◌*◌, ◌/◌, ◌%◌, ◌^◌, ◌<◌, ◌≤◌}
 use native.Mathlib.Nat.{lt_of_le_of_lt, mul_comm, mod-eq_of_lt}
+use native.Mathlib.Decide.{ℕ_discrete}
 use native.Mathlib.Omega.{arith}
 use lib.Bits.{bit_and, bit_or, bit_xor, xor_lt, xor_zero_r, xor_block, and_le_r, and_comm, and_mask, and_block}
 use lib.ListN.{length, get_or, set, take, drop}
-use lib.Seq.{get_or-take, get_or-drop}
+use lib.Seq.{get_or-take, get_or-drop, get_or-set_same, get_or-set_other}
 use borrow.Rule.Slice.PartMut.{mid_of, put_mid, mid_len, set_mid_at}
 use Rattle.bits.specs.Bits.{digit, bit_of, listed, digits_of, byte_of, item}
 use Rattle.bits.specs.Steps.{written}
@@ -243,6 +244,16 @@ lane-more lane t w out ys h size ew e ey =
         let lo : (32 * w + i) % 32 ≡ i = omega arith in
         let hi : (32 * w + i) / 32 ≡ t = omega arith in
         sym (ap₂ lane lo hi)
+
+-- ---- the first byte of each lane, one lane more
+
+pub first_more : (φ : ℕ → ℕ) (out : List ℕ) (t k v : ℕ) → 32 * t < length out → k ≡ 32 * t → v ≡ φ t → ((s : ℕ) → s < t → get_or out (32 * s) 0 ≡ φ s)
+    → (s : ℕ) → s < t + 1 → get_or (set out k v) (32 * s) 0 ≡ φ s
+first_more φ out t k v size ek ev h s hs = ap (λ (x : ℕ). get_or (set out x v) (32 * s) 0) ek ∙ go (ℕ_discrete s t)
+  where
+    go : Dec (s ≡ t) → get_or (set out (32 * t) v) (32 * s) 0 ≡ φ s
+    go (yes e) = ap (λ (x : ℕ). get_or (set out (32 * t) v) (32 * x) 0) e ∙ get_or-set_same out (32 * t) v 0 size ∙ ev ∙ sym (ap φ e)
+    go (no u) = get_or-set_other out (32 * t) (32 * s) v 0 (λ e. u (omega arith)) ∙ h s (omega arith)
 
 -- ---- the chip writer, seen from the whole memory
 

@@ -1,12 +1,13 @@
 -- What a pass answers, from where byte 6 stands in the table; the passed item in each form; that there is one answer. Assumes nothing.
-use mathlib.Core.Path.{◌≡◌, refl, sym, ap, ◌∙◌}
+use mathlib.Core.Path.{◌≡◌, refl, sym, ap, ◌∙◌, subst}
 use mathlib.Core.Bool.{Bool, true, false, cond}
 use mathlib.Core.List.{List}
 use mathlib.Core.Logic.{◌↔◌}
-use Prim.Native.Nat.{ℕ, ◌/◌, ◌%◌, ◌<◌}
+use Prim.Native.Nat.{ℕ, ◌/◌, ◌%◌, ◌≤◌, ◌<◌}
 use native.Mathlib.Omega.{arith}
 use lib.Bits.{bit_or, bit_xor, xor_zero_r, xor_lt, or_add_and, and_le_l, and_le_r}
 use lib.ListN.{length, get_or, replicate}
+use borrow.Author.Tests.{lt-ltb, le-ltb}
 use Rattle.std.specs.Prelude.{Result, Ok, Err}
 use Rattle.bits.specs.declared.refusals.Refusal.{Refusal}
 use Rattle.bits.proofs.RefusalLaws.{number-positive, number-injective}
@@ -26,6 +27,16 @@ use Rattle.network.specs.Answer.{passed_item, Passed, passed_of, answer}
 use Rattle.network.proofs.PassLaws.{unshifted-lt, unshifted-none, passed-bit, passed-only}
 use Rattle.network.proofs.Agreement.{agree-item}
 use Rattle.network.proofs.TableRules.{none-permitted, listed-none, shift, entry_of}
+
+-- ---- whether a code is permitted, from where it was found
+
+pub found-permitted : (c s : ℕ) → s ≡ shift_of c → s < 37 → permitted c ≡ true
+unfolding permitted
+found-permitted c s e h = lt-ltb (shift_of c) 37 (subst (λ (k : ℕ). k < 37) e h)
+
+pub lost-refused : (c s : ℕ) → s ≡ shift_of c → 37 ≤ s → permitted c ≡ false
+unfolding permitted
+lost-refused c s e h = le-ltb (shift_of c) 37 (subst (λ (k : ℕ). 37 ≤ k) e h)
 
 -- ---- the two answers
 
@@ -98,13 +109,17 @@ none-moved l f c e =
     stay_none l f (omega arith) ∙ flip-none l f c (omega arith)
 
 -- eight levels, by the agreement
-pub wired-passed : (l r : List ℕ) (f c s : ℕ) → f < 256 → permitted c ≡ true → s ≡ shift_of c → r ≡ wired_item 8 f (p_of s) (m_of s) l → r ≡ passed_item l f c
-wired-passed l r f c s q t e d =
+pub wired-permitted : (l r : List ℕ) (f c s : ℕ) → f < 256 → permitted c ≡ true → s ≡ shift_of c → r ≡ wired_item 8 f (p_of s) (m_of s) l → r ≡ passed_item l f c
+wired-permitted l r f c s q t e d =
     let w = shift c t in
     d
     ∙ ap (λ (k : ℕ). wired_item 8 f (k / 16) (k % 16) l) (ap (λ (k : ℕ). get_or codes k 0) e ∙ entry_of c t)
     ∙ agree-item f (c / 16) (c % 16) l w.below w.within q
     ∙ sym (passed_item-is l f c t)
+
+-- the same, from where the code was found
+pub wired-passed : (l r : List ℕ) (f c s : ℕ) → f < 256 → s ≡ shift_of c → s < 37 → r ≡ wired_item 8 f (p_of s) (m_of s) l → r ≡ passed_item l f c
+wired-passed l r f c s q e h d = wired-permitted l r f c s q (found-permitted c s e h) e d
 
 -- ---- what whoever goes on with a passed item asks of it
 

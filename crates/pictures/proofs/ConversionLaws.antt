@@ -2,11 +2,13 @@
 use mathlib.Core.Path.{◌≡◌, refl, sym, ap, ap₂, ◌∙◌}
 use mathlib.Core.Bool.{true}
 use mathlib.Core.List.{List, [], ◌++◌, append-nil}
-use Prim.Native.Nat.{ℕ, ◌+◌}
+use Prim.Native.Nat.{ℕ, ◌+◌, ◌-◌}
 use native.Mathlib.Omega.{arith}
 use lib.ListN.{length, drop}
 use lib.Seq.{take_all}
+use borrow.Rule.Slice.PartMut.{put_mid}
 use Rattle.bits.specs.Steps.{written}
+use Rattle.bits.proofs.Puts.{part-put, put_front}
 use Rattle.registers.specs.Modes.{mode_bytes, none_set}
 use Rattle.contents.specs.File.{is_picture, content_of, blocks_of}
 use Rattle.contents.specs.Content.{over}
@@ -28,8 +30,13 @@ module _ (kind : ℕ) (bytes : List ℕ) (p : is_picture kind ≡ true) (s : Sta
   picture-length = file-size kind bytes s ∙ picture-blocks kind (length (content_of bytes)) picture-bytes
 
 -- copied to the front of an output it stands over it
-pub copied-over : (bytes out ys : List ℕ) → length bytes ≡ 8704 → ys ≡ bytes → ys ++ drop 8704 out ≡ over bytes out
-copied-over bytes out ys n e = ap₂ (λ (l : List ℕ) (k : ℕ). l ++ drop k out) e (sym n)
+pub copied-over : (bytes out ys : List ℕ) → length bytes ≡ 8704 → ys ≡ bytes → put_mid 0 (8704 - 0) out ys ≡ over bytes out
+copied-over bytes out ys n e =
+    part-put 0 8704 out ys (ap length e ∙ n) ∙ put_front ys out ∙ ap (λ (l : List ℕ). over l out) e
+
+-- the same, put before what is left of the output
+pub copied-front : (bytes out ys : List ℕ) → length bytes ≡ 8704 → ys ≡ bytes → ys ++ drop 8704 out ≡ over bytes out
+copied-front bytes out ys n e = ap₂ (λ (l : List ℕ) (k : ℕ). l ++ drop k out) e (sym n)
 
 -- ---- and sealed anew
 

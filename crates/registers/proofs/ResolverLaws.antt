@@ -40,7 +40,7 @@ module _ (y : List ℕ) (i : ℕ) (bound : get_or y i 0 < 2 ^ 8) (before : NoneT
   skip-byte e k h = skip_block (bit_of y) (8 * i) 8 (get_or y i 0) bound (bit_of-at y i) before e k (omega arith)
 
   -- one that is not has the smallest
-  hit-byte : i < 32 → 0 < get_or y i 0 → 8 * i + count_trailing_zeros 8 (get_or y i 0) ≡ smallest (bit_of y)
+  pub hit-byte : i < 32 → 0 < get_or y i 0 → 8 * i + count_trailing_zeros 8 (get_or y i 0) ≡ smallest (bit_of y)
   unfolding smallest
   hit-byte h p = hit-block (bit_of y) (8 * i) 8 (get_or y i 0) bound (bit_of-at y i) before p 256 (omega arith)
 
@@ -50,9 +50,13 @@ module _ (y : List ℕ) (i : ℕ) (bound : get_or y i 0 < 2 ^ 8) (before : NoneT
       line-if (8 * i + k) (omega arith) ∙ ap if_line (ap (λ (j : ℕ). 8 * i + j) e ∙ hit-byte h p)
 
 -- where all 32 were passed there is none
-pub all-passed : (y : List ℕ) (i : ℕ) → i ≡ 32 → NoneTo y i → None ≡ if_line (smallest (bit_of y))
+pub all-passed : (y : List ℕ) (i : ℕ) → i ≡ 32 → NoneTo y i → 256 ≡ smallest (bit_of y)
 unfolding smallest
-all-passed y i e before = ap if_line (found_none (is_one (bit_of y)) 256 (λ k h. before k (omega arith)))
+all-passed y i e before = found_none (is_one (bit_of y)) 256 (λ k h. before k (omega arith))
+
+-- so the search finds none
+pub hit-none : (y : List ℕ) (i : ℕ) → i ≡ 32 → NoneTo y i → None ≡ if_line (smallest (bit_of y))
+hit-none y i e before = ap if_line (all-passed y i e before)
 
 -- ---- the count, by bytes
 
@@ -109,11 +113,22 @@ smallest-le y = omega (arith, first-le (is_one y) 0 256)
 pub two-bytes : (n : ℕ) → n < 65536 → to_le_bytes w16 n ≡ two n
 two-bytes n h = ap₂ (λ (a b : ℕ). a ∷ b ∷ []) (omega arith) (omega arith)
 
+-- the item byte by byte
+pub resolved-is : (y : ℕ → ℕ) (s c a low high low' high' : ℕ) → s ≡ smallest y → c ≡ responder_count y
+    → a ≡ activity s → low ≡ s % 256 → high ≡ s / 256 → low' ≡ c % 256 → high' ≡ c / 256
+    → a ∷ low ∷ high ∷ low' ∷ high' ∷ replicate 27 0 ≡ resolved y
+unfolding resolved
+resolved-is y s c a low high low' high' es ec ea el eh el' eh' =
+    ap₂ (λ (x z : ℕ). x ∷ z ∷ high ∷ low' ∷ high' ∷ replicate 27 0) ea el
+    ∙ ap₂ (λ (x z : ℕ). activity s ∷ s % 256 ∷ x ∷ z ∷ high' ∷ replicate 27 0) eh el'
+    ∙ ap (λ (x : ℕ). activity s ∷ s % 256 ∷ s / 256 ∷ c % 256 ∷ x ∷ replicate 27 0) eh'
+    ∙ ap₂ item_of es ec
+
 -- as code puts it together: the activity, and two bytes each of the smallest and of the count
-pub resolved-is : (y : ℕ → ℕ) (a : ℕ) (s c : List ℕ) → a ≡ activity (smallest y) → s ≡ two (smallest y) → c ≡ two (responder_count y)
+pub resolved-put : (y : ℕ → ℕ) (a : ℕ) (s c : List ℕ) → a ≡ activity (smallest y) → s ≡ two (smallest y) → c ≡ two (responder_count y)
     → put_mid 3 2 (put_mid 1 2 (a ∷ replicate 31 0) s) c ≡ resolved y
 unfolding resolved
-resolved-is y a s c ea es ec =
+resolved-put y a s c ea es ec =
     ap (λ (z : ℕ). put_mid 3 2 (put_mid 1 2 (z ∷ replicate 31 0) s) c) ea
     ∙ ap₂ (λ (p q : List ℕ). put_mid 3 2 (put_mid 1 2 (activity (smallest y) ∷ replicate 31 0) p) q) es ec
 

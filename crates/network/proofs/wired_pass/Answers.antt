@@ -1,6 +1,6 @@
 -- `wired_pass`: the two answers, by where the code was found; eight levels are the pass, by the agreement.
 use mathlib.Core.Path.{sym, ◌∙◌}
-use Rattle.network.proofs.AnswerLaws.{given, refused, wired-passed}
+use Rattle.network.proofs.AnswerLaws.{given, refused, wired-permitted}
 use Rattle.network.proofs.TableRules.{found-some, found_none}
 use Rattle.network.proofs.wired_pass.Goals as goal
 
@@ -17,4 +17,4 @@ pub returns : goal.returns
 returns c =
     let a = c.args in
     let w = found-some a.code c.in-Some.s (sym c.find.ensures ∙ c.in-Some.is) in
-    given _ _ _ _ w.0 (wired-passed _ _ a.flip a.code _ c.ranges.flip.fits w.0 (c.of-signals.ensures ∙ w.1) c.wired_item.ensures)
+    given _ _ _ _ w.0 (wired-permitted _ _ a.flip a.code _ c.ranges.flip.fits w.0 (c.of-signals.ensures ∙ w.1) c.wired_item.ensures)

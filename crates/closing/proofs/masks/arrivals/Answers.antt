@@ -13,7 +13,7 @@ use Rattle.closing.proofs.masks.arrivals.Goals.{then-is_marked, else-is_marked, 
 
 pub loop-w-init : goal.loop-w-init
 unfolding count listed byte_of digits_of
-loop-w-init c = record { below = omega arith; ranked = refl; filled = refl }
+loop-w-init c = record { words = omega arith; below = omega arith; ranked = refl; filled = refl }
 
 pub add_line-requires : goal.add_line-requires
 add_line-requires c =

@@ -17,7 +17,7 @@ use Rattle.contents.proofs.MovedLaws.{number-some}
 use Rattle.contents.proofs.FileLaws.{file-stands}
 use Rattle.contents.proofs.AnswerLaws.{leaving, left-unmoved, left-changed, answered-no-row, answered-first, read-refused, read-rows}
 use Rattle.pictures.specs.Conversion.{to_new_rows, to_new}
-use Rattle.pictures.proofs.ConversionLaws.{picture-length, copied-over, new-sealed}
+use Rattle.pictures.proofs.ConversionLaws.{picture-length, copied-front, new-sealed}
 use Rattle.pictures.proofs.convert.to_new.Goals as goal
 
 pub returns-in_err-judge_file : goal.returns-in_err-judge_file
@@ -52,4 +52,4 @@ returns c =
     _
     (c.seal_all.ensures
     ∙ new-sealed b out _ s
-    (c.put_part.ensures ∙ ap (laid (mode_bytes none_set) 8288) (copied-over b out _ (picture-length 1 b refl s) c.copy_from_slice.ensures.after))) refl
+    (c.put_part.ensures ∙ ap (laid (mode_bytes none_set) 8288) (copied-front b out _ (picture-length 1 b refl s) c.copy_from_slice.ensures.after))) refl

@@ -18,7 +18,7 @@ use Rattle.contents.proofs.AnswerLaws.{leaving, left-unmoved, left-changed, answ
 use Rattle.pictures.specs.Picture.{content_modes}
 use Rattle.pictures.specs.Conversion.{to_old_rows, to_old}
 use Rattle.pictures.proofs.PictureLaws.{picture-judged}
-use Rattle.pictures.proofs.ConversionLaws.{picture-length, copied-over, old-sealed}
+use Rattle.pictures.proofs.ConversionLaws.{picture-length, copied-front, old-sealed}
 use Rattle.pictures.proofs.convert.to_old.Goals as goal
 
 pub returns-in_err-judge_file : goal.returns-in_err-judge_file
@@ -79,4 +79,4 @@ returns c =
     left-changed (done 8704) _ _ _
     (answered-no-row rows _ (flags ∙ c.if-wrong_modes.false, (sets ∙ c.if-any_set.false, (le-ltb _ _ c.if-out-lt-FILE.false, tt)))
     ∙ read-rows 4 b _ _ _ c.in_ok-judge_file.ensures refl)
-    _ (c.seal_all.ensures ∙ old-sealed b out _ s (copied-over b out _ (picture-length 4 b refl s) c.copy_from_slice.ensures.after)) refl
+    _ (c.seal_all.ensures ∙ old-sealed b out _ s (copied-front b out _ (picture-length 4 b refl s) c.copy_from_slice.ensures.after)) refl

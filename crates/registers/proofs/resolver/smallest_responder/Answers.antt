@@ -1,6 +1,6 @@
 -- `registers::resolver::smallest_responder`: no line of the bytes passed is 1, and the first byte that is not 0 has the smallest. Assumes nothing.
 use native.Mathlib.Omega.{arith}
-use Rattle.registers.proofs.ResolverLaws.{skip-byte, hit-found, all-passed}
+use Rattle.registers.proofs.ResolverLaws.{skip-byte, hit-found, hit-none}
 use Rattle.registers.proofs.resolver.smallest_responder.Goals as goal
 
 pub returns-then-x-ne0 : goal.returns-then-x-ne0
@@ -12,4 +12,4 @@ pub loop-i-preserved : goal.loop-i-preserved
 loop-i-preserved c = skip-byte c.args.y.now c.loop-i.i (c.fits-y c.loop-i.i) c.loop-i.invariant c.if-x-ne0.false
 
 pub returns : goal.returns
-returns c = all-passed c.args.y.now c.loop-i.i (omega arith) c.loop-i.invariant
+returns c = hit-none c.args.y.now c.loop-i.i (omega arith) c.loop-i.invariant
