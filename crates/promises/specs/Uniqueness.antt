@@ -265,9 +265,9 @@ module _ {M : Type 1} {𝓤 : Ura M} (𝓛 : Logic 𝓤) (memory : Memory → SP
     pub put_byte : OneOutcome 𝓤 put_byte.ended (put_byte.clauses 𝓛 memory runs) {O = ℕ × List ℕ} (λ κs r e. (r, e.0.now))
     pub item_of : OneOutcome 𝓤 item_of.ended (item_of.clauses 𝓛 memory runs) (λ κs r e. r)
     pub flip_quarters : OneOutcome 𝓤 flip_quarters.ended (flip_quarters.clauses 𝓛 memory runs) (λ κs r e. r)
-    -- of whatever type, the number that the result is
+    -- of whatever type, since a number tells the value that it is of
     pub mix : (T : RattleType) (g : _) (d₁ : _) (c : _) (d₂ : _) (x : _) (d₃ : _) (a : _) (d₄ : _)
-        → OneOutcome 𝓤 (mix.ended T g d₁ c d₂ x d₃ a d₄) (mix.clauses T g d₁ c d₂ x d₃ a d₄ 𝓛 memory runs) {O = ℕ} (λ κs r e. g.number r)
+        → OneOutcome 𝓤 (mix.ended T g d₁ c d₂ x d₃ a d₄) (mix.clauses T g d₁ c d₂ x d₃ a d₄ 𝓛 memory runs) (λ κs r e. r)
     pub spread_lane : (TURNED : RattleType) → OneOutcome 𝓤 (spread_lane.ended TURNED) (spread_lane.clauses TURNED 𝓛 memory runs) (λ κs r e. r)
     pub gather_lane : OneOutcome 𝓤 gather_lane.ended (gather_lane.clauses 𝓛 memory runs) (λ κs r e. r)
     pub keep_lane : OneOutcome 𝓤 keep_lane.ended (keep_lane.clauses 𝓛 memory runs) (λ κs r e. r)
