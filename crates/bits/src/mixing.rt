@@ -1,5 +1,5 @@
 // Numbers mixed digit by digit: of bytes, and of quarters.
-ghost use Rattle.std.specs.Prelude.{◌≡◌, ℕ};
+ghost use Rattle.std.specs.Prelude.{◌≡◌, ℕ, refl};
 ghost use Rattle.std.specs.Int.Bits.{bit_and, bit_xor};
 ghost use Rattle.bits.specs.Steps.{mixed};
 
@@ -9,6 +9,11 @@ use std::ops::{BitAnd, BitXor};
 pub trait Digits: Copy + BitXor<Output = Self> + BitAnd<Output = Self> {
     // The number that it is.
     ghost number: { Self → ℕ };
+
+    // The value that a number is of: so no two have one number.
+    ghost value: { ℕ → Self };
+
+    ghost number_tells: { (a : Self) → value (number a) ≡ a };
 
     ghost can_xor: { (a b : Self) → Self.can_bitxor a b };
 
@@ -22,6 +27,10 @@ pub trait Digits: Copy + BitXor<Output = Self> + BitAnd<Output = Self> {
 impl Digits for u8 {
     ghost number = { λ x. x };
 
+    ghost value = { λ n. n };
+
+    ghost number_tells = { λ a. refl };
+
     ghost can_xor = { λ a b. tt };
 
     ghost can_and = { λ a b. tt };
@@ -33,6 +42,10 @@ impl Digits for u8 {
 
 impl Digits for u64 {
     ghost number = { λ x. x };
+
+    ghost value = { λ n. n };
+
+    ghost number_tells = { λ a. refl };
 
     ghost can_xor = { λ a b. tt };
 

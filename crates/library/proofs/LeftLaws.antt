@@ -91,12 +91,12 @@ built-left : (b c : Buffer) (w : List ℕ) → b ≡ c → w ≡ b.answer.number
     → ◌≡◌ {A = BufferLeft} (record { buffer = b.list; answer = w }) (built_left c)
 built-left b c w e d = ap (λ (x : List ℕ). record { buffer = b.list; answer = x }) d ∙ ap built_left e
 
--- 5,640 bytes are the most of any list, and a text may have 786,432
-small-built : (last most : ℕ) → most ≤ 5640 → (b c : Buffer) → b ≡ c → Bounded2 last most c.answer → b.answer.count ≤ 786432
+-- 5,640 bytes are the most of any list
+small-built : (last most : ℕ) → most ≤ 5640 → (b c : Buffer) → b ≡ c → Bounded2 last most c.answer → b.answer.count ≤ 5640
 small-built last most m b c e h = let s = (subst (λ (x : Buffer). Bounded2 last most x.answer) (sym e) h).count in omega arith
 
 module _ (a b s n : ℕ) (list : List ℕ) (l : Buffer) where
-  pub sum-small : l ≡ sum_built a b s n list → l.answer.count ≤ 786432
+  pub sum-small : l ≡ sum_built a b s n list → l.answer.count ≤ 5640
   sum-small e = small-built 33 2576 (omega arith) l _ e (sum-bounds a b s n list)
 
   pub sum-left : (w : List ℕ) → l ≡ sum_built a b s n list → w ≡ l.answer.number ∷ l.answer.count ∷ []
@@ -104,7 +104,7 @@ module _ (a b s n : ℕ) (list : List ℕ) (l : Buffer) where
   unfolding sum_left
   sum-left w e d = built-left l (sum_built a b s n list) w e d
 
-  pub difference-small : l ≡ difference_built a b s n list → l.answer.count ≤ 786432
+  pub difference-small : l ≡ difference_built a b s n list → l.answer.count ≤ 5640
   difference-small e = small-built 33 2576 (omega arith) l _ e (difference-bounds a b s n list)
 
   pub difference-left : (w : List ℕ) → l ≡ difference_built a b s n list → w ≡ l.answer.number ∷ l.answer.count ∷ []
@@ -113,7 +113,7 @@ module _ (a b s n : ℕ) (list : List ℕ) (l : Buffer) where
   difference-left w e d = built-left l (difference_built a b s n list) w e d
 
 module _ (a n : ℕ) (list : List ℕ) (l : Buffer) where
-  pub greatest-small : l ≡ greatest_built a n list → l.answer.count ≤ 786432
+  pub greatest-small : l ≡ greatest_built a n list → l.answer.count ≤ 5640
   greatest-small e = small-built 33 5640 (omega arith) l _ e (greatest-bounds a n list)
 
   pub greatest-left : (w : List ℕ) → l ≡ greatest_built a n list → w ≡ l.answer.number ∷ l.answer.count ∷ []

@@ -1,11 +1,12 @@
 -- The documents' numbers that a contract speaks of, led back to the result that they are of: each result's numbers are its own. Assumes nothing.
-use mathlib.Core.Path.{◌≡◌, refl, ap, ◌∙◌}
+use mathlib.Core.Path.{◌≡◌, refl, sym, ap, ◌∙◌}
 use mathlib.Core.Bool.{Bool, cond}
 use mathlib.Core.List.{List}
 use Prim.Native.Nat.{ℕ}
 use lib.Dec.{eqb}
 use Rattle.std.specs.Prelude.{Result, Ok, Err}
 use Rattle.bits.specs.declared.refusals.Refusal.{Refusal}
+use Rattle.bits.specs.declared.refusals.Refusal.TheVariants.{BlockKind}
 use Rattle.bits.specs.Refusals.{number_of_refusal}
 use Rattle.bits.proofs.RefusalLaws.{refusal_of, refusal_of-number, number-never-zero}
 use Rattle.network.specs.Answer.{Passed, passed_of}
@@ -23,6 +24,10 @@ use Rattle.assembly.specs.Assembly.{Assembled}
 use Rattle.assembly.specs.Results.{assembled_of}
 use Rattle.contents.specs.declared.Refused.{Refused as AtBlock}
 use Rattle.contents.specs.Moved.{Moved, moved_of}
+use Rattle.contents.specs.declared.Kind.{Kind}
+use Rattle.contents.specs.declared.Kind.TheVariants.{Picture, List as ListKind, Items, ModesPicture}
+use Rattle.contents.specs.File.{kind_right}
+use Rattle.contents.specs.Kinds.{number_of_kind, KindOf}
 use Rattle.judge.specs.declared.Fault.{Fault as Wrong}
 use Rattle.judge.specs.Answers.{Fault, fault_given}
 use Rattle.bits.specs.Refusals.{number_given}
@@ -147,6 +152,29 @@ sort-back Nothing = refl
 sort-back Whole = refl
 sort-back Comment = refl
 sort-back Refused = refl
+
+-- the kind of a number, from the number: 4 where it is none of the others
+kind_of_number : ℕ → Kind
+kind_of_number n = cond (eqb n 1) Picture (cond (eqb n 2) ListKind (cond (eqb n 3) Items ModesPicture))
+
+kind-of-number : (k : Kind) → kind_of_number (number_of_kind k) ≡ k
+unfolding kind_of_number
+kind-of-number Picture = refl
+kind-of-number ListKind = refl
+kind-of-number Items = refl
+kind-of-number ModesPicture = refl
+
+-- what `KindOf` tells: the kind of a number, or that no kind has it
+pub kind_told : ℕ → Result Kind Refusal
+kind_told n = cond (kind_right n) (Ok (kind_of_number n)) (Err BlockKind)
+
+pub kind-told : (n : ℕ) (r : Result Kind Refusal) → KindOf n r → r ≡ kind_told n
+unfolding kind_told
+kind-told n (Ok k) h =
+    ap Ok (sym (kind-of-number k) ∙ ap kind_of_number h.0)
+    ∙ ap (λ (b : Bool). cond b (Ok (kind_of_number n)) (Err BlockKind)) (sym h.1)
+kind-told n (Err why) h =
+    ap Err h.0 ∙ ap (λ (b : Bool). cond b (Ok (kind_of_number n)) (Err BlockKind)) (sym h.1)
 
 pub reached_back : Reached → Result ℕ Refusal
 reached_back r = back r.number r.count (λ x. x)

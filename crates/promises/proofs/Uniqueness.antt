@@ -28,8 +28,8 @@ use Rattle.lines.specs.Sorts.{number_of_sort}
 use Rattle.isolation.specs.Isolation.{isolation_given}
 use Rattle.module.specs.Run.{stepped}
 use Rattle.contents.specs.Moved.{moved_of}
-use Rattle.promises.proofs.Results.{passed_back, passed-back, answer_back, answer-back, fault_back, fault-back, given_back, given-back, sort_back, sort-back, reached_back, reached-back, isolation_back, isolation-back, stepped_back, stepped-back, shown_back, shown-back, made_back, made-back, assembled_back, assembled-back, moved_back, moved-back, left_back, left-back, buffer_back, buffer-back, buffers_back, buffers-back, content_back, content-back, picture_back, picture-back}
-use Rattle.promises.specs.Uniqueness.{Sight, OneOutcome, Same, Entries, Library, Program, OfBits, OfMemory, OfWords, OfNetwork, OfRegisters, OfJudge, OfBuilders, OfReach, OfSpelling, OfLines, OfBlocks, OfContents, OfPictures, Uniqueness}
+use Rattle.promises.proofs.Results.{passed_back, passed-back, answer_back, answer-back, fault_back, fault-back, given_back, given-back, sort_back, sort-back, reached_back, reached-back, isolation_back, isolation-back, stepped_back, stepped-back, shown_back, shown-back, made_back, made-back, assembled_back, assembled-back, moved_back, moved-back, left_back, left-back, buffer_back, buffer-back, buffers_back, buffers-back, content_back, content-back, picture_back, picture-back, kind_told, kind-told}
+use Rattle.promises.specs.Uniqueness.{Sight, OneOutcome, Same, Entries, Library, Program, OfBits, OfMemory, OfWords, OfNetwork, OfRegisters, OfJudge, OfBuilders, OfIsolation, OfReach, OfSpelling, OfLines, OfText, OfBlocks, OfContents, OfPictures, Uniqueness}
 
 -- ---- the laws
 
@@ -171,7 +171,7 @@ module _ {M : Type 1} {𝓤 : Ura M} (𝓛 : Logic 𝓤) (memory : Memory → SP
         put_byte = record { told = _; tells = λ κs a g r e. fact_mono 𝓤 _ _ (put-told a.1.0 (a.1.1.0 ∷ []) a.0.now) };
         item_of = equation 𝓤 _ (λ κs a g r e. refl);
         flip_quarters = equation 𝓤 _ (λ κs a g r e. refl);
-        mix = λ T g d₁ c d₂ x d₃ a d₄. equation 𝓤 _ (λ κs a g r e. refl);
+        mix = λ T g d₁ c d₂ x d₃ a d₄. converted 𝓤 (λ κs r e. g.number r) g.value _ (λ κs r e. g.number_tells r) (λ κs a h r e. refl);
         spread_lane = λ T. equation 𝓤 _ (λ κs a g r e. refl);
         gather_lane = equation 𝓤 _ (λ κs a g r e. refl);
         keep_lane = equation 𝓤 _ (λ κs a g r e. refl);
@@ -243,6 +243,7 @@ module _ {M : Type 1} {𝓤 : Ura M} (𝓛 : Logic 𝓤) (memory : Memory → SP
         gives = equation 𝓤 _ (λ κs a g r e. refl);
         tally = equation 𝓤 _ (λ κs a g r e. refl);
         shortage = equation 𝓤 _ (λ κs a g r e. refl);
+        from = equation 𝓤 _ (λ κs a g r e. refl);
       }
 
   of-builders : OfBuilders 𝓛 memory runs
@@ -259,6 +260,9 @@ module _ {M : Type 1} {𝓤 : Ura M} (𝓛 : Logic 𝓤) (memory : Memory → SP
         logic_at = equation 𝓤 _ (λ κs a g r e. refl);
         store_at = equation 𝓤 _ (λ κs a g r e. refl);
       }
+
+  of-isolation : OfIsolation 𝓛 memory runs
+  of-isolation = record { from = equation 𝓤 _ (λ κs a g r e. refl) }
 
   of-reach : OfReach 𝓛 memory runs
   of-reach = record { reach_of = equation 𝓤 _ (λ κs a g r e. refl) }
@@ -286,6 +290,9 @@ module _ {M : Type 1} {𝓤 : Ura M} (𝓛 : Logic 𝓤) (memory : Memory → SP
         sort = converted 𝓤 (λ κs r e. number_of_sort r) sort_back _ (λ κs r e. sort-back r) (λ κs a g r e. refl);
       }
 
+  of-text : OfText 𝓛 memory runs
+  of-text = record { from = equation 𝓤 _ (λ κs a g r e. refl) }
+
   of-blocks : OfBlocks 𝓛 memory runs
   of-blocks =
       record {
@@ -299,6 +306,8 @@ module _ {M : Type 1} {𝓤 : Ura M} (𝓛 : Logic 𝓤) (memory : Memory → SP
       record {
         is_picture = equation 𝓤 _ (λ κs a g r e. refl);
         number = equation 𝓤 _ (λ κs a g r e. refl);
+        try_from = record { told = λ κs a. kind_told a.0; tells = λ κs a g r e. fact_mono 𝓤 _ _ (kind-told a.0 r) };
+        from = equation 𝓤 _ (λ κs a g r e. refl);
         judge_file = converted 𝓤 (λ κs r e. moved_of r) moved_back _ (λ κs r e. moved-back r) (λ κs a g r e. refl);
         part_of = equation 𝓤 _ (λ κs a g r e. refl);
         put_part = equation 𝓤 _ (λ κs a g r e. refl);
@@ -322,9 +331,11 @@ module _ {M : Type 1} {𝓤 : Ura M} (𝓛 : Logic 𝓤) (memory : Memory → SP
         of_registers = of-registers;
         of_judge = of-judge;
         of_builders = of-builders;
+        of_isolation = of-isolation;
         of_reach = of-reach;
         of_spelling = of-spelling;
         of_lines = of-lines;
+        of_text = of-text;
         of_blocks = of-blocks;
         of_contents = of-contents;
         of_pictures = of-pictures;

@@ -64,6 +64,7 @@ use Rattle.judge.specs.contracts.rows.takes as takes
 use Rattle.judge.specs.contracts.rows.gives as gives
 use Rattle.judge.specs.contracts.searches.tally as tally
 use Rattle.judge.specs.contracts.searches.shortage as shortage
+use Rattle.judge.specs.contracts.RefusedFromRefusal.from as refused_at_instruction
 use Rattle.builders.specs.contracts.field.wrong_width as wrong_width
 use Rattle.builders.specs.contracts.field.beyond as beyond
 use Rattle.builders.specs.contracts.Sizes.lacks as lacks
@@ -91,6 +92,7 @@ use Rattle.builders.specs.contracts.searches.greatest_list as greatest_list
 use Rattle.closing.specs.contracts.closing_list as closing_list
 use Rattle.closing.specs.contracts.spreading_list as spreading_list
 use Rattle.isolation.specs.contracts.isolated as isolated
+use Rattle.isolation.specs.contracts.RefusedFromRefusal.from as refused_by_isolated
 use Rattle.reach.specs.contracts.reach as reach
 use Rattle.reach.specs.contracts.reach_of as reach_of
 use Rattle.spelling.specs.contracts.find as find_word
@@ -109,6 +111,7 @@ use Rattle.lines.specs.contracts.of_kind as of_kind
 use Rattle.text.specs.declared.Refused.{Refused as AtWord}
 use Rattle.text.specs.contracts.showing.show as show
 use Rattle.text.specs.contracts.making.make as make
+use Rattle.text.specs.contracts.RefusedFromRefusal.from as refused_at_word
 use Rattle.assembly.specs.contracts.assemble as assemble
 use Rattle.blocks.specs.contracts.two_at as two_at
 use Rattle.blocks.specs.contracts.fault as block_fault
@@ -116,6 +119,8 @@ use Rattle.blocks.specs.contracts.seal as seal
 use Rattle.contents.specs.declared.Refused.{Refused as AtBlock}
 use Rattle.contents.specs.contracts.is_picture as is_picture
 use Rattle.contents.specs.contracts.Kind.number as kind_number
+use Rattle.contents.specs.contracts.KindTryFromUsize.try_from as kind_try_from
+use Rattle.contents.specs.contracts.RefusedFromRefusal.from as refused_at_block
 use Rattle.contents.specs.contracts.judge_file as judge_file
 use Rattle.contents.specs.contracts.part_of as part_of
 use Rattle.contents.specs.contracts.put_part as put_part
@@ -259,9 +264,9 @@ module _ {M : Type 1} {𝓤 : Ura M} (𝓛 : Logic 𝓤) (memory : Memory → SP
     pub put_byte : OneOutcome 𝓤 put_byte.ended (put_byte.clauses 𝓛 memory runs) {O = ℕ × List ℕ} (λ κs r e. (r, e.0.now))
     pub item_of : OneOutcome 𝓤 item_of.ended (item_of.clauses 𝓛 memory runs) (λ κs r e. r)
     pub flip_quarters : OneOutcome 𝓤 flip_quarters.ended (flip_quarters.clauses 𝓛 memory runs) (λ κs r e. r)
-    -- of whatever type, the number that the result is
+    -- of whatever type, since a number tells the value that it is of
     pub mix : (T : RattleType) (g : _) (d₁ : _) (c : _) (d₂ : _) (x : _) (d₃ : _) (a : _) (d₄ : _)
-        → OneOutcome 𝓤 (mix.ended T g d₁ c d₂ x d₃ a d₄) (mix.clauses T g d₁ c d₂ x d₃ a d₄ 𝓛 memory runs) {O = ℕ} (λ κs r e. g.number r)
+        → OneOutcome 𝓤 (mix.ended T g d₁ c d₂ x d₃ a d₄) (mix.clauses T g d₁ c d₂ x d₃ a d₄ 𝓛 memory runs) (λ κs r e. r)
     pub spread_lane : (TURNED : RattleType) → OneOutcome 𝓤 (spread_lane.ended TURNED) (spread_lane.clauses TURNED 𝓛 memory runs) (λ κs r e. r)
     pub gather_lane : OneOutcome 𝓤 gather_lane.ended (gather_lane.clauses 𝓛 memory runs) (λ κs r e. r)
     pub keep_lane : OneOutcome 𝓤 keep_lane.ended (keep_lane.clauses 𝓛 memory runs) (λ κs r e. r)
@@ -323,6 +328,8 @@ module _ {M : Type 1} {𝓤 : Ura M} (𝓛 : Logic 𝓤) (memory : Memory → SP
     pub gives : OneOutcome 𝓤 gives.ended (gives.clauses 𝓛 memory runs) (λ κs r e. r)
     pub tally : OneOutcome 𝓤 tally.ended (tally.clauses 𝓛 memory runs) (λ κs r e. r)
     pub shortage : OneOutcome 𝓤 shortage.ended (shortage.clauses 𝓛 memory runs) (λ κs r e. r)
+    -- `Refused::from`, by the contract of the trait `From` and the `from_gives` of its `impl`: the refusal at place 0 and byte 0
+    pub from : OneOutcome 𝓤 refused_at_instruction.ended (refused_at_instruction.clauses 𝓛 memory runs) (λ κs r e. r)
 
   -- `builders`
   pub record OfBuilders : Type 2 where
@@ -336,6 +343,11 @@ module _ {M : Type 1} {𝓤 : Ura M} (𝓛 : Logic 𝓤) (memory : Memory → SP
     pub logic_from : OneOutcome 𝓤 logic_from.ended (logic_from.clauses 𝓛 memory runs) (λ κs r e. r)
     pub logic_at : OneOutcome 𝓤 logic_at.ended (logic_at.clauses 𝓛 memory runs) (λ κs r e. r)
     pub store_at : OneOutcome 𝓤 store_at.ended (store_at.clauses 𝓛 memory runs) (λ κs r e. r)
+
+  -- `isolation`
+  pub record OfIsolation : Type 2 where
+    -- `Refused::from`, by its `from_gives`: the refusal at place 0
+    pub from : OneOutcome 𝓤 refused_by_isolated.ended (refused_by_isolated.clauses 𝓛 memory runs) (λ κs r e. r)
 
   -- `reach`
   pub record OfReach : Type 2 where
@@ -360,6 +372,11 @@ module _ {M : Type 1} {𝓤 : Ura M} (𝓛 : Logic 𝓤) (memory : Memory → SP
     pub worded : OneOutcome 𝓤 worded.ended (worded.clauses 𝓛 memory runs) (λ κs r e. r)
     pub sort : OneOutcome 𝓤 sort.ended (sort.clauses 𝓛 memory runs) (λ κs r e. r)
 
+  -- `text`
+  pub record OfText : Type 2 where
+    -- `Refused::from`, by its `from_gives`: the refusal `nowhere`, at line 0 and column 0
+    pub from : OneOutcome 𝓤 refused_at_word.ended (refused_at_word.clauses 𝓛 memory runs) (λ κs r e. r)
+
   -- `blocks`
   pub record OfBlocks : Type 2 where
     pub two_at : OneOutcome 𝓤 two_at.ended (two_at.clauses 𝓛 memory runs) (λ κs r e. r)
@@ -370,6 +387,10 @@ module _ {M : Type 1} {𝓤 : Ura M} (𝓛 : Logic 𝓤) (memory : Memory → SP
   pub record OfContents : Type 2 where
     pub is_picture : OneOutcome 𝓤 is_picture.ended (is_picture.clauses 𝓛 memory runs) (λ κs r e. r)
     pub number : OneOutcome 𝓤 kind_number.ended (kind_number.clauses 𝓛 memory runs) (λ κs r e. r)
+    -- `Kind::try_from`, by the contract of the trait `TryFrom` and the `try_from_gives` of its `impl`: `KindOf`, the kind that has the number, or else 22
+    pub try_from : OneOutcome 𝓤 kind_try_from.ended (kind_try_from.clauses 𝓛 memory runs) (λ κs r e. r)
+    -- `Refused::from`, by its `from_gives`: the refusal at place 0
+    pub from : OneOutcome 𝓤 refused_at_block.ended (refused_at_block.clauses 𝓛 memory runs) (λ κs r e. r)
     pub judge_file : OneOutcome 𝓤 judge_file.ended (judge_file.clauses 𝓛 memory runs) (λ κs r e. r)
     pub part_of : OneOutcome 𝓤 part_of.ended (part_of.clauses 𝓛 memory runs) (λ κs r e. e.1.1.0.now)
     pub put_part : OneOutcome 𝓤 put_part.ended (put_part.clauses 𝓛 memory runs) (λ κs r e. e.1.1.0.now)
@@ -394,9 +415,11 @@ module _ {M : Type 1} {𝓤 : Ura M} (𝓛 : Logic 𝓤) (memory : Memory → SP
     pub of_registers : OfRegisters
     pub of_judge : OfJudge
     pub of_builders : OfBuilders
+    pub of_isolation : OfIsolation
     pub of_reach : OfReach
     pub of_spelling : OfSpelling
     pub of_lines : OfLines
+    pub of_text : OfText
     pub of_blocks : OfBlocks
     pub of_contents : OfContents
     pub of_pictures : OfPictures
