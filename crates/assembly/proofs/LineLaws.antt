@@ -1,15 +1,17 @@
 -- Laws of a line: by its first word; and of one that is an instruction, one for each outcome. Assumes nothing.
-use mathlib.Core.Path.{◌≡◌, sym, ap, ◌∙◌}
+use mathlib.Core.Path.{◌≡◌, refl, sym, ap, ◌∙◌}
 use mathlib.Core.Bool.{Bool, true, false, cond}
-use mathlib.Core.List.{List}
+use mathlib.Core.List.{List, [], ◌∷◌}
 use Prim.Native.Nat.{ℕ}
+use native.Mathlib.Omega.{arith}
 use borrow.Author.Tests.{eq-eqb, ne_eqb}
 use lib.Dec.{eqb}
+use lib.ListN.{length}
 use lib.Pointwise.{pointwise}
 use Rattle.assembly.proofs.WordLaws.{same-pointwise}
 use Rattle.bits.specs.Search.{index_of}
 use Rattle.judge.specs.Instructions.{instruction_at}
-use Rattle.text.specs.Make.{Made, made_answer, made_out}
+use Rattle.text.specs.Make.{Made, ended, closed, character, stepped, brought, emitted, ends, made_bytes, last_of, made_answer, made_out}
 use Rattle.assembly.specs.declared.Word.{Word}
 use Rattle.assembly.specs.Act.{Nothing, Refused, One}
 use Rattle.assembly.specs.Words.{part}
@@ -68,3 +70,9 @@ module _ (line : List ℕ) {r : Made} (e : r ≡ made_answer line 8) where
   instruction-one z u l q =
       ap (λ (x : List ℕ). One (instruction_at x 0)) q
       ∙ sym (simp (eq-eqb (made_answer line 8).number 0 (sym number-as ∙ z), ne_eqb (made_answer line 8).count 0 (λ k. u (count-as ∙ k))))
+
+-- one with no character makes nothing
+pub instruction-empty : (line : List ℕ) → length line ≡ 0 → Nothing ≡ instruction_line line
+unfolding instruction_line made_answer made_bytes last_of emitted ends stepped character closed ended brought
+instruction-empty [] e = refl
+instruction-empty (c ∷ cs) e = absurd (omega (arith, e))

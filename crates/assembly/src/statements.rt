@@ -325,6 +325,9 @@ fn reach_line(line: &[u8], at: usize) -> Result<Act, Fault>
 fn instruction_line(line: &[u8]) -> Result<Act, Fault>
     ensures { act_given result ≡ instruction_line line.now }
 {
+    if line.is_empty() {
+        return Ok(Act::Nothing);
+    }
     let mut one = [0u8; 8];
     match text::making::make(line, &mut one) {
         Ok(0) => Ok(Act::Nothing),

@@ -58,12 +58,10 @@ fn character(s: Reading, at: usize, c: u8) -> Reading
         b'\n' => closed(Phase::Head, ended(s.line, s.word), at, s.start),
         b';' => closed(Phase::Comment, ended(s.line, s.word), at, s.start),
         b' ' | b'\t' | b'\r' => reading(ended(s.line, s.word), 0, s.start, false),
-        _ => Reading {
-            word: extended(s.word, c),
-            start: if s.word == 0 { at } else { s.start },
-            ready: false,
-            ..s
-        },
+        _ => {
+            let start = if s.word == 0 { at } else { s.start };
+            reading(s.line, extended(s.word, c), start, false)
+        }
     }
 }
 
@@ -83,7 +81,7 @@ fn commented(s: Reading, at: usize, c: u8) -> Reading
             false,
         )
     } else {
-        Reading { ready: false, ..s }
+        reading(s.line, s.word, s.start, false)
     }
 }
 
@@ -95,7 +93,7 @@ fn step(s: Reading, at: usize, c: u8) -> Reading
     match sort(s.line.phase) {
         Sort::TooEarly | Sort::Nothing | Sort::Whole => character(s, at, c),
         Sort::Comment => commented(s, at, c),
-        Sort::Refused => Reading { ready: false, ..s },
+        Sort::Refused => reading(s.line, s.word, s.start, false),
     }
 }
 
