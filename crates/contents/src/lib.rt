@@ -14,6 +14,7 @@ ghost use Rattle.contents.specs.Kinds.{number_of_kind, KindOf};
 ghost use Rattle.contents.specs.Content.{over, content_read, content_written};
 ghost use Rattle.contents.specs.Payloads.{payload_at, payloads, laid};
 
+use bits::copies::copy;
 use bits::refusals::Refusal;
 use blocks::{BLOCK_BYTES, HEAD_BYTES, PAYLOAD_BYTES};
 
@@ -149,17 +150,6 @@ fn piece_in(i: usize, at: usize, end: usize) -> Piece
         in_file: BLOCK_BYTES * i + HEAD_BYTES + (from - first),
         in_part: from - at,
         bytes: end.min(first + PAYLOAD_BYTES) - from,
-    }
-}
-
-// All of one slice into another of the same length, byte by byte: `copy_from_slice` calls C's memmove, which takes 72 bytes of the stack that the header gives those who read and write (include/staran.h).
-#[inline(never)]
-fn copy(from: &[u8], to: &mut [u8])
-    requires { length from.now ≡ length to.old }
-    ensures { to.new ≡ from.now }
-{
-    for i in 0..from.len() {
-        to[i] = from[i];
     }
 }
 

@@ -7,6 +7,7 @@ ghost use Rattle.contents.specs.Moved.{moved_of};
 ghost use Rattle.pictures.specs.Conversion.{to_new, to_old};
 
 use super::{BLOCKS, FILE, modes_in};
+use bits::copies::copy;
 use bits::refusals::Refusal;
 use contents::{Kind, MODES_PICTURE_BYTES, PICTURE_BYTES, Refused};
 use registers::mode_bytes::{any_set, wrong_modes};
@@ -19,7 +20,7 @@ pub fn to_new(bytes: &[u8], out: &mut [u8]) -> Result<usize, Refused>
     if out.len() < FILE {
         return Err(Refusal::OutputTooShort.into());
     }
-    out[..FILE].copy_from_slice(bytes);
+    copy(bytes, &mut out[..FILE]);
     let unset = [0u8; 4];
     contents::put_part(&unset, PICTURE_BYTES, out);
     let kind = Kind::ModesPicture as usize;
@@ -42,7 +43,7 @@ pub fn to_old(bytes: &[u8], out: &mut [u8]) -> Result<usize, Refused>
     if out.len() < FILE {
         return Err(Refusal::OutputTooShort.into());
     }
-    out[..FILE].copy_from_slice(bytes);
+    copy(bytes, &mut out[..FILE]);
     contents::seal_all(Kind::Picture as usize, PICTURE_BYTES, BLOCKS, out);
     Ok(FILE)
 }

@@ -169,6 +169,7 @@ module _ {M : Type 1} {𝓤 : Ura M} (𝓛 : Logic 𝓤) (memory : Memory → SP
   of-bits =
       record {
         put_byte = record { told = _; tells = λ κs a g r e. fact_mono 𝓤 _ _ (put-told a.1.0 (a.1.1.0 ∷ []) a.0.now) };
+        copy = equation 𝓤 _ (λ κs a g r e. refl);
         item_of = equation 𝓤 _ (λ κs a g r e. refl);
         flip_quarters = equation 𝓤 _ (λ κs a g r e. refl);
         mix = λ T g d₁ c d₂ x d₃ a d₄. converted 𝓤 (λ κs r e. g.number r) g.value _ (λ κs r e. g.number_tells r) (λ κs a h r e. refl);

@@ -14,6 +14,7 @@ use denote.Triple.Clauses.{Ended, Clauses, AtExit}
 use Rattle.bits.specs.declared.refusals.Refusal.{Refusal}
 use Rattle.bits.specs.contracts.mixing.mix as mix
 use Rattle.bits.specs.contracts.buffers.put as put_byte
+use Rattle.bits.specs.contracts.copies.copy as copy
 use Rattle.bits.specs.contracts.copies.item_of as item_of
 use Rattle.bits.specs.contracts.flips.flip_quarters as flip_quarters
 use Rattle.bits.specs.contracts.lanes.spread_lane as spread_lane
@@ -262,6 +263,7 @@ module _ {M : Type 1} {𝓤 : Ura M} (𝓛 : Logic 𝓤) (memory : Memory → SP
   -- `bits`
   pub record OfBits : Type 2 where
     pub put_byte : OneOutcome 𝓤 put_byte.ended (put_byte.clauses 𝓛 memory runs) {O = ℕ × List ℕ} (λ κs r e. (r, e.0.now))
+    pub copy : OneOutcome 𝓤 copy.ended (copy.clauses 𝓛 memory runs) (λ κs r e. e.1.0.now)
     pub item_of : OneOutcome 𝓤 item_of.ended (item_of.clauses 𝓛 memory runs) (λ κs r e. r)
     pub flip_quarters : OneOutcome 𝓤 flip_quarters.ended (flip_quarters.clauses 𝓛 memory runs) (λ κs r e. r)
     -- of whatever type, since a number tells the value that it is of

@@ -25,8 +25,8 @@ loop-i-preserved c =
     let n = length a.part.now in
     let from : min n (496 * l.i - a.at) ≡ p.in_part = omega (arith, e.begins) in
     let to : min n (496 * (l.i + 1) - a.at) ≡ p.in_part + p.bytes = omega (arith, e.begins, e.ends) in
-    ap (λ (k : ℕ). take k (put_mid p.in_part (p.in_part + p.bytes - p.in_part) l.part c.copy.new.to)) to
-    ∙ part-read a.at p.in_part n p.in_file p.bytes e.stands (omega (arith, e.begins, e.ends)) a.bytes.now l.part c.copy.new.to
+    ap (λ (k : ℕ). take k (put_mid p.in_part (p.in_part + p.bytes - p.in_part) l.part c.copy.new.dst)) to
+    ∙ part-read a.at p.in_part n p.in_file p.bytes e.stands (omega (arith, e.begins, e.ends)) a.bytes.now l.part c.copy.new.dst
     (omega (arith, e.begins, e.stands, e.ends)) (omega (arith, e.begins, e.ends))
     (sym (ap (λ (k : ℕ). take k l.part) from) ∙ l.invariant ∙ ap (payloads a.bytes.now a.at) from) c.copy.ensures
     ∙ sym (ap (payloads a.bytes.now a.at) to)

@@ -25,6 +25,6 @@ loop-i-preserved c =
     let laid = written (λ j. payload_at (a.at + j)) (λ j o. get_or a.part.now j 0) a.out.now in
     let from : min n (496 * l.i - a.at) ≡ p.in_part = omega (arith, e.begins) in
     let to : min n (496 * (l.i + 1) - a.at) ≡ p.in_part + p.bytes = omega (arith, e.begins, e.ends) in
-    part-laid a.at p.in_part n p.in_file p.bytes e.stands (omega (arith, e.begins, e.ends)) a.part.now l.out a.out.now c.copy.new.to
+    part-laid a.at p.in_part n p.in_file p.bytes e.stands (omega (arith, e.begins, e.ends)) a.part.now l.out a.out.now c.copy.new.dst
     (omega (arith, e.begins, e.stands, e.ends)) (omega (arith, e.begins, e.ends)) (l.invariant ∙ ap laid from) c.copy.ensures
     ∙ sym (ap laid to)

@@ -35,11 +35,11 @@ returns-then-out-lt-FILE c =
     ∙ left-unmoved (refused 27 0) _ _ _
     (answered-first _ _ 27 (λ x. omega arith) (inl (lt-ltb _ _ c.if-out-lt-FILE.true, refl)) ∙ read-rows 1 c.args.bytes.now _ _ _ c.in_ok-judge_file.ensures refl) (λ x. omega arith)
 
-pub copy_from_slice-requires : goal.copy_from_slice-requires
-copy_from_slice-requires c =
+pub copy-requires : goal.copy-requires
+copy-requires c =
     let b = c.args.bytes.now in
     let s = file-stands 1 b (sym (ap (λ (x : Moved). x.number) c.in_ok-judge_file.ensures)) in
-    length-take-le 8704 c.args.out.now c.if-out-lt-FILE.false ∙ sym (picture-length 1 b refl s)
+    picture-length 1 b refl s ∙ sym (length-take-le 8704 c.args.out.now c.if-out-lt-FILE.false)
 
 pub returns : goal.returns
 unfolding to_new
@@ -52,4 +52,4 @@ returns c =
     _
     (c.seal_all.ensures
     ∙ new-sealed b out _ s
-    (c.put_part.ensures ∙ ap (laid (mode_bytes none_set) 8288) (copied-front b out _ (picture-length 1 b refl s) c.copy_from_slice.ensures.after))) refl
+    (c.put_part.ensures ∙ ap (laid (mode_bytes none_set) 8288) (copied-front b out _ (picture-length 1 b refl s) c.copy.ensures))) refl

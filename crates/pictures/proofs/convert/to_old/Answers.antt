@@ -61,11 +61,11 @@ returns-then-out-lt-FILE c =
     (inr (flags ∙ c.if-wrong_modes.false, inr (sets ∙ c.if-any_set.false, inl (lt-ltb _ _ c.if-out-lt-FILE.true, refl))))
     ∙ read-rows 4 c.args.bytes.now _ _ _ c.in_ok-judge_file.ensures refl) (λ x. omega arith)
 
-pub copy_from_slice-requires : goal.copy_from_slice-requires
-copy_from_slice-requires c =
+pub copy-requires : goal.copy-requires
+copy-requires c =
     let b = c.args.bytes.now in
     let s = file-stands 4 b (sym (ap (λ (x : Moved). x.number) c.in_ok-judge_file.ensures)) in
-    length-take-le 8704 c.args.out.now c.if-out-lt-FILE.false ∙ sym (picture-length 4 b refl s)
+    picture-length 4 b refl s ∙ sym (length-take-le 8704 c.args.out.now c.if-out-lt-FILE.false)
 
 pub returns : goal.returns
 unfolding to_old
@@ -79,4 +79,4 @@ returns c =
     left-changed (done 8704) _ _ _
     (answered-no-row rows _ (flags ∙ c.if-wrong_modes.false, (sets ∙ c.if-any_set.false, (le-ltb _ _ c.if-out-lt-FILE.false, tt)))
     ∙ read-rows 4 b _ _ _ c.in_ok-judge_file.ensures refl)
-    _ (c.seal_all.ensures ∙ old-sealed b out _ s (copied-front b out _ (picture-length 4 b refl s) c.copy_from_slice.ensures.after)) refl
+    _ (c.seal_all.ensures ∙ old-sealed b out _ s (copied-front b out _ (picture-length 4 b refl s) c.copy.ensures)) refl
