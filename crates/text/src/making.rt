@@ -38,15 +38,18 @@ fn ended(l: Line, w: u64) -> Line
 fn closed(next: Phase, l: Line, at: usize, start: usize) -> Reading
     ensures { result ≡ closed next l at start }
 {
-    match sort(l.phase) {
-        Sort::Nothing => reading(Line { phase: next, ..l }, 0, at, false),
-        Sort::Whole => reading(Line { phase: next, ..l }, 0, at, true),
-        Sort::Refused => reading(l, 0, start, false),
-        Sort::TooEarly | Sort::Comment => {
-            let phase = Phase::Refused(Refusal::TextTooEarly.number());
-            reading(Line { phase, ..l }, 0, at, false)
-        }
+    let found = sort(l.phase);
+    if matches!(found, Sort::Nothing) {
+        return reading(Line { phase: next, ..l }, 0, at, false);
     }
+    if matches!(found, Sort::Whole) {
+        return reading(Line { phase: next, ..l }, 0, at, true);
+    }
+    if matches!(found, Sort::Refused) {
+        return reading(l, 0, start, false);
+    }
+    let phase = Phase::Refused(Refusal::TextTooEarly.number());
+    reading(Line { phase, ..l }, 0, at, false)
 }
 
 // A character in a line that is neither refused nor in its comment.
@@ -54,15 +57,17 @@ fn closed(next: Phase, l: Line, at: usize, start: usize) -> Reading
 fn character(s: Reading, at: usize, c: u8) -> Reading
     ensures { result ≡ character s at c }
 {
-    match c {
-        b'\n' => closed(Phase::Head, ended(s.line, s.word), at, s.start),
-        b';' => closed(Phase::Comment, ended(s.line, s.word), at, s.start),
-        b' ' | b'\t' | b'\r' => reading(ended(s.line, s.word), 0, s.start, false),
-        _ => {
-            let start = if s.word == 0 { at } else { s.start };
-            reading(s.line, extended(s.word, c), start, false)
-        }
+    if c == b'\n' {
+        return closed(Phase::Head, ended(s.line, s.word), at, s.start);
     }
+    if c == b';' {
+        return closed(Phase::Comment, ended(s.line, s.word), at, s.start);
+    }
+    if matches!(c, b' ' | b'\t' | b'\r') {
+        return reading(ended(s.line, s.word), 0, s.start, false);
+    }
+    let start = if s.word == 0 { at } else { s.start };
+    reading(s.line, extended(s.word, c), start, false)
 }
 
 // A character of a comment.
@@ -71,7 +76,7 @@ fn commented(s: Reading, at: usize, c: u8) -> Reading
     ensures { result ≡ commented s at c }
 {
     if c == b'\n' {
-        reading(
+        return reading(
             Line {
                 phase: Phase::Head,
                 ..s.line
@@ -79,10 +84,9 @@ fn commented(s: Reading, at: usize, c: u8) -> Reading
             0,
             at,
             false,
-        )
-    } else {
-        reading(s.line, s.word, s.start, false)
+        );
     }
+    reading(s.line, s.word, s.start, false)
 }
 
 // The character `c` at place `at`.
@@ -90,11 +94,14 @@ fn commented(s: Reading, at: usize, c: u8) -> Reading
 fn step(s: Reading, at: usize, c: u8) -> Reading
     ensures { result ≡ stepped s at c }
 {
-    match sort(s.line.phase) {
-        Sort::TooEarly | Sort::Nothing | Sort::Whole => character(s, at, c),
-        Sort::Comment => commented(s, at, c),
-        Sort::Refused => reading(s.line, s.word, s.start, false),
+    let found = sort(s.line.phase);
+    if matches!(found, Sort::Comment) {
+        return commented(s, at, c);
     }
+    if matches!(found, Sort::Refused) {
+        return reading(s.line, s.word, s.start, false);
+    }
+    character(s, at, c)
 }
 
 // Before the first character.
