@@ -128,11 +128,12 @@ fn seal_block(block: &mut [u8; 512]) {
     two(block, 510, s2);
 }
 
-// The file's block of this number sealed, where it has one.
+// The file's block of this number sealed, where it has one among its first hundred.
 pub(crate) fn seal(file: &mut [u8], number: usize) {
     let (blocks, _) = file.as_chunks_mut::<512>();
-    if let Some(block) = blocks.get_mut(number) {
-        seal_block(block);
+    match blocks.get_mut(number) {
+        Some(block) if number < 100 => seal_block(block),
+        _ => {}
     }
 }
 

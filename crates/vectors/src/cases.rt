@@ -17,19 +17,23 @@ const LIST: usize = 2;
 const FILE: usize = 5;
 
 // The patch at `at` of the record, if it is for the buffer of number `which`: its bytes go into the buffer; target 255 seals a block of the file;
-// targets 254 and 253 repeat the front of the memory and of the file. Answers where the patch behind it starts. Nothing is a patch from byte 1,000 on.
+// targets 254 and 253 repeat the front of the memory and of the file. Answers where the patch behind it starts.
+// Nothing is a patch from byte 1,000 on, and the byte before is read as 0 for a target. Of a patch that goes past the record's end the bytes that stand in the record are put.
 // A place in and a place out: a patch says its own length, so that only reading it says where the next is.
 fn one_patch(record: &[u8], at: usize, which: usize, buffer: &mut [u8]) -> usize {
     if 1000 <= at {
         return at;
     }
-    let target = usize::from(byte(record, at));
+    let target = half(record, at) % 256;
     let to = half(record, at + 1);
     let end = at + 4 + usize::from(byte(record, at + 3));
     match (target, which) {
         (255, FILE) => seal(buffer, to),
         (254, MEMORY) | (253, FILE) => repeat(buffer, to),
-        _ if target == which => patch(buffer, to, record.get(at + 4..end).unwrap_or(&[])),
+        _ if target == which => {
+            let bytes = record.get(at + 4..end.min(record.len())).unwrap_or(&[]);
+            patch(buffer, to, bytes);
+        }
         _ => {}
     }
     end
@@ -82,7 +86,7 @@ fn filled(record: &[u8], which: usize, x: u32, buffer: &mut [u8]) -> u32
 // All buffers made, in the order in which they draw from the generator.
 // A slice with its length, here and below: `main` has the one array, and a type for it says no more.
 fn prepare(record: &[u8], room: &mut [u8])
-    requires { length room.old ≡ 131072 }
+    requires { length room.old ≡ 240272 }
 {
     let mut x = word(record, 4);
     for k in 0..buffers_of(record) {
@@ -111,7 +115,7 @@ fn left_out(which: usize, unfixed: Unfixed) -> usize {
 
 // The digests of all buffers written out.
 fn write_digests(output: &mut impl Write, record: &[u8], room: &[u8], unfixed: Unfixed)
-    requires { length room.now ≡ 131072 }
+    requires { length room.now ≡ 240272 }
 {
     let count = buffers_of(record);
     for k in 0..count {
@@ -124,7 +128,7 @@ fn write_digests(output: &mut impl Write, record: &[u8], room: &[u8], unfixed: U
 
 // One case: its answer, and the digests of what it leaves.
 pub(crate) fn run_case(output: &mut impl Write, record: &[u8], room: &mut [u8])
-    requires { length room.old ≡ 131072 }
+    requires { length room.old ≡ 240272 }
 {
     prepare(record, room);
     let answer = call(record, room);

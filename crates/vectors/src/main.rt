@@ -10,7 +10,7 @@ mod rooms;
 
 // Every case of the input, one after the other, and at most a million.
 fn main(rt: HostRuntime) {
-    let mut room = [0u8; rooms::ROOM];
+    let mut room = [0u8; rooms::WHOLE];
     let mut input = rt.stdin();
     let mut output = rt.stdout();
     for _ in 0..1000000 {

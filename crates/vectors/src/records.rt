@@ -113,8 +113,10 @@ pub(crate) fn patches_at(record: &[u8]) -> usize
     9 + 3 * buffers_of(record) + 4 * usize::from(byte(record, 3))
 }
 
-// A number of an answer written out in hex digits, and behind it a line feed if it is the last, else a space.
+// A number of an answer written out in hex digits, and behind it a line feed if it is the last, else a space. All in one write.
 pub(crate) fn write_word(output: &mut impl Write, x: u32, last: bool) {
     let behind = if last { '\n' } else { ' ' };
-    let _ = write!(output, "{x:08x}{behind}");
+    let mut text = [0u8; 9];
+    let _ = write!(&mut text[..], "{x:08x}{behind}");
+    let _ = output.write_all(&text);
 }
