@@ -18,13 +18,13 @@ const FILE: usize = 5;
 
 // The patch at `at` of the record, if it is for the buffer of number `which`: its bytes go into the buffer; target 255 seals a block of the file;
 // targets 254 and 253 repeat the front of the memory and of the file. Answers where the patch behind it starts.
-// Nothing is a patch from byte 999 on, and of one that goes past the record's end the bytes that stand in the record are put.
+// Nothing is a patch from byte 1,000 on, and the byte before is read as 0 for a target. Of a patch that goes past the record's end the bytes that stand in the record are put.
 // A place in and a place out: a patch says its own length, so that only reading it says where the next is.
 fn one_patch(record: &[u8], at: usize, which: usize, buffer: &mut [u8]) -> usize {
-    if 999 <= at {
+    if 1000 <= at {
         return at;
     }
-    let target = usize::from(byte(record, at));
+    let target = half(record, at) % 256;
     let to = half(record, at + 1);
     let end = at + 4 + usize::from(byte(record, at + 3));
     match (target, which) {

@@ -7,10 +7,10 @@ use super::records::length_of;
 pub(crate) const ROOM: usize = 131072;
 
 // How many bytes stand behind it: as many as the longest of buffers 2 to 5 have together. The two before them always have room.
-const OUTSIDE: usize = 109200;
+const SPARE: usize = 109200;
 
 // Both.
-pub(crate) const WHOLE: usize = ROOM + OUTSIDE;
+pub(crate) const WHOLE: usize = ROOM + SPARE;
 
 // The six buffers of a case: each is lent just the bytes that it has, and at most the longest that the protocol gives it.
 #[derive(Drop)]
@@ -52,7 +52,7 @@ fn cut<'a>(
     let length = length_of(record, k);
     let lent = length.min(most);
     let all = left.len();
-    let inside = length.min(all.saturating_sub(OUTSIDE));
+    let inside = length.min(all.saturating_sub(SPARE));
     let (whole, behind) = left.split_at_mut(inside.max(lent).min(all));
     let here = whole.len();
     let (buffer, _) = whole.split_at_mut(lent.min(here));
