@@ -5,7 +5,7 @@ use Prim.Native.Nat.{ℕ, ◌+◌, ◌-◌, ◌*◌, ◌/◌, ◌%◌, ◌^◌, 
 use native.Mathlib.Nat.{mod-eq_of_lt}
 use native.Mathlib.Decide.{ℕ_discrete}
 use native.Mathlib.Omega.{arith}
-use lib.Bits.{bit_and, bit_or, bit_xor, and_zero_r, or_zero_l, and_mask, and_comm, xor_comm, xor_lt}
+use lib.Bits.{bit_and, bit_xor, and_mask, and_comm, xor_comm, xor_lt}
 use lib.ListN.{length, get_or, take, drop, length-drop, get_or-append}
 use lib.Seq.{length-take-le, get_or-take, get_or-drop, ext_get_or}
 use borrow.Rule.Slice.PartMut.{put_mid}
@@ -15,12 +15,12 @@ use Rattle.bits.proofs.Binary.{Bit, digit-bit}
 use Rattle.bits.proofs.Digits.{digits_of-lt, digits_of-at}
 use Rattle.bits.proofs.Items.{length-listed, get_d-listed, listed-ext, listed-bytes, part-more, bit_of-bit, byte_of-lt, bit_of-pack, byte_of-is, pack-ext, pack-is}
 use Rattle.bits.proofs.Puts.{put-at, put-off}
-use Rattle.bits.proofs.Writes.{length-written, written-ext, written_at, written-off, written-bytes}
+use Rattle.bits.proofs.Writes.{length-written, then-written, written_at, written-off, written-bytes}
 use Rattle.bits.proofs.Xor.{xor-twice, xor-cancel}
 use Rattle.memory.specs.Table.{table}
 use Rattle.memory.specs.Memory.{cell}
 use Rattle.words.specs.Plain.{plain_bit, plain_words, scrambled_bit, scrambled}
-use Rattle.memory.specs.Groups.{spot, line_digit, renewed}
+use Rattle.memory.specs.Groups.{spot, line_digit}
 use Rattle.words.specs.Turned.{turned_byte, turned}
 use Rattle.memory.proofs.GroupLaws.{chip-group, cell-byte, place-word}
 
@@ -188,18 +188,22 @@ eight-out mem bytes v hv e =
 
 -- ---- eight words in
 
--- what is written into the chips at that byte, where nothing of it is kept
-pub none_kept : (mem keep bytes : List ℕ) (v : ℕ) → v < 32 → ((k : ℕ) → k < 256 → get_or keep k 0 ≡ 0)
-    → written (λ k. spot 255 (8 * v) (k / 8) (k % 8)) (λ k o. renewed o (get_or keep (32 * (k % 8) + k / 8 % 1) 0) (get_or bytes (32 * (k % 8) + k / 8) 0)) mem 256
-    ≡ written (λ n. 32 * (8 * bit_xor v (n / 8) + n % 8) + n / 8) (λ n o. get_or bytes (32 * (n % 8) + n / 8) 0) mem 256
-none_kept mem keep bytes v hv none =
-    written-ext mem (λ k. spot 255 (8 * v) (k / 8) (k % 8)) (λ k o. renewed o (get_or keep (32 * (k % 8) + k / 8 % 1) 0) (get_or bytes (32 * (k % 8) + k / 8) 0))
-    (λ n. 32 * (8 * bit_xor v (n / 8) + n % 8) + n / 8) (λ n o. get_or bytes (32 * (n % 8) + n / 8) 0) 256
-    (λ k h. spot-word v (k / 8) (k % 8) hv (omega arith))
-    (λ k o h.
-    ap (λ (x : ℕ). renewed o x (get_or bytes (32 * (k % 8) + k / 8) 0)) (none (32 * (k % 8) + k / 8 % 1) (omega arith))
-    ∙ ap (λ (x : ℕ). bit_or x (get_or bytes (32 * (k % 8) + k / 8) 0)) (and_zero_r o)
-    ∙ or_zero_l (get_or bytes (32 * (k % 8) + k / 8) 0))
+-- one byte of eight chips more
+pub put_more : (mem bytes : List ℕ) (v i k : ℕ) (w w' : List ℕ) → i + 1 ≡ k
+    → w' ≡ written (λ t. 32 * (8 * bit_xor v i + t) + i) (λ t o. get_or bytes (32 * t + i) 0) w 8
+    → w ≡ written (λ n. 32 * (8 * bit_xor v (n / 8) + n % 8) + n / 8) (λ n o. get_or bytes (32 * (n % 8) + n / 8) 0) mem (8 * i)
+    → w' ≡ written (λ n. 32 * (8 * bit_xor v (n / 8) + n % 8) + n / 8) (λ n o. get_or bytes (32 * (n % 8) + n / 8) 0) mem (8 * k)
+put_more mem bytes v i k w w' e r before =
+    then-written (λ n. 32 * (8 * bit_xor v (n / 8) + n % 8) + n / 8) (λ n o. get_or bytes (32 * (n % 8) + n / 8) 0) mem
+    (λ t. 32 * (8 * bit_xor v i + t) + i) (λ t o. get_or bytes (32 * t + i) 0) w w' (8 * i) 8 (8 * k) r before (omega arith)
+    (λ t h.
+    let hi : (8 * i + t) / 8 ≡ i = omega arith in
+    let lo : (8 * i + t) % 8 ≡ t = omega arith in
+    sym (ap₂ (λ (x y : ℕ). 32 * (8 * bit_xor v x + y) + x) hi lo))
+    (λ t o h.
+    let hi : (8 * i + t) / 8 ≡ i = omega arith in
+    let lo : (8 * i + t) % 8 ≡ t = omega arith in
+    sym (ap₂ (λ (x y : ℕ). get_or bytes (32 * y + x) 0) hi lo))
 
 module _ (mem words : List ℕ) (v : ℕ) (size : length mem ≡ 8192) (bytes : (i : ℕ) → get_or mem i 0 < 256) (hv : v < 32) (eight : length words ≡ 256) where
   place : ℕ → ℕ

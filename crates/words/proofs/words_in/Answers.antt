@@ -10,4 +10,4 @@ returns c =
     let a = c.args in
     let t = c.turned in
     c.put_all.ensures
-    ∙ eight-in a.mem.now a.words.now a.v (search rules) (λ i. search rules) (omega arith) (search rules) t.result t.ensures
+    ∙ eight-in a.mem.now a.words.now a.v (search rules) (λ i. search rules) (omega arith) (search rules) t.new.out t.ensures
