@@ -319,7 +319,7 @@ fn reach_line(line: &[u8], at: usize) -> Result<Act, Fault>
     Ok(Act::Limit(count))
 }
 
-// A line that is an instruction, or empty: made by itself.
+// A line that is an instruction, or empty: made by itself. One without a character is told at once: a call of `make` for it costs more than all else of the line.
 #[tactic(auto, unfolding(crate::specs::Statements::instruction_line))]
 #[inline(never)]
 fn instruction_line(line: &[u8]) -> Result<Act, Fault>

@@ -34,6 +34,7 @@ fn ended(l: Line, w: u64) -> Line
 }
 
 // The line ends at place `at`, and what follows is a new line or a comment.
+// Ifs that return, here and in the next three, and each record built whole: by a `match`, or by `..s`, it is put together in a place of its own and copied in pieces, and a text takes half as long again to twice as long to make (docs/PERFORMANCE.md).
 #[tactic(auto, unfolding(crate::specs::Make::closed))]
 fn closed(next: Phase, l: Line, at: usize, start: usize) -> Reading
     ensures { result ≡ closed next l at start }
